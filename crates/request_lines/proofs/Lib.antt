@@ -1,0 +1,5 @@
+pub mod Cut
+pub mod Known
+pub mod LinesLemmas
+pub mod Pieces
+pub mod Progress

@@ -1,0 +1,5 @@
+pub mod Bytes
+pub mod Causes
+pub mod Lines
+pub mod Readings
+pub mod Run
