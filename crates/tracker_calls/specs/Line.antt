@@ -1,0 +1,88 @@
+-- What a line asks for.
+use Rattle.std.specs.Prelude.{◌≡◌, ℕ, nat_le, List, [], ◌∷◌, codes, Result, Ok, Err, Option, Some, None, option_and_then, ⊤, if◌then◌else◌, Bool, false, not, find, ◌||◌}
+use Rattle.std.specs.Str.{is_utf8, bytes_eq}
+use Rattle.serde_json.specs.Data.{Data, Members, member, no_members}
+use Rattle.serde_json.specs.Find.{get, as_str, as_number, as_u64, as_object}
+use Rattle.serde_json.specs.Read.{read}
+use Rattle.tracker_calls.specs.declared.call.Call.{Call}
+use Rattle.tracker_calls.specs.declared.call.Call.TheVariants.{Tick}
+use Rattle.tracker_calls.specs.declared.call.CallKind.{CallKind}
+use Rattle.tracker_calls.specs.declared.call.CallKind.TheVariants as kind
+use Rattle.tracker_calls.specs.declared.reply.Refusal.{Refusal}
+use Rattle.tracker_calls.specs.declared.reply.Refusal.TheVariants.{Form, Memory}
+
+-- want of memory may be answered in place of anything else
+abbrev pub ErrUnlessMemory : {T : Type 0} → Refusal → Result T Refusal → Type 0
+ErrUnlessMemory Memory expected = ⊤
+ErrUnlessMemory r expected = Err r ≡ expected
+
+abbrev pub UnlessMemory : {T : Type 0} → Result T Refusal → Result T Refusal → Type 0
+UnlessMemory (Ok x) expected = Ok x ≡ expected
+UnlessMemory (Err r) expected = ErrUnlessMemory r expected
+
+-- without this member there is no call
+abbrev pub need : {A B : Type 0} → Option A → List ℕ → (A → Result B Refusal) → Result B Refusal
+need None name next = Err (Form name)
+need (Some x) name next = next x
+
+-- the names of an object's members, which stand in byte order
+abbrev pub names_of : Members → List (List ℕ)
+names_of no_members = []
+names_of (member name d more) = name ∷ names_of more
+
+-- no other member stands there
+abbrev pub no_other : {B : Type 0} → Option (List ℕ) → Result B Refusal → Result B Refusal
+no_other None next = next
+no_other (Some name) next = Err (Form name)
+
+abbrev pub text_at : List ℕ → Data → Option (List ℕ)
+text_at name d = option_and_then as_str (get name d)
+
+-- a moment of the years 1970 to 2099
+abbrev pub moment_of : ℕ → Option ℕ
+moment_of n = if nat_le n 4102444799 then Some n else None
+
+abbrev pub moment_at : List ℕ → Data → Option ℕ
+moment_at name d = option_and_then moment_of (option_and_then as_u64 (option_and_then as_number (get name d)))
+
+abbrev pub is_among : List ℕ → List (List ℕ) → Bool
+is_among name [] = false
+is_among name (other ∷ more) = bytes_eq name other || is_among name more
+
+-- ---- the calls and their members
+
+abbrev pub kind_named : List ℕ → Option CallKind
+kind_named name = if bytes_eq name (codes "tick") then Some kind.Tick else None
+
+abbrev pub is_member : CallKind → List ℕ → Bool
+is_member kind.Tick name = is_among name (codes "call" ∷ codes "to" ∷ codes "user" ∷ [])
+
+-- the first name in byte order that is no member of the call
+abbrev pub first_other : CallKind → List (List ℕ) → Option (List ℕ)
+first_other kind names = find (λ name. not (is_member kind name)) names
+
+-- who asks for which call
+abbrev pub Asked : Type 0
+Asked = Result (List ℕ × Call) Refusal
+
+abbrev pub tick_of : Data → Members → List ℕ → Asked
+tick_of d members user =
+    need (moment_at (codes "to") d) (codes "to") (λ to.
+    no_other (first_other kind.Tick (names_of members)) (Ok (user, Tick to)))
+
+abbrev pub asked_by : CallKind → Data → Members → List ℕ → Asked
+asked_by kind.Tick d members user = tick_of d members user
+
+-- the user and the call, or the first fault in the order of the members
+abbrev pub call_of : Data → Asked
+call_of d =
+    need (as_object d) (codes "line") (λ members.
+    need (text_at (codes "user") d) (codes "user") (λ user.
+    need (option_and_then kind_named (text_at (codes "call") d)) (codes "call") (λ kind. asked_by kind d members user)))
+
+-- the JSON of a line
+abbrev pub data_of : List ℕ → Option Data
+data_of bytes = if is_utf8 bytes then read bytes else None
+
+unfoldable pub line_of : List ℕ → Asked
+line_of bytes = need (data_of bytes) (codes "line") call_of

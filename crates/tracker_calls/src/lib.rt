@@ -1,0 +1,18 @@
+//! The lines that come in and the replies that go out: what a line of JSON asks for, and the exact
+//! text of each reply.
+#![tactic(auto)]
+
+mod call;
+mod line;
+mod reply;
+mod reply_json;
+mod user_name;
+
+pub use call::{Call, CallKind};
+pub use line::read_line;
+pub use reply::{Answer, Refusal, Reply, Thing};
+pub use reply_json::{KEEPER_TEXT, MEMORY_TEXT, reply_text};
+pub use request_lines::{
+    Clock, Failed, ListClock, MemorySink, MemorySource, Sink, Source, write_all,
+};
+pub use user_name::UserName;

@@ -1,0 +1,43 @@
+ghost use Rattle.std.specs.Prelude.{◌≡◌, IfOk};
+
+use fields::{Memory, Text};
+use std::alloc::Global;
+use std::marker::Model;
+
+/// The name of who makes a call, as the line gives it. Contracts see it as its bytes.
+#[derive(Debug, Drop)]
+pub struct UserName {
+    name: Text,
+}
+
+impl Model for UserName {
+    ghost use Rattle.std.specs.Prelude.{List, ℕ};
+
+    ghost Value = { List ℕ };
+
+    ghost view = { λ u. u.name };
+}
+
+impl UserName {
+    /// That name.
+    pub fn copy_of(alloc: Global, name: &str) -> Result<Self, Memory>
+        ensures { IfOk result (λ user. user ≡ name.now) }
+    {
+        let name = Text::copy_of(alloc, name)?;
+        Ok(UserName { name })
+    }
+
+    /// The name, lent.
+    pub fn as_str(&self) -> &str
+        ensures { result.now ≡ self.now }
+    {
+        self.name.as_str()
+    }
+
+    /// Another of the same name.
+    pub fn copy(&self, alloc: Global) -> Result<Self, Memory>
+        ensures { IfOk result (λ user. user ≡ self.now) }
+    {
+        UserName::copy_of(alloc, self.as_str())
+    }
+}
