@@ -1,0 +1,10 @@
+-- The refusal of a name.
+use Rattle.std.specs.Prelude.{◌≡◌, ◌⊎◌, ℕ, List}
+use Rattle.tracker_calls.specs.declared.reply.Reply.{Reply}
+use Rattle.tracker_calls.specs.declared.reply.Reply.TheVariants as reply
+use Rattle.tracker_calls.specs.declared.reply.Refusal.TheVariants as refusal
+use Rattle.tracker_calls.specs.declared.reply.Thing.{Thing}
+
+-- nothing of that kind has the name, or there was not enough memory to say so
+abbrev pub IsUnknown : Thing → List ℕ → Reply → Type 0
+IsUnknown kind name r = (r ≡ reply.Refused (refusal.Unknown kind name)) ⊎ (r ≡ reply.Refused refusal.Memory)

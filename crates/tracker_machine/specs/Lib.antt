@@ -1,0 +1,5 @@
+pub mod Answer
+pub mod Machine
+pub mod Refusal
+pub mod Run
+pub mod Step

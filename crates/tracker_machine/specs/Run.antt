@@ -1,0 +1,95 @@
+-- The abstract tracker over a whole input.
+use Rattle.std.specs.Prelude.{◌≡◌, ◌==◌, ◌||◌, ◌⊎◌, ℕ, List, [], ◌∷◌, ◌++◌, Bool, not, filter, map, Result, Ok, Err}
+use Rattle.std.specs.Bool.{MatchBool}
+use Rattle.std.specs.List.{list_all}
+use Rattle.tracker_calls.specs.declared.call.Call.{Call}
+use Rattle.tracker_calls.specs.declared.reply.Reply.{Reply}
+use Rattle.tracker_calls.specs.declared.reply.Reply.TheVariants as reply
+use Rattle.tracker_calls.specs.declared.reply.Refusal.{Refusal}
+use Rattle.tracker_calls.specs.declared.reply.Refusal.TheVariants as refusal
+use Rattle.tracker_calls.specs.Line.{line_of}
+use Rattle.tracker_calls.specs.Reply.{reply_text}
+use Rattle.tracker_machine.specs.Machine.{Machine}
+use Rattle.tracker_machine.specs.Step.{reply_of, next_of}
+
+-- a line of spaces, tabs and carriage returns asks for nothing
+abbrev pub is_blank_byte : ℕ → Bool
+is_blank_byte byte = (byte == 32) || ((byte == 9) || (byte == 13))
+
+abbrev pub is_blank : List ℕ → Bool
+is_blank line = list_all is_blank_byte line
+
+abbrev pub requests : List (List ℕ) → List (List ℕ)
+requests all = filter (λ line. not (is_blank line)) all
+
+-- a marked line was answered want of memory
+pub data Mark : Type 0 where
+  plain : Mark
+  memory : Mark
+
+pub record Marked : Type 0 where
+  pub line : List ℕ
+  pub mark : Mark
+
+abbrev pub asked_reply : Machine → Result (List ℕ × Call) Refusal → Reply
+asked_reply m (Ok asked) = reply_of m asked.0 asked.1
+asked_reply m (Err r) = reply.Refused r
+
+abbrev pub asked_next : Machine → Result (List ℕ × Call) Refusal → Machine
+asked_next m (Ok asked) = next_of m asked.0 asked.1
+asked_next m (Err r) = m
+
+-- the reply to a line, and the state after it: a marked line leaves the state
+abbrev pub marked_reply : Machine → List ℕ → Mark → Reply
+marked_reply m line plain = asked_reply m (line_of line)
+marked_reply m line memory = reply.Refused refusal.Memory
+
+abbrev pub marked_next : Machine → List ℕ → Mark → Machine
+marked_next m line plain = asked_next m (line_of line)
+marked_next m line memory = m
+
+-- a reply's text with its line feed
+abbrev pub reply_line : Reply → List ℕ
+reply_line r = reply_text r ++ 10 ∷ []
+
+abbrev pub text_of_run : Machine → List Marked → List ℕ
+text_of_run m [] = []
+text_of_run m (x ∷ xs) = reply_line (marked_reply m x.line x.mark) ++ text_of_run (marked_next m x.line x.mark) xs
+
+abbrev pub end_of_run : Machine → List Marked → Machine
+end_of_run m [] = m
+end_of_run m (x ∷ xs) = end_of_run (marked_next m x.line x.mark) xs
+
+-- these lines are answered by this text, and lead to this state, under some marks
+pub record IsRun (old : Machine) (lines : List (List ℕ)) (text : List ℕ) (new : Machine) : Type 0 where
+  pub marked : List Marked
+  pub lines_are : map (λ x. x.line) marked ≡ lines
+  pub text_is : text ≡ text_of_run old marked
+  pub new_is : new ≡ end_of_run old marked
+
+-- one line of the input: a blank one is passed over, any other has its reply's line
+pub record HasReply (old : Machine) (line text : List ℕ) (new : Machine) : Type 0 where
+  pub mark : Mark
+  pub text_is : text ≡ reply_line (marked_reply old line mark)
+  pub new_is : new ≡ marked_next old line mark
+
+abbrev pub AnswersLine : Machine → List ℕ → List ℕ → Machine → Type 0
+AnswersLine old line text new = MatchBool (is_blank line) ((text ≡ []) × (new ≡ old)) (HasReply old line text new)
+
+-- this is a front of the reply's line to the next of these lines, or nothing
+abbrev pub IsFrontOfReply : Machine → List (List ℕ) → List ℕ → Type 0
+IsFrontOfReply m rest front =
+    (front ≡ [])
+    ⊎ ((line : List ℕ) × (more : List (List ℕ)) × (mark : Mark) × (back : List ℕ) × (rest ≡ line ∷ more) × (reply_line (marked_reply m line mark) ≡ front ++ back))
+
+-- the replies to the first of these lines, and then at most a front of the next one's
+pub record IsCutRun (old : Machine) (all : List (List ℕ)) (text : List ℕ) : Type 0 where
+  pub done : List (List ℕ)
+  pub rest : List (List ℕ)
+  pub all_is : all ≡ done ++ rest
+  pub whole : List ℕ
+  pub middle : Machine
+  pub run : IsRun old (requests done) whole middle
+  pub front : List ℕ
+  pub next : IsFrontOfReply middle rest front
+  pub text_is : text ≡ whole ++ front
