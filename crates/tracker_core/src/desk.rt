@@ -41,12 +41,7 @@ impl Desk {
     /// answered, or it is refused for the first cause that there is, or there was not enough memory; after
     /// a refusal all is as before.
     #[tactic(auto, unfolding(tracker_machine::specs::Step::IsStep, tracker_machine::specs::Step::changed, tracker_machine::specs::Refusal::first_refusal, tracker_machine::specs::Answer::answer_of))]
-    pub fn call<L: Ledger>(
-        &mut self,
-        caller: &UserName,
-        call: &Call,
-        steps: &mut Steps<L>,
-    ) -> Reply
+    pub fn call<L: Ledger>(&mut self, caller: &UserName, call: &Call, steps: &mut Steps<L>) -> Reply
         ensures step { IsStep self.old caller.now call.now result self.new }
         ensures steps { steps.new ≡ steps.old }
     {

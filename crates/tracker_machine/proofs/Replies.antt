@@ -1,7 +1,11 @@
 -- A line's reply, by what was answered.
-use Rattle.std.proofs.Common.{◌≡◌, ℕ, List, Ok, Err, Some, None, refl, sym, ap, ◌∙◌}
+use Rattle.std.proofs.Common.{subst, codes, [], ◌∷◌, ◌++◌, true, false, ◌≡◌, ℕ, List, Ok, Err, Some, None, refl, sym, ap, ◌∙◌}
 use Rattle.std.specs.Prelude.{Option}
+use Rattle.std.specs.Bool.{MatchBool}
+use Rattle.std.specs.Fmt.{digits}
+use Rattle.serde_json.proofs.OnLiterals.{serde_json_on_literals}
 use Rattle.tracker_calls.specs.Line.{line_of}
+use Rattle.tracker_calls.specs.Reply.{reply_text}
 use Rattle.tracker_calls.specs.declared.call.Call.{Call}
 use Rattle.tracker_calls.specs.declared.reply.Reply.{Reply}
 use Rattle.tracker_calls.specs.declared.reply.Reply.TheVariants as reply
@@ -12,13 +16,7 @@ use Rattle.tracker_machine.specs.Machine.{Machine}
 use Rattle.tracker_machine.specs.Refusal.{first_refusal}
 use Rattle.tracker_machine.specs.Answer.{answer_of}
 use Rattle.tracker_machine.specs.Step.{changed, refused_or, same_or, reply_of, next_of, Performs, IsRefused, IsStep}
-use Rattle.tracker_machine.specs.Run.{Mark, plain, memory, asked_reply, asked_next, marked_reply, marked_next, reply_line, HasReply}
-
--- the reply and the state after it, under some mark
-pub record RepliesTo (old : Machine) (line : List ℕ) (reply : Reply) (new : Machine) : Type 0 where
-  pub mark : Mark
-  pub reply_is : reply ≡ marked_reply old line mark
-  pub new_is : new ≡ marked_next old line mark
+use Rattle.tracker_machine.specs.Run.{Mark, plain, memory, asked_reply, asked_next, marked_reply, marked_next, reply_line, is_blank, RepliesTo, HasReply, AnswersLine}
 
 plainly : (old new : Machine) (line user : List ℕ) (c : Call) (r : Reply) → line_of line ≡ Ok (user, c) → r ≡ reply_of old user c → new ≡ next_of old user c → RepliesTo old line r new
 plainly old new line user c r asked is next = record {
@@ -66,3 +64,13 @@ RepliesTo-memory old line = record { mark = memory; reply_is = refl; new_is = re
 
 pub HasReply-text : (old new : Machine) (line text : List ℕ) (r : Reply) → RepliesTo old line r new → text ≡ reply_line r → HasReply old line text new
 HasReply-text old new line text r replies is = record { mark = replies.mark; text_is = is ∙ ap reply_line replies.reply_is; new_is = replies.new_is }
+
+-- a line that isn't blank has its reply's line
+pub AnswersLine-reply : (old new : Machine) (line text : List ℕ) (r : Reply) → is_blank line ≡ false → RepliesTo old line r new → text ≡ reply_line r → AnswersLine old line text new
+AnswersLine-reply old new line text r some replies is =
+    subst (λ b. MatchBool b ((text ≡ []) × (new ≡ old)) (HasReply old line text new)) (sym some) (HasReply-text old new line text r replies is)
+
+-- the refusal for want of memory has its constant text
+pub memory_text : reply_text (reply.Refused refusal.Memory) ≡ codes "{\"refused\":{\"no\":15}}"
+unfolding digits serde_json_on_literals reply_text
+memory_text = refl

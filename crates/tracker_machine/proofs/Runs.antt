@@ -30,7 +30,7 @@ pub run_of_lines : (old new : Machine) (all : List (List ℕ)) (text : List ℕ)
 run_of_lines old new [] text (empty, same) = subst (λ t. IsRun old [] t new) (sym empty) (subst (λ m. IsRun old [] [] m) (sym same) (IsRun-nil old))
 run_of_lines old new (line ∷ more) text (next, first, rest, here, is, later) =
     subst (λ t. IsRun old (requests (line ∷ more)) t new) (sym is)
-      (run_after (is_blank line) old next new line first rest (requests more) here (run_of_lines next new more rest later))
+    (run_after (is_blank line) old next new line first rest (requests more) here (run_of_lines next new more rest later))
 
 no_front : (front back : List ℕ) → [] ≡ front ++ back → front ≡ []
 no_front [] back e = refl

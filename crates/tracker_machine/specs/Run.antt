@@ -67,6 +67,12 @@ pub record IsRun (old : Machine) (lines : List (List ℕ)) (text : List ℕ) (ne
   pub text_is : text ≡ text_of_run old marked
   pub new_is : new ≡ end_of_run old marked
 
+-- the reply to a line and the state after it, under some mark
+pub record RepliesTo (old : Machine) (line : List ℕ) (reply : Reply) (new : Machine) : Type 0 where
+  pub mark : Mark
+  pub reply_is : reply ≡ marked_reply old line mark
+  pub new_is : new ≡ marked_next old line mark
+
 -- one line of the input: a blank one is passed over, any other has its reply's line
 pub record HasReply (old : Machine) (line text : List ℕ) (new : Machine) : Type 0 where
   pub mark : Mark

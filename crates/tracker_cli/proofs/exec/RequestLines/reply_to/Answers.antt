@@ -1,0 +1,6 @@
+use Rattle.std.proofs.Common.{sym}
+use Rattle.tracker_machine.proofs.Replies.{RepliesTo-step}
+use Rattle.tracker_cli.proofs.exec.RequestLines.reply_to.Goals as goal
+
+pub returns-in-Ok : goal.returns-in-Ok
+returns-in-Ok g c = rw (← c.self.view_is) (RepliesTo-step _ _ _ _ _ _ (sym c.in-Ok.ensures) c.call.ensures.step)

@@ -1,0 +1,15 @@
+use Rattle.std.proofs.Common.{ℕ, List, sym, ◌∙◌, refl, Ok, Err}
+use Rattle.std.specs.Prelude.{OnErr, Result}
+use Rattle.tracker_machine.specs.Run.{AnswersLine, reply_line}
+use Rattle.tracker_machine.proofs.Replies.{AnswersLine-reply}
+use Rattle.tracker_cli.proofs.exec.RequestLinesResponder.respond.Goals as goal
+
+always : {T E : Type 0} (r : Result T E) (P : Type 0) → P → OnErr r P
+always (Ok x) P p = tt
+always (Err e) P p = p
+
+pub returns-clause-err : goal.returns-clause-err
+returns-clause-err g c =
+    let told : (text : List ℕ) × AnswersLine c.args.self.now c.args.line.now text c.reply_to-reply.new.self =
+    (reply_line c.reply_to-reply.result, AnswersLine-reply _ _ _ _ _ (sym c.is_blank.ensures ∙ c.if-is_blank.false) c.reply_to-reply.ensures refl) in
+    always _ _ told

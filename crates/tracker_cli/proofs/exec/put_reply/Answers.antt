@@ -1,0 +1,18 @@
+use Rattle.std.proofs.Common.{◌≡◌, [], ◌∷◌, ◌++◌, ap, sym, ◌∙◌, codes, subst}
+use Rattle.std.specs.Prelude.{OnOk}
+use Rattle.tracker_calls.specs.Reply.{reply_text}
+use Rattle.tracker_calls.specs.declared.reply.Reply.{Reply}
+use Rattle.tracker_calls.specs.declared.reply.Reply.TheVariants as reply
+use Rattle.tracker_calls.specs.declared.reply.Refusal.{Refusal}
+use Rattle.tracker_calls.specs.declared.reply.Refusal.TheVariants as refusal
+use Rattle.tracker_machine.specs.Run.{reply_line}
+use Rattle.tracker_machine.proofs.Replies.{memory_text}
+use Rattle.tracker_cli.proofs.exec.put_reply.Goals as goal
+
+memory_line : (r : Reply) (inner : Refusal) → r ≡ reply.Refused inner → inner ≡ refusal.Memory → codes "{\"refused\":{\"no\":15}}" ++ 10 ∷ [] ≡ reply_line r
+memory_line r inner is within = ap (λ l. l ++ 10 ∷ []) (sym memory_text ∙ ap reply_text (sym (is ∙ ap reply.Refused within)))
+
+pub returns-in-Refused-Memory : goal.returns-in-Refused-Memory
+returns-in-Refused-Memory c =
+    let inner : c.in-Refused-Memory.field-0 ≡ refusal.Memory = rw c.in-Refused-Memory.is at c.in-Refused-Memory.field-0-is in
+    subst (λ l. OnOk c.put_line.result (c.put_line.new.answer.items ≡ l)) (memory_line _ _ c.in-Refused-Memory.is inner) c.put_line.ensures

@@ -1,0 +1,56 @@
+-- What the command line writes, by its status.
+use Rattle.std.specs.Prelude.{◌≡◌, ◌⊎◌, ℕ, List, [], ◌∷◌, ◌++◌, codes, Option, Some}
+use Rattle.std.specs.Io.KnownBytes.{Appends, Consumes, IsAtEnd}
+use Rattle.fields.specs.Setup.{built_in_users}
+use Rattle.request_lines.specs.Lines.{lines, whole_lines, AreWithinLimits, StopsAtLong, StopsAtMany}
+use Rattle.request_lines.specs.declared.run.End.{End}
+use Rattle.request_lines.specs.declared.run.End.TheVariants.{Done, ReadFault, WriteFault, Memory, LongLine, ManyLines}
+use Rattle.tracker_machine.specs.Machine.{Machine, opening}
+use Rattle.tracker_machine.specs.Run.{IsRun, IsCutRun, requests}
+
+abbrev pub IsExec : List (List ℕ) → Type 0
+IsExec words = words ≡ codes "exec" ∷ []
+
+abbrev pub usage : List ℕ
+usage = codes "usage: exec\n"
+
+abbrev pub limit_line : List ℕ
+limit_line = codes "limit line\n"
+
+abbrev pub limit_lines : List ℕ
+limit_lines = codes "limit lines\n"
+
+-- where a run begins
+abbrev pub start : Machine
+start = opening built_in_users
+
+-- this text is the replies to these lines, from the opening state on, under some marks
+abbrev pub AreReplies : List (List ℕ) → List ℕ → Type 0
+AreReplies all text = (last : Machine) × IsRun start (requests all) text last
+
+-- this text is the replies to the first lines of an input, and then at most a front of the next one's reply
+abbrev pub AreCutReplies : List ℕ → List ℕ → Type 0
+AreCutReplies bytes text = IsCutRun start (lines bytes) text
+
+-- the sink grew by a text that is as wanted
+abbrev pub GrewBy : Option (List ℕ) → Option (List ℕ) → (List ℕ → Type 0) → Type 0
+GrewBy old new P = (text : List ℕ) × P text × Appends old new text
+
+-- or by a front of one
+abbrev pub GrewByFront : Option (List ℕ) → Option (List ℕ) → (List ℕ → Type 0) → Type 0
+GrewByFront old new P = (front : List ℕ) × (back : List ℕ) × P (front ++ back) × Appends old new front
+
+-- the replies to the lines before the first that passes a limit, and then the limit's text
+abbrev pub IsLimitText : List ℕ → List ℕ → Type 0
+IsLimitText bytes due =
+    ((done : List (List ℕ)) × (text : List ℕ) × StopsAtLong (lines bytes) done × AreReplies done text × (due ≡ text ++ limit_line))
+    ⊎ ((done : List (List ℕ)) × (text : List ℕ) × StopsAtMany (lines bytes) done × AreReplies done text × (due ≡ text ++ limit_lines))
+
+-- how the loop over request lines ends, told by the abstract tracker
+abbrev pub EndsRun : List ℕ → Option (List ℕ) → Option (List ℕ) → Option (List ℕ) → End → Type 0
+EndsRun bytes left old new Done = IsAtEnd left × AreWithinLimits (lines bytes) × GrewBy old new (AreReplies (lines bytes))
+EndsRun bytes left old new ReadFault = (read : List ℕ) × Consumes (Some bytes) left read × GrewBy old new (AreReplies (whole_lines read))
+EndsRun bytes left old new WriteFault = GrewBy old new (AreCutReplies bytes)
+EndsRun bytes left old new Memory = GrewBy old new (AreCutReplies bytes)
+EndsRun bytes left old new LongLine = (done : List (List ℕ)) × StopsAtLong (lines bytes) done × GrewBy old new (AreReplies done)
+EndsRun bytes left old new ManyLines = (done : List (List ℕ)) × StopsAtMany (lines bytes) done × GrewBy old new (AreReplies done)

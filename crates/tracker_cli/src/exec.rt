@@ -1,0 +1,95 @@
+// Request lines that a desk answers.
+ghost use Rattle.std.specs.Prelude.{◌≡◌, ◌++◌, ◌∷◌, [], OnOk, OnErr, List, ℕ};
+ghost use Rattle.tracker_calls.specs.Reply.{reply_text};
+ghost use Rattle.tracker_machine.specs.Run.{AnswersLine, RepliesTo, is_blank, is_blank_byte, reply_line};
+
+use fields::{Memory, Steps};
+use request_lines::Responder;
+use std::alloc::{AllocError, Global};
+use std::marker::Model;
+use std::sync::ledger::Ledger;
+use tracker_calls::{MEMORY_TEXT, Refusal, Reply, read_line, reply_text};
+use tracker_core::Desk;
+
+/// A desk that answers request lines, and counts its steps. Contracts see it as the abstract tracker's state.
+#[derive(Drop)]
+pub struct RequestLines<L: Ledger> {
+    alloc: Global,
+    desk: Desk,
+    steps: Steps<L>,
+}
+
+impl<L: Ledger> Model for RequestLines<L> {
+    ghost use Rattle.tracker_machine.specs.Machine.{Machine};
+
+    ghost Value = { Machine };
+
+    ghost view = { λ r. r.desk };
+}
+
+impl<L: Ledger> RequestLines<L> {
+    pub fn new(alloc: Global, desk: Desk, steps: Steps<L>) -> Self
+        ensures { result ≡ desk }
+    {
+        RequestLines { alloc, desk, steps }
+    }
+
+    // Makes a line's call.
+    fn reply_to(&mut self, line: &[u8]) -> Reply
+        ensures { RepliesTo self.old line.now result self.new }
+    {
+        match read_line(self.alloc, line) {
+            Ok((user, call)) => self.desk.call(&user, &call, &mut self.steps),
+            Err(refusal) => Reply::Refused(refusal),
+        }
+    }
+}
+
+impl<L: Ledger> Responder for RequestLines<L> {
+    ghost answers = { AnswersLine };
+
+    fn respond(&mut self, line: &[u8], answer: &mut Vec<u8>) -> Result<(), AllocError> {
+        answer.clear();
+        if is_blank(line) {
+            return Ok(());
+        }
+        let reply = self.reply_to(line);
+        put_reply(self.alloc, &reply, answer)
+    }
+}
+
+// Puts a reply's text and a line feed into the empty answer. The refusal for want of memory is copied from
+// its constant, so that it finds room where the answer had some before.
+fn put_reply(alloc: Global, reply: &Reply, answer: &mut Vec<u8>) -> Result<(), AllocError>
+    requires { answer.old.items ≡ [] }
+    ensures { OnOk result (answer.new.items ≡ reply_line reply.now) }
+{
+    if let Reply::Refused(Refusal::Memory) = reply {
+        return put_line(MEMORY_TEXT, answer);
+    }
+    match reply_text(alloc, reply) {
+        Ok(text) => put_line(text.as_str(), answer),
+        Err(Memory) => Err(AllocError),
+    }
+}
+
+fn put_line(text: &str, answer: &mut Vec<u8>) -> Result<(), AllocError>
+    requires { answer.old.items ≡ [] }
+    ensures { OnOk result (answer.new.items ≡ text.now ++ 10 ∷ []) }
+{
+    answer.extend_from_slice(text.as_bytes())?;
+    answer.push(b'\n')?;
+    Ok(())
+}
+
+fn is_blank(line: &[u8]) -> bool
+    ensures { result ≡ is_blank line.now }
+{
+    line.iter().all(|byte| is_blank_byte(*byte))
+}
+
+fn is_blank_byte(byte: u8) -> bool
+    ensures { result ≡ is_blank_byte byte }
+{
+    byte == b' ' || byte == b'\t' || byte == b'\r'
+}
