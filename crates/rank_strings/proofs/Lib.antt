@@ -1,0 +1,10 @@
+pub mod Order
+pub mod Numbers
+pub mod Digits
+pub mod Reading
+pub mod Fitting
+pub mod Neighbours
+pub mod Room
+pub mod Finest
+pub mod InRange
+pub mod Unique

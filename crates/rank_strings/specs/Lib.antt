@@ -1,0 +1,9 @@
+pub mod Rank
+pub mod Text
+pub mod Between
+pub mod Chosen
+pub mod Gap
+pub mod Fault
+pub mod Total
+pub mod Laws
+pub mod Rows
