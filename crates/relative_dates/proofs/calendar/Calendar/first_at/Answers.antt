@@ -1,0 +1,21 @@
+use Rattle.std.proofs.Common.{sym, arith, FitsSigned, w32, w64, rules}
+use Rattle.std.proofs.lemmas.Int.{to_z-of_z}
+use Rattle.jiff_core.proofs.SignedLemmas.{signed_arith}
+use Rattle.relative_dates.proofs.FirstLemmas.{first_at-is, first_near}
+use Rattle.relative_dates.proofs.calendar.Calendar.first_at.Goals as goal
+
+pub returns-clause-value : goal.returns-clause-value
+returns-clause-value c =
+    let second : FitsSigned w64 c.args.second = c.ranges.second in
+    let r : FitsSigned w64 c.first_moment.result = search rules in
+    let f : FitsSigned w32 c.self.inside.first_offset = omega (arith, signed_arith, c.self.invariant.zone.first_in) in
+    let first = simp (to_z-of_z, c.deref.ensures.value) at c.first_moment.ensures in
+    simp to_z-of_z (rw (← c.self.view_is) (sym (first_at-is _ _ _ c.self.invariant.zone first)))
+
+pub returns-clause-near : goal.returns-clause-near
+returns-clause-near c =
+    let second : FitsSigned w64 c.args.second = c.ranges.second in
+    let r : FitsSigned w64 c.first_moment.result = search rules in
+    let f : FitsSigned w32 c.self.inside.first_offset = omega (arith, signed_arith, c.self.invariant.zone.first_in) in
+    let first = simp (to_z-of_z, c.deref.ensures.value) at c.first_moment.ensures in
+    simp to_z-of_z (first_near _ _ _ c.self.invariant.zone first)
