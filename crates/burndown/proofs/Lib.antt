@@ -1,0 +1,4 @@
+mod Lines
+mod Search
+mod Sums
+pub mod Courses

@@ -1,0 +1,10 @@
+pub mod Share
+pub mod Group
+pub mod Course
+pub mod Line
+pub mod Burndown
+pub mod Event
+pub mod Remaining
+pub mod Small
+pub mod Laws
+pub mod Rows

@@ -1,0 +1,4 @@
+pub mod State
+pub mod Sprint
+pub mod Change
+pub mod Laws

@@ -1,0 +1,11 @@
+//! One sprint.
+
+use crate::state::SprintState;
+use fields::Text;
+
+/// A sprint: what it is called, and its state.
+#[derive(Debug, Drop)]
+pub struct Sprint {
+    pub name: Text,
+    pub state: SprintState,
+}
