@@ -1,4 +1,4 @@
-ghost use Rattle.std.specs.Prelude.{◌≡◌, List, ℕ, [], ◌∷◌, ◌++◌, OnOk, OnErr};
+ghost use Rattle.std.specs.Prelude.{◌≡◌, ◌≤◌, List, ℕ, [], ◌∷◌, ◌++◌, length, ◌↔◌, IsTrue, IfOk, OnOk, OnErr, insert};
 
 use crate::memory::Memory;
 use crate::text::Text;
@@ -42,4 +42,46 @@ impl Names {
     {
         self.names.as_slice()
     }
+
+    /// Puts one more at a place, or leaves the list as it is.
+    pub(crate) fn insert(&mut self, place: usize, name: Text) -> Result<(), Memory>
+        requires { place ≤ length self.old }
+        ensures ok { OnOk result (self.new ≡ insert self.old place name) }
+        ensures err { OnErr result (self.new ≡ self.old) }
+    {
+        self.names.insert(place, name)?;
+        Ok(())
+    }
+
+    /// Another list of the same texts.
+    pub fn copy(&self, alloc: Global) -> Result<Self, Memory>
+        ensures { IfOk result (λ names. names ≡ self.now) }
+    {
+        let mut names = Names::new(alloc);
+        for name in self.as_slice() {
+            names.push(name.copy(alloc)?)?;
+        }
+        Ok(names)
+    }
+
+    /// Whether both have the same texts in the same order.
+    pub fn is_same(&self, other: &Names) -> bool
+        ensures { IsTrue result ↔ (self.now ≡ other.now) }
+    {
+        is_same_list(self.as_slice(), other.as_slice())
+    }
+}
+
+fn is_same_list(one: &[Text], other: &[Text]) -> bool
+    ensures { IsTrue result ↔ (one.now ≡ other.now) }
+{
+    if one.len() != other.len() {
+        return false;
+    }
+    for (place, name) in one.iter().enumerate() {
+        if !name.is_same(&other[place]) {
+            return false;
+        }
+    }
+    true
 }

@@ -8,6 +8,10 @@ pub struct UserNo(pub u16);
 #[derive(Clone, Copy, Debug, PartialEq, Eq, PartialOrd, Ord)]
 pub struct ProjectNo(pub u16);
 
+/// A group by its place in the setup's list, counted from 1.
+#[derive(Clone, Copy, Debug, PartialEq, Eq, PartialOrd, Ord)]
+pub struct GroupNo(pub u16);
+
 /// A choice's place in the list of its field's choices.
 #[derive(Clone, Copy, Debug, PartialEq, Eq, PartialOrd, Ord)]
 pub struct ChoiceNo(pub u16);

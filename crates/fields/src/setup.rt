@@ -1,52 +1,169 @@
-ghost use Rattle.std.specs.Prelude.{◌≡◌, ◌≤◌, length, IfOk, option_map};
-ghost use Rattle.std.specs.Str.{str_eq_ignore_ascii_case};
-ghost use Rattle.fields.specs.Setup.{place_named, built_in_users};
+ghost use Rattle.std.specs.Prelude.{◌≡◌, ◌≤◌, true, Ok, length, map};
+ghost use Rattle.std.specs.List.{list_all};
+ghost use Rattle.fields.specs.Fields.{has_few_options};
+ghost use Rattle.fields.specs.Offsets.{zone_of};
+ghost use Rattle.fields.specs.Words.{day_number};
+ghost use Rattle.fields.specs.Reading.{memberless, kept_in};
 
+use crate::built_in_text::BUILT_IN;
+use crate::draft::Draft;
+use crate::fault::SetupFault;
+use crate::field::Field;
 use crate::memory::Memory;
+use crate::name_lists::{group_names, project_keys, status_names, transition_names};
 use crate::names::Names;
-use crate::numbers::UserNo;
+use crate::numbers::{ChoiceNo, GroupNo, UserNo};
+use crate::offset::Offset;
+use crate::parts::{Group, Project, Transition};
+use crate::reading::{Reading, read_text};
+use crate::sequence::Sequence;
+use crate::status::Status;
 use crate::text::Text;
+use crate::tied::Tied;
+use crate::words::Weekday;
+use relative_dates::Calendar;
 use std::alloc::Global;
+use std::str;
 
-/// Who and what the tracker knows: today its users alone.
+/// Who and what the tracker knows, and who may do what: one field for each key of the text that was read. Lists and
+/// tables stand in the text's order.
 #[derive(Debug, Drop)]
 pub struct Setup {
+    /// The text that was read.
+    pub text: Text,
+    /// How far local time is ahead of UTC at first, -840 to 840.
+    pub utc_offset_minutes: i32,
+    /// The day on which a week begins.
+    pub week_starts: Weekday,
+    /// The user by whom ranks are balanced.
+    pub rebalancer: UserNo,
     pub users: Names,
+    /// Issue types.
+    pub types: Names,
+    /// The highest first.
+    pub priorities: Names,
+    pub resolutions: Names,
+    pub versions: Names,
+    /// The status of a new issue.
+    pub first_status: ChoiceNo,
+    /// The groups that may plan sprints.
+    pub plan: Sequence<GroupNo>,
+    /// The groups that may administer the tracker.
+    pub administer: Sequence<GroupNo>,
+    pub group: Sequence<Group>,
+    pub project: Sequence<Project>,
+    pub status: Sequence<Status>,
+    pub transition: Sequence<Transition>,
+    /// The fields of the setup's own.
+    pub field: Sequence<Field>,
+    /// The steps of the offset from UTC, by rising moments.
+    pub offset: Sequence<Offset>,
+    pub(crate) status_names: Names,
+    pub(crate) group_names: Names,
+    pub(crate) project_keys: Names,
+    pub(crate) transition_names: Names,
+    pub(crate) calendar: Calendar,
     ghost few_users: { length users ≤ 200 },
+    ghost few_types: { length types ≤ 30 },
+    ghost few_priorities: { length priorities ≤ 20 },
+    ghost few_resolutions: { length resolutions ≤ 50 },
+    ghost few_versions: { length versions ≤ 500 },
+    ghost few_groups: { length group ≤ 100 },
+    ghost few_projects: { length project ≤ 50 },
+    ghost few_statuses: { length status ≤ 50 },
+    ghost few_options: { list_all has_few_options field ≡ true },
+    ghost named_statuses: { status_names ≡ map (λ s. s.name) status },
+    ghost named_groups: { group_names ≡ map (λ g. g.name) group },
+    ghost keyed_projects: { project_keys ≡ map (λ p. p.key) project },
+    ghost named_transitions: { transition_names ≡ map (λ t. t.name) transition },
+    ghost clock: { calendar ≡ record { zone = zone_of utc_offset_minutes offset; first_day = day_number week_starts } },
+    ghost reads: { kept_in text ≡ Ok (memberless (record { utc_offset_minutes = utc_offset_minutes; week_starts = week_starts; rebalancer = rebalancer; users = users; types = types; priorities = priorities; resolutions = resolutions; versions = versions; first_status = first_status; plan = plan; administer = administer; group = group; project = project; status = status; transition = transition; field = field; offset = offset })) },
 }
 
 impl Setup {
-    /// The setup that a new tracker has.
+    ghost use Rattle.std.specs.Prelude.{IfOk, IfErr, IsUtf8, codes};
+    ghost use Rattle.fields.specs.Drafts.{IsSmall};
+    ghost use Rattle.fields.specs.Offsets.{steps_of};
+    ghost use Rattle.fields.specs.Reading.{parts_of, setup_in, Explains};
+    ghost use Rattle.fields.specs.SetupParts.{parts};
+
+    /// Reads a setup from the bytes of a TOML text. The first fault is told, in the order of the setup's keys: first of
+    /// what the keys hold, then of the names and rules in it, then of keys that aren't the setup's.
+    pub fn read(alloc: Global, bytes: &[u8]) -> Result<Setup, SetupFault>
+        ensures ok { IfOk result (λ setup. IsUtf8 bytes.now × (setup_in bytes.now ≡ Ok (parts setup))) }
+        ensures text { IfOk result (λ setup. setup.text ≡ bytes.now) }
+        ensures err { IfErr result (Explains bytes.now) }
+    {
+        let Ok(text) = str::from_utf8(bytes) else {
+            return Err(SetupFault::BadToml);
+        };
+        let reading = read_text(alloc, text)?;
+        Ok(Setup::of(alloc, text, reading)?)
+    }
+
+    /// The setup that a new tracker has: the reading of [`BUILT_IN`].
     pub fn built_in(alloc: Global) -> Result<Setup, Memory>
-        ensures users { IfOk result (λ setup. setup.users ≡ built_in_users) }
+        ensures parts { IfOk result (λ setup. setup_in BUILT_IN.now ≡ Ok (parts setup)) }
+        ensures text { IfOk result (λ setup. setup.text ≡ BUILT_IN.now) }
     {
-        let mut users = Names::new(alloc);
-        users.push(Text::copy_of(alloc, "anna")?)?;
-        users.push(Text::copy_of(alloc, "bo")?)?;
-        users.push(Text::copy_of(alloc, "cy")?)?;
-        users.push(Text::copy_of(alloc, "root")?)?;
-        Ok(Setup { users })
+        match Setup::read(alloc, BUILT_IN.as_bytes()) {
+            Ok(setup) => Ok(setup),
+            Err(_) => Err(Memory),
+        }
     }
 
-    /// The user of that name, ASCII case ignored; `None` exactly where there is none.
-    pub fn user_named(&self, name: &str) -> Option<UserNo>
-        ensures { option_map (λ no. no.0) result ≡ place_named name.now self.now.users }
+    #[tactic(auto, unfolding(crate::specs::Reading::kept_in))]
+    fn of(alloc: Global, text: &str, reading: Reading) -> Result<Setup, Memory>
+        requires reads { setup_in text.now ≡ Ok (parts_of reading.draft reading.numbers) }
+        requires small { IsSmall reading.draft }
+        requires clock { reading.draft.steps ≡ steps_of reading.draft.head.utc_offset_minutes
+            (day_number reading.draft.head.week_starts) reading.draft.steps.offsets }
+        requires groups { length reading.numbers.tables.groups ≡ length reading.draft.tables.groups }
+        requires projects { length reading.numbers.tables.projects ≡ length reading.draft.tables.projects }
+        ensures parts { IfOk result (λ setup. setup_in text.now ≡ Ok (parts setup)) }
+        ensures text { IfOk result (λ setup. setup.text ≡ text.now) }
     {
-        let place = place_of(self.users.as_slice(), name)?;
-        Some(UserNo(place as u16))
+        let text = Text::copy_of(alloc, text)?;
+        let Reading { draft, numbers } = reading;
+        let Draft {
+            head,
+            lists,
+            rights: _rights,
+            tables,
+            steps,
+        } = draft;
+        let Tied {
+            rights,
+            tables: tied,
+        } = numbers;
+        let status_names = status_names(alloc, tables.statuses.as_slice())?;
+        let group_names = group_names(alloc, tied.groups.as_slice())?;
+        let project_keys = project_keys(alloc, tied.projects.as_slice())?;
+        let transition_names = transition_names(alloc, tied.transitions.as_slice())?;
+        Ok(Setup {
+            text,
+            utc_offset_minutes: head.utc_offset_minutes,
+            week_starts: head.week_starts,
+            rebalancer: rights.rebalancer,
+            users: lists.users,
+            types: lists.types,
+            priorities: lists.priorities,
+            resolutions: lists.resolutions,
+            versions: lists.versions,
+            first_status: rights.first_status,
+            plan: rights.plan,
+            administer: rights.administer,
+            group: tied.groups,
+            project: tied.projects,
+            status: tables.statuses,
+            transition: tied.transitions,
+            field: tables.fields,
+            offset: steps.offsets,
+            status_names,
+            group_names,
+            project_keys,
+            transition_names,
+            calendar: steps.calendar,
+        })
     }
-}
-
-fn place_of(names: &[Text], name: &str) -> Option<usize>
-    ensures { result ≡ place_named name.now names.now }
-{
-    names
-        .iter()
-        .position(|other| is_same_name(other.as_str(), name))
-}
-
-fn is_same_name(one: &str, other: &str) -> bool
-    ensures { result ≡ str_eq_ignore_ascii_case one.now other.now }
-{
-    one.eq_ignore_ascii_case(other)
 }

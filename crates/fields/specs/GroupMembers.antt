@@ -1,0 +1,16 @@
+-- Groups of which one has got other members.
+use Rattle.std.specs.Prelude.{ℕ, zero, suc, Bool, true, ◌&&◌, nat_lt, List, [], ◌∷◌}
+use Rattle.fields.specs.declared.numbers.UserNo.{UserNo}
+use Rattle.fields.specs.declared.parts.Group.{Group}
+
+-- the group at a place has these members
+abbrev pub with_members : List Group → ℕ → List UserNo → List Group
+with_members [] place members = []
+with_members (group ∷ groups) zero members = record { name = group.name; members = members } ∷ groups
+with_members (group ∷ groups) (suc place) members = group ∷ with_members groups place members
+
+-- each is one of so many users, and they rise
+abbrev pub is_user_list : ℕ → List UserNo → Bool
+is_user_list count [] = true
+is_user_list count (user ∷ []) = nat_lt user.0 count
+is_user_list count (user ∷ next ∷ users) = nat_lt user.0 next.0 && is_user_list count (next ∷ users)

@@ -1,0 +1,82 @@
+-- The parts of a setup that is held.
+use Rattle.std.specs.Prelude.{ℕ, ◌-◌, ◌==◌, Bool, false, List, [], map, Option, Some, None, option_and_then}
+use Rattle.std.specs.List.{list_any, slice_get}
+use Rattle.std.specs.Option.{option_map_or}
+use Rattle.fields.specs.declared.setup.Setup.{Setup}
+use Rattle.fields.specs.declared.form.Form.{Form}
+use Rattle.fields.specs.declared.form.Form.TheVariants.{Choice, Set}
+use Rattle.fields.specs.declared.numbers.GroupNo.{GroupNo}
+use Rattle.fields.specs.declared.rules.Permission.{Permission}
+use Rattle.fields.specs.declared.rules.Permission.TheVariants.{Browse, Create, Edit, Transition, Rank, Plan, Administer}
+use Rattle.fields.specs.declared.parts.Group.{Group}
+use Rattle.fields.specs.declared.parts.Project.{Project}
+use Rattle.fields.specs.Names.{place_named}
+use Rattle.fields.specs.Known.{Names, form_of, choices_of}
+use Rattle.fields.specs.Reading.{Parts}
+
+abbrev pub parts : Setup → Parts
+parts setup = record {
+  utc_offset_minutes = setup.utc_offset_minutes;
+  week_starts = setup.week_starts;
+  rebalancer = setup.rebalancer;
+  users = setup.users;
+  types = setup.types;
+  priorities = setup.priorities;
+  resolutions = setup.resolutions;
+  versions = setup.versions;
+  first_status = setup.first_status;
+  plan = setup.plan;
+  administer = setup.administer;
+  group = setup.group;
+  project = setup.project;
+  status = setup.status;
+  transition = setup.transition;
+  field = setup.field;
+  offset = setup.offset;
+}
+
+-- the names that a value may name
+abbrev pub names : Setup → Names
+names setup = record {
+  users = setup.users;
+  types = setup.types;
+  statuses = map (λ s. s.name) setup.status;
+  priorities = setup.priorities;
+  resolutions = setup.resolutions;
+  versions = setup.versions;
+  groups = map (λ g. g.name) setup.group;
+  fields = setup.field;
+}
+
+-- the choice of that name in a field that holds choices
+abbrev pub choice_named : Names → ℕ → List ℕ → Option ℕ
+choice_named names n name = option_and_then (λ form. choice_by form) (form_of names.fields n) where
+  choice_by : Form → Option ℕ
+  choice_by Choice = place_named name (choices_of names n)
+  choice_by Set = place_named name (choices_of names n)
+  choice_by _ = None
+
+-- the groups that have a permission in a project; it may be absent
+abbrev pub groups_in : Permission → Option Project → List GroupNo
+groups_in permission None = []
+groups_in Browse (Some project) = project.browse
+groups_in Create (Some project) = project.create
+groups_in Edit (Some project) = project.edit
+groups_in Transition (Some project) = project.transition
+groups_in Rank (Some project) = project.rank
+groups_in _ (Some project) = []
+
+-- the groups that have a permission: of the whole tracker, or in the project
+abbrev pub groups_with : Setup → Permission → Option ℕ → List GroupNo
+groups_with setup Plan place = setup.plan
+groups_with setup Administer place = setup.administer
+groups_with setup permission place = groups_in permission (option_and_then (slice_get setup.project) place)
+
+-- the group has the user
+abbrev pub has_member : List Group → ℕ → GroupNo → Bool
+has_member groups user group =
+    option_map_or (λ g. list_any (λ member. member.0 == user) g.members) (slice_get groups (group.0 - 1)) false
+
+-- one of the permission's groups has the user
+abbrev pub may : Setup → ℕ → Permission → Option ℕ → Bool
+may setup user permission place = list_any (has_member setup.group user) (groups_with setup permission place)

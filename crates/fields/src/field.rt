@@ -1,0 +1,14 @@
+use crate::names::Names;
+use crate::numbers::FieldNo;
+use crate::text::Text;
+use crate::words::FieldKind;
+
+/// A field of the setup's own. Where its kind is a choice, it has at least one option; else it has none.
+#[derive(Debug, Drop)]
+pub struct Field {
+    /// 10000 to 19999.
+    pub number: FieldNo,
+    pub name: Text,
+    pub kind: FieldKind,
+    pub options: Names,
+}

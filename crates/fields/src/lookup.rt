@@ -1,0 +1,231 @@
+// What the setup says by name, of values and of permissions.
+ghost use Rattle.std.specs.Prelude.{◌≡◌, ◌≢◌, ◌≤◌, true, pos, ◌==◌, ◌+◌, ◌-◌, length, map, option_map, IfOk, slice_get, slice_set};
+ghost use Rattle.std.specs.List.{list_any};
+ghost use Rattle.fields.specs.Names.{place_named};
+ghost use Rattle.fields.specs.Known.{names_of, AreFew, field_named, choices_of, value_of, fits};
+ghost use Rattle.relative_dates.specs.Calendar.{local_day};
+ghost use Rattle.fields.specs.Offsets.{zone_of};
+ghost use Rattle.fields.specs.GroupMembers.{with_members, is_user_list};
+ghost use Rattle.fields.specs.ValueTexts.{IsTextOf};
+ghost use Rattle.fields.specs.SetupParts.{parts, names, choice_named, groups_in, groups_with, has_member, may};
+
+use crate::fit;
+use crate::form::Form;
+use crate::known::{Known, choices_of, field_named, form_of, value_of};
+use crate::memory::Memory;
+use crate::moment::Moment;
+use crate::name_form::place_of;
+use crate::numbers::{ChoiceNo, Day, FieldNo, GroupNo, ProjectNo, UserNo};
+use crate::parts::{Group, Project};
+use crate::rules::Permission;
+use crate::sequence::Sequence;
+use crate::setup::Setup;
+use crate::text::Text;
+use crate::value::Value;
+use crate::value_text::value_text;
+use std::alloc::Global;
+
+fn is_member(members: &[UserNo], user: UserNo) -> bool
+    ensures { result ≡ list_any (λ member. member.0 == user.0) members.now }
+{
+    members.iter().any(|member| member.0 == user.0)
+}
+
+/// Whether the group has the user.
+fn has_member(groups: &[Group], user: UserNo, group: GroupNo) -> bool
+    ensures { result ≡ has_member groups.now user.0 group }
+{
+    match groups.get(usize::from(group.0.saturating_sub(1))) {
+        Some(group) => is_member(group.members.as_slice(), user),
+        None => false,
+    }
+}
+
+/// Whether one of these groups has the user.
+fn has_member_in(groups: &[Group], user: UserNo, wanted: &[GroupNo]) -> bool
+    ensures { result ≡ list_any (has_member groups.now user.0) wanted.now }
+{
+    wanted.iter().any(|group| has_member(groups, user, *group))
+}
+
+/// The groups that have a permission in a project.
+fn groups_in(permission: Permission, project: &Project) -> &[GroupNo]
+    ensures { result.now ≡ groups_in permission (Some project.now) }
+{
+    match permission {
+        Permission::Browse => project.browse.as_slice(),
+        Permission::Create => project.create.as_slice(),
+        Permission::Edit => project.edit.as_slice(),
+        Permission::Transition => project.transition.as_slice(),
+        Permission::Rank => project.rank.as_slice(),
+        Permission::Plan | Permission::Administer => &[],
+    }
+}
+
+impl Setup {
+    /// The lists of names, lent.
+    fn known(&self) -> Known<'_>
+        ensures names { names_of result ≡ names self.now }
+        ensures few { AreFew (names_of result) }
+    {
+        Known {
+            users: self.users.as_slice(),
+            types: self.types.as_slice(),
+            statuses: self.status_names.as_slice(),
+            priorities: self.priorities.as_slice(),
+            resolutions: self.resolutions.as_slice(),
+            versions: self.versions.as_slice(),
+            groups: self.group_names.as_slice(),
+            fields: self.field.as_slice(),
+        }
+    }
+
+    /// The user of that name, ASCII case ignored; `None` exactly where there is none.
+    pub fn user_named(&self, name: &str) -> Option<UserNo>
+        ensures { option_map (λ no. no.0) result ≡ place_named name.now self.now.users }
+    {
+        let place = place_of(self.users.as_slice(), name)?;
+        Some(UserNo(place as u16))
+    }
+
+    /// The project of that key, ASCII case ignored; `None` exactly where there is none.
+    pub fn project_named(&self, name: &str) -> Option<ProjectNo>
+        ensures { option_map (λ no. no.0) result ≡ place_named name.now (map (λ p. p.key) self.now.project) }
+    {
+        let place = place_of(self.project_keys.as_slice(), name)?;
+        Some(ProjectNo(place as u16))
+    }
+
+    /// The place of the transition of that name, ASCII case ignored; `None` exactly where there is none.
+    pub fn transition_named(&self, name: &str) -> Option<usize>
+        ensures { result ≡ place_named name.now (map (λ t. t.name) self.now.transition) }
+    {
+        place_of(self.transition_names.as_slice(), name)
+    }
+
+    /// The group of that name, ASCII case ignored; `None` exactly where there is none. Groups count from 1.
+    pub fn group_named(&self, name: &str) -> Option<GroupNo>
+        ensures { option_map (λ no. no.0) result
+            ≡ option_map (λ place. place + 1) (place_named name.now (map (λ g. g.name) self.now.group)) }
+    {
+        let place = place_of(self.group_names.as_slice(), name)?;
+        Some(GroupNo(place as u16 + 1))
+    }
+
+    /// The field of that name, ASCII case ignored; `None` exactly where there is none.
+    pub fn field_named(&self, name: &str) -> Option<FieldNo>
+        ensures { option_map (λ no. no.0) result ≡ field_named self.now.field name.now }
+    {
+        field_named(self.field.as_slice(), name)
+    }
+
+    /// The choice of that name in the field, ASCII case ignored; `None` exactly where there is none.
+    pub fn choice_named(&self, field: FieldNo, name: &str) -> Option<ChoiceNo>
+        ensures { option_map (λ no. no.0) result ≡ choice_named (names self.now) field.0 name.now }
+    {
+        let known = self.known();
+        match form_of(known.fields, field)? {
+            Form::Choice | Form::Set => {
+                let place = place_of(choices_of(&known, field), name)?;
+                Some(ChoiceNo(place as u16))
+            }
+            _ => None,
+        }
+    }
+
+    /// Whether the field may hold the value.
+    pub fn fits(&self, field: FieldNo, value: &Value) -> bool
+        ensures { result ≡ fits (names self.now) field.0 value.now }
+    {
+        fit::fits(&self.known(), field, value)
+    }
+
+    /// The value that a text stands for in the field; `None` exactly where it is none of the field's.
+    pub fn value_of(
+        &self,
+        alloc: Global,
+        field: FieldNo,
+        text: &str,
+    ) -> Result<Option<Value>, Memory>
+        ensures { IfOk result (λ value. value ≡ value_of (names self.now) field.0 text.now) }
+    {
+        value_of(alloc, &self.known(), field, text)
+    }
+
+    /// Whether one of the groups that have the permission has the user. The permissions of a project are asked of it; those
+    /// of the whole tracker need none.
+    pub fn may(&self, user: UserNo, permission: Permission, project: Option<ProjectNo>) -> bool
+        ensures { result ≡ may self.now user.0 permission (option_map (λ no. no.0) project) }
+    {
+        has_member_in(
+            self.group.as_slice(),
+            user,
+            self.groups_with(permission, project),
+        )
+    }
+
+    /// The groups that have a permission: of the whole tracker, or in the project.
+    fn groups_with(&self, permission: Permission, project: Option<ProjectNo>) -> &[GroupNo]
+        ensures { result.now ≡ groups_with self.now permission (option_map (λ no. no.0) project) }
+    {
+        match permission {
+            Permission::Plan => self.plan.as_slice(),
+            Permission::Administer => self.administer.as_slice(),
+            _ => match project {
+                Some(no) => match self.project.as_slice().get(usize::from(no.0)) {
+                    Some(project) => groups_in(permission, project),
+                    None => &[],
+                },
+                None => &[],
+            },
+        }
+    }
+
+    /// How many steps the offset from UTC has.
+    pub fn steps(&self) -> usize
+        ensures { result ≡ length self.now.offset }
+    {
+        self.offset.as_slice().len()
+    }
+
+    /// Step `k` from 0: the moment from which it holds, and the minutes; `None` exactly where there are at most `k`.
+    pub fn step(&self, k: usize) -> Option<(Moment, i32)>
+        ensures { result ≡ option_map (λ o. (o.from, o.minutes)) (slice_get self.now.offset k) }
+    {
+        match self.offset.as_slice().get(k) {
+            Some(offset) => Some((offset.from, offset.minutes)),
+            None => None,
+        }
+    }
+
+    /// The local day of a moment.
+    pub fn day_of(&self, at: Moment) -> Day
+        ensures { result.0 ≡ local_day (zone_of self.now.utc_offset_minutes self.now.offset) (pos at) }
+    {
+        Day(self.calendar.day_of(at.seconds() as i64) as i32)
+    }
+
+    /// The text of a value that the field may hold and that isn't empty: what a choice or a user is called, a day as
+    /// yyyy-MM-dd, the shortest spelling of a number, and a JSON array without spaces for a set or labels.
+    #[tactic(auto, using(crate::proofs::Fitting::fits_says))]
+    pub fn text_of(&self, alloc: Global, field: FieldNo, value: &Value) -> Result<Text, Memory>
+        requires fits { fits (names self.now) field.0 value.now ≡ true }
+        requires some { value.now ≢ Value.Empty }
+        ensures { IfOk result (IsTextOf (choices_of (names self.now) field.0) value.now) }
+    {
+        value_text(alloc, choices_of(&self.known(), field), value)
+    }
+
+    /// Gives a group other members, in the setup's order of users and each once. All else stays, the text too.
+    #[tactic(auto, using(crate::proofs::Members::same_names, crate::proofs::Members::same_length, crate::proofs::Members::same_but_members))]
+    pub fn set_members(&mut self, group: GroupNo, members: Sequence<UserNo>)
+        requires from_one { 1 ≤ group.0 }
+        requires there { group.0 ≤ length self.old.group }
+        requires in_order { is_user_list (length self.old.users) members ≡ true }
+        ensures parts { parts self.new
+            ≡ record (parts self.old) { group = with_members self.old.group (group.0 - 1) members } }
+        ensures text { self.new.text ≡ self.old.text }
+    {
+        self.group.set_members(usize::from(group.0) - 1, members);
+    }
+}

@@ -1,0 +1,9 @@
+use crate::text::Text;
+use crate::words::Category;
+
+/// A status that an issue may have.
+#[derive(Debug, Drop)]
+pub struct Status {
+    pub name: Text,
+    pub category: Category,
+}

@@ -1,0 +1,454 @@
+use crate::bad_setups::{CASES, LARGE, LIMITS, ORDER, OWN_FIELDS, RULES, TABLES, TOP};
+use crate::built_in_text::BUILT_IN;
+use crate::fault::SetupFault;
+use crate::numbers::{ChoiceNo, Day, FieldNo, GroupNo, UserNo};
+use crate::rules::Permission;
+use crate::sequence::Sequence;
+use crate::setup::Setup;
+use crate::value::Value;
+use std::alloc::{AllocError, Global};
+use std::process::Abort;
+use std::test::Fail;
+
+fn digit(kind: u8) -> &'static str {
+    match kind {
+        1 => "1",
+        2 => "2",
+        3 => "3",
+        4 => "4",
+        5 => "5",
+        6 => "6",
+        _ => "0",
+    }
+}
+
+/// The fault as a command tells it: its kind and what it names.
+fn told(alloc: Global, fault: &SetupFault) -> Result<String, AllocError> {
+    let mut text = String::from_str(alloc, digit(fault.kind()))?;
+    if let Some(name) = fault.name() {
+        text.push_str(" ")?;
+        text.push_str(name)?;
+    }
+    Ok(text)
+}
+
+/// What the reading of some bytes tells: a fault, or none.
+fn answer(alloc: Global, bytes: &[u8]) -> Result<String, AllocError> {
+    match Setup::read(alloc, bytes) {
+        Ok(_) => String::from_str(alloc, "none"),
+        Err(fault) => told(alloc, &fault),
+    }
+}
+
+/// The text with another part wherever that one stands.
+fn replaced(alloc: Global, text: &str, part: &str, instead: &str) -> Result<String, AllocError> {
+    let mut new = String::new(alloc);
+    let mut is_first = true;
+    for piece in text.split(part) {
+        if !is_first {
+            new.push_str(instead)?;
+        }
+        new.push_str(piece)?;
+        is_first = false;
+    }
+    Ok(new)
+}
+
+const LETTERS: [&str; 26] = [
+    "A", "B", "C", "D", "E", "F", "G", "H", "I", "J", "K", "L", "M", "N", "O", "P", "Q", "R", "S",
+    "T", "U", "V", "W", "X", "Y", "Z",
+];
+
+/// The part so many times over, counted from 1: `#` is the number in three digits, and `^` the letter.
+fn repeated(alloc: Global, count: usize, part: &str) -> Result<String, AllocError> {
+    let mut text = String::new(alloc);
+    for n in 0..count {
+        let letter = replaced(alloc, part, "^", LETTERS[n % 26])?;
+        let digits = format!(in alloc; "{:03}", n.saturating_add(1))?;
+        let piece = replaced(alloc, letter.as_str(), "#", digits.as_str())?;
+        text.push_str(piece.as_str())?;
+    }
+    Ok(text)
+}
+
+/// What an edit puts in the place of a part: a text, or `COUNT times` a text.
+fn instead(alloc: Global, text: &str) -> Result<String, AllocError> {
+    let Some((count, part)) = text.split_once(" times ") else {
+        return String::from_str(alloc, text);
+    };
+    repeated(alloc, count.parse::<usize>().unwrap_or(0), part)
+}
+
+/// The text with another part in the place of one; `;` stands for the end of a line.
+fn edited(alloc: Global, text: &str, edit: &str) -> Result<String, Fail> {
+    let edit = replaced(alloc, edit, ";", "\n")?;
+    let (part, new) = edit.as_str().split_once(" | ").ok_or("no edit")?;
+    let new = instead(alloc, new)?;
+    Ok(replaced(alloc, text, part, new.as_str())?)
+}
+
+/// The text after each of the edits, every one of which changes it.
+fn edited_by(rt: &impl Abort, alloc: Global, text: &str, edits: &str) -> Result<String, Fail> {
+    let mut text = String::from_str(alloc, text)?;
+    for edit in edits.split(" & ") {
+        let new = edited(alloc, text.as_str(), edit)?;
+        assert!(rt; new.as_str() != text.as_str(), "{edit}");
+        text = new;
+    }
+    Ok(text)
+}
+
+/// Reads what each line's edits make of the built-in setup's text, and compares the fault; the number of the lines.
+fn check(rt: &impl Abort, alloc: Global, cases: &str) -> Result<usize, Fail> {
+    let mut count = 0usize;
+    for case in cases.lines() {
+        if case.is_empty() || case.starts_with('#') {
+            continue;
+        }
+        let (fault, edits) = case.split_once(" | ").ok_or("no case")?;
+        let text = edited_by(rt, alloc, BUILT_IN, edits)?;
+        let found = answer(alloc, text.as_str().as_bytes())?;
+        assert_eq!(rt; found.as_str(), fault, "{case}");
+        count = count.checked_add(1).ok_or("many")?;
+    }
+    Ok(count)
+}
+
+#[test]
+fn bad_setups(rt: HostRuntime) -> Result<(), Fail> {
+    let mut count = 0usize;
+    for cases in [TOP, TABLES, RULES, OWN_FIELDS, LIMITS, ORDER] {
+        count = check(&rt, rt.alloc(), cases)?
+            .checked_add(count)
+            .ok_or("many")?;
+    }
+    assert_eq!(rt; count, CASES);
+    Ok(())
+}
+
+#[test]
+fn bytes_that_are_no_text(rt: HostRuntime) -> Result<(), Fail> {
+    let found = answer(rt.alloc(), &[0x75, 0xff, 0x0a])?;
+    assert_eq!(rt; found.as_str(), "1");
+    Ok(())
+}
+
+/// Each line has a field's name, a text, and the text of the value that it stands for there, or `none`; `empty` is the value Empty.
+const VALUES: &str = r#"
+type | bug | Bug
+type | Epic | none
+type |  | none
+summary | Fix login | Fix login
+summary | two;lines | none
+summary | a>tab | none
+summary |  | none
+description | two;lines | two;lines
+description | a>tab | a>tab
+status | in progress | In Progress
+assignee | ANNA | anna
+assignee | zed | none
+reporter | Root | root
+priority | LOW | Low
+resolution | fixed | Fixed
+resolution | Unresolved | none
+fixVersion | ["1.1","1.0","1.1"] | ["1.0","1.1"]
+fixVersion |  [ "1.1" ]  | ["1.1"]
+fixVersion | ["2.0"] | none
+fixVersion | 1.0 | none
+fixVersion | [1.0] | none
+fixVersion | [] | empty
+labels | ["b","a","b"] | ["a","b"]
+labels | ["B","a"] | ["B","a"]
+labels | ["a b"] | none
+labels | [""] | none
+labels | ["0123456789012345678901234567890123456789012345678901234567890123"] | ["0123456789012345678901234567890123456789012345678901234567890123"]
+labels | ["01234567890123456789012345678901234567890123456789012345678901234"] | none
+labels | ["a","a","a","a","a","a","a","a","a","a","a","a","a","a","a","a"] | ["a"]
+labels | ["a","a","a","a","a","a","a","a","a","a","a","a","a","a","a","a","a"] | none
+labels | [] | empty
+due | 2024-02-29 | 2024-02-29
+due | 2023-02-29 | none
+due | 2000-02-29 | 2000-02-29
+due | 1970-01-01 | 1970-01-01
+due | 1969-12-31 | none
+due | 2099-12-31 | 2099-12-31
+due | 2100-01-01 | none
+due | 2024-4-01 | none
+due | 2024/04/01 | none
+due | 2024-13-01 | none
+due | 2024-00-10 | none
+due | 2024-04-31 | none
+points | 007.50 | 7.5
+points | 5 | 5
+points | -0 | 0
+points | 0.000 | 0
+points | -1 | none
+points | +1 | none
+points | 1.2345 | none
+points | 1. | none
+points | .5 | none
+points |  | none
+points | - | none
+points | 1.2.3 | none
+points | 1234567890 | none
+points | 0000000001 | none
+points | 999999999.999 | 999999999.999
+points | 0.05 | 0.05
+points | 0.005 | 0.005
+points | 10.020 | 10.02
+sprint | 12 | 12
+sprint | 0 | 0
+sprint | 012 | none
+sprint | 4294967295 | 4294967295
+sprint | 4294967296 | none
+nothing | x | none
+"#;
+
+/// The text of the value that a text stands for in a field.
+fn spelled(alloc: Global, setup: &Setup, field: FieldNo, text: &str) -> Result<String, Fail> {
+    let Some(value) = setup.value_of(alloc, field, text)? else {
+        return Ok(String::from_str(alloc, "none")?);
+    };
+    if matches!(value, Value::Empty) {
+        return Ok(String::from_str(alloc, "empty")?);
+    }
+    if !setup.fits(field, &value) {
+        return Ok(String::from_str(alloc, "misfit")?);
+    }
+    let text = setup.text_of(alloc, field, &value)?;
+    Ok(String::from_str(alloc, text.as_str())?)
+}
+
+/// Reads the value of one line's text, and compares its text; `>` stands for a tab.
+fn check_value(rt: &impl Abort, alloc: Global, setup: &Setup, case: &str) -> Result<(), Fail> {
+    let (name, rest) = case.split_once(" | ").ok_or("no case")?;
+    let (text, wanted) = rest.split_once(" | ").ok_or("no case")?;
+    let field = setup.field_named(name).unwrap_or(FieldNo(14));
+    let text = replaced(alloc, text, ";", "\n")?;
+    let text = replaced(alloc, text.as_str(), ">", "\t")?;
+    let wanted = replaced(alloc, wanted, ";", "\n")?;
+    let wanted = replaced(alloc, wanted.as_str(), ">", "\t")?;
+    let found = spelled(alloc, setup, field, text.as_str())?;
+    assert_eq!(rt; found.as_str(), wanted.as_str(), "{case}");
+    Ok(())
+}
+
+fn check_values(rt: &impl Abort, alloc: Global, setup: &Setup, cases: &str) -> Result<usize, Fail> {
+    let mut count = 0usize;
+    for case in cases.lines() {
+        if case.is_empty() {
+            continue;
+        }
+        check_value(rt, alloc, setup, case)?;
+        count = count.checked_add(1).ok_or("many")?;
+    }
+    Ok(count)
+}
+
+#[test]
+fn values_of_texts(rt: HostRuntime) -> Result<(), Fail> {
+    let setup = Setup::built_in(rt.alloc())?;
+    let count = check_values(&rt, rt.alloc(), &setup, VALUES)?;
+    assert_eq!(rt; count, 67);
+    Ok(())
+}
+
+#[test]
+fn values_that_fit(rt: HostRuntime) -> Result<(), Fail> {
+    let setup = Setup::built_in(rt.alloc())?;
+    assert!(rt; setup.fits(FieldNo(11), &Value::Date(Day(47_481))));
+    assert!(rt; !setup.fits(FieldNo(11), &Value::Date(Day(47_482))));
+    assert!(rt; !setup.fits(FieldNo(11), &Value::Date(Day(-1))));
+    assert!(rt; setup.fits(FieldNo(12), &Value::Number(999_999_999_999)));
+    assert!(rt; !setup.fits(FieldNo(12), &Value::Number(1_000_000_000_000)));
+    assert!(rt; !setup.fits(FieldNo(12), &Value::Number(-1)));
+    assert!(rt; setup.fits(FieldNo(4), &Value::Choice(ChoiceNo(3))));
+    assert!(rt; !setup.fits(FieldNo(4), &Value::Choice(ChoiceNo(4))));
+    assert!(rt; !setup.fits(FieldNo(5), &Value::Choice(ChoiceNo(0))));
+    assert!(rt; !setup.fits(FieldNo(4), &Value::Empty));
+    assert!(rt; setup.fits(FieldNo(3), &Value::Empty));
+    assert!(rt; !setup.fits(FieldNo(14), &Value::Empty));
+    Ok(())
+}
+
+/// Each line has a kind of thing, a name, and the number of the thing of that name, or `none`.
+const NAMES: &str = r#"
+user | anna | 0
+user | ROOT | 3
+user | roo | none
+user |  | none
+project | OPS | 0
+project | ops | 0
+project | OP | none
+transition | Start | 0
+transition | reopen | 3
+transition | close | none
+group | TEAM | 1
+group | Guests | 3
+group | staff | none
+field | type | 1
+field | FIXVERSION | 9
+field | Sprint | 13
+field | duedate | none
+field | rank | none
+status | done | 3
+status | In Progress | 1
+status | Gone | none
+version | 1.1 | 1
+assignee | anna | none
+"#;
+
+/// The number of the thing of that name.
+fn number_named(setup: &Setup, kind: &str, name: &str) -> Option<u16> {
+    match kind {
+        "user" => Some(setup.user_named(name)?.0),
+        "project" => Some(setup.project_named(name)?.0),
+        "transition" => u16::try_from(setup.transition_named(name)?).ok(),
+        "group" => Some(setup.group_named(name)?.0),
+        "field" => Some(setup.field_named(name)?.0),
+        "status" => Some(setup.choice_named(FieldNo(4), name)?.0),
+        "version" => Some(setup.choice_named(FieldNo(9), name)?.0),
+        "size" => Some(setup.choice_named(FieldNo(10_030), name)?.0),
+        _ => Some(setup.choice_named(FieldNo(5), name)?.0),
+    }
+}
+
+fn check_names(rt: &impl Abort, setup: &Setup, cases: &str) -> Result<usize, Fail> {
+    let mut count = 0usize;
+    for case in cases.lines() {
+        if case.is_empty() {
+            continue;
+        }
+        let (kind, rest) = case.split_once(" | ").ok_or("no case")?;
+        let (name, wanted) = rest.split_once(" | ").ok_or("no case")?;
+        let found = number_named(setup, kind, name);
+        assert!(rt; found == wanted.parse::<u16>().ok(), "{case}");
+        count = count.checked_add(1).ok_or("many")?;
+    }
+    Ok(count)
+}
+
+#[test]
+fn things_by_name(rt: HostRuntime) -> Result<(), Fail> {
+    let setup = Setup::built_in(rt.alloc())?;
+    let count = check_names(&rt, &setup, NAMES)?;
+    assert_eq!(rt; count, 23);
+    Ok(())
+}
+
+/// Each line has a user, a permission, a project, or `none`, and whether the user has it there.
+const PERMISSIONS: &str = r#"
+cy | browse | OPS | yes
+cy | edit | OPS | no
+bo | rank | OPS | yes
+bo | create | OPS | yes
+bo | transition | OPS | yes
+bo | plan | none | yes
+bo | administer | none | no
+root | administer | OPS | yes
+anna | edit | none | no
+"#;
+
+fn permission(word: &str) -> Permission {
+    match word {
+        "browse" => Permission::Browse,
+        "create" => Permission::Create,
+        "edit" => Permission::Edit,
+        "transition" => Permission::Transition,
+        "rank" => Permission::Rank,
+        "plan" => Permission::Plan,
+        _ => Permission::Administer,
+    }
+}
+
+fn check_permissions(rt: &impl Abort, setup: &Setup, cases: &str) -> Result<usize, Fail> {
+    let mut count = 0usize;
+    for case in cases.lines() {
+        if case.is_empty() {
+            continue;
+        }
+        let (user, rest) = case.split_once(" | ").ok_or("no case")?;
+        let (word, rest) = rest.split_once(" | ").ok_or("no case")?;
+        let (project, wanted) = rest.split_once(" | ").ok_or("no case")?;
+        let user = setup.user_named(user).ok_or("no user")?;
+        let found = setup.may(user, permission(word), setup.project_named(project));
+        assert!(rt; found == (wanted == "yes"), "{case}");
+        count = count.checked_add(1).ok_or("many")?;
+    }
+    Ok(count)
+}
+
+#[test]
+fn permissions(rt: HostRuntime) -> Result<(), Fail> {
+    let setup = Setup::built_in(rt.alloc())?;
+    let count = check_permissions(&rt, &setup, PERMISSIONS)?;
+    assert_eq!(rt; count, 9);
+    Ok(())
+}
+
+/// Rows of the same kind of a group's new members.
+const AFTER: &str = r#"
+cy | administer | none | yes
+root | administer | none | no
+anna | plan | none | yes
+"#;
+
+/// Gives the administrators one member, the user cy.
+fn with_cy(alloc: Global, setup: &mut Setup) -> Result<bool, Fail> {
+    let cy = UserNo(2);
+    let mut members = Sequence::new(alloc);
+    members.push(cy)?;
+    if setup.group.as_slice().len() < 2 || setup.users.as_slice().len() < 3 {
+        return Ok(false);
+    }
+    setup.set_members(GroupNo(2), members);
+    Ok(true)
+}
+
+#[test]
+fn members_that_change(rt: HostRuntime) -> Result<(), Fail> {
+    let mut setup = Setup::built_in(rt.alloc())?;
+    assert!(rt; with_cy(rt.alloc(), &mut setup)?);
+    assert_eq!(rt; check_permissions(&rt, &setup, AFTER)?, 3);
+    assert_eq!(rt; setup.text.as_str(), BUILT_IN);
+    Ok(())
+}
+
+/// Names of the largest setup.
+const LARGE_NAMES: &str = r#"
+user | U196 | 195
+user | root | 199
+project | cw | 49
+transition | T196 | 199
+group | G097 | 100
+field | F030 | 10030
+status | S046 | 49
+version | V498 | 497
+version | 1.1 | 499
+size | U196 | 195
+"#;
+
+fn large_text(rt: &impl Abort, alloc: Global) -> Result<String, Fail> {
+    let mut text = String::from_str(alloc, BUILT_IN)?;
+    for edits in LARGE.lines() {
+        if !edits.is_empty() {
+            text = edited_by(rt, alloc, text.as_str(), edits)?;
+        }
+    }
+    Ok(text)
+}
+
+#[test]
+fn a_large_setup(rt: HostRuntime) -> Result<(), Fail> {
+    let text = large_text(&rt, rt.alloc())?;
+    let Ok(setup) = Setup::read(rt.alloc(), text.as_str().as_bytes()) else {
+        return Err("refused".into());
+    };
+    assert_eq!(rt; check_names(&rt, &setup, LARGE_NAMES)?, 10);
+    assert_eq!(rt; setup.steps(), 400);
+    let last = setup.step(399).ok_or("no step")?;
+    assert_eq!(rt; last.0.seconds(), 1_400_000_000);
+    assert!(rt; setup.step(400).is_none());
+    assert_eq!(rt; setup.day_of(last.0).0, 16_203);
+    Ok(())
+}
