@@ -1,0 +1,247 @@
+ghost use Rattle.std.specs.Prelude.{◌≡◌, ◌≤◌, ◌+◌, ◌-◌, ◌^◌, ◌<◌, ◌++◌, ◌∷◌, length, vec_len, vec_capacity, IfOk, OnOk, OnErr, option_copied, option_map, unwrap_or, slice_get, []};
+ghost use Rattle.change_history.specs.History.{History, present, opening_value, updated, MayAdd};
+ghost use Rattle.change_history.specs.Span.{entries_of, span_of};
+ghost use Rattle.change_history.specs.Places.{place_of, set_place, places_after, value_at};
+
+use crate::change::{Change, Changes};
+use crate::entry::{Entry, Group};
+use crate::key::Key;
+use crate::places::{Place, opening_places, place_of, set_place};
+use crate::span::Span;
+use fields::{FieldNo, IssueNo, Memory, Moment, UserNo, Value};
+use std::alloc::Global;
+use std::marker::Model;
+
+/// An issue with its whole history. Contracts see it as that history, and beside it how many entries there is room for.
+#[derive(Debug, Drop)]
+pub struct Issue {
+    no: IssueNo,
+    key: Key,
+    change: u64,
+    at: Moment,
+    author: UserNo,
+    updated: Moment,
+    opening: Vec<Change>,
+    entries: Vec<Entry>,
+    places: Vec<Place>,
+    room: usize,
+    // What a field holds that never had a value.
+    empty: Value,
+}
+
+impl Model for Issue {
+    ghost use Rattle.std.specs.Prelude.{◌+◌, vec_len, vec_capacity};
+    ghost use Rattle.change_history.specs.History.{Kept};
+    ghost use Rattle.change_history.specs.Places.{IsKept};
+
+    ghost Value = { Kept };
+
+    ghost view = { λ i. record { history = record { no = i.no; key = i.key; change = i.change; at = i.at; author = i.author; opening = i.opening.items; entries = i.entries.items }; room = i.room } };
+
+    ghost invariant = { λ i. IsKept i.opening.items i.entries.items i.places.items i.empty i.updated (vec_len i.entries + i.room) (vec_capacity i.entries) (vec_len i.places + i.room) (vec_capacity i.places) (record { no = i.no; key = i.key; change = i.change; at = i.at; author = i.author; opening = i.opening.items; entries = i.entries.items }) };
+}
+
+impl Issue {
+    /// A new issue with these opening values; a field that isn't among them is empty. `change` is the number of the
+    /// creation, which is a change group of its own.
+    pub fn open(
+        alloc: Global,
+        no: IssueNo,
+        key: Key,
+        change: u64,
+        at: Moment,
+        author: UserNo,
+        values: Changes,
+    ) -> Result<Issue, Memory>
+        ensures history { IfOk result (λ issue. issue.history ≡ record { no = no; key = key; change = change; at = at; author = author; opening = values; entries = [] }) }
+        ensures room { IfOk result (λ issue. issue.room ≡ 0) }
+    {
+        let places = opening_places(alloc, values.as_slice())?;
+        Ok(Issue {
+            no,
+            key,
+            change,
+            at,
+            author,
+            updated: at,
+            opening: values.list,
+            entries: Vec::new(alloc),
+            places,
+            room: 0,
+            empty: Value::Empty,
+        })
+    }
+
+    /// The issue's number.
+    pub fn no(&self) -> IssueNo
+        ensures { result ≡ self.now.history.no }
+    {
+        self.no
+    }
+
+    /// The issue's key, lent.
+    pub fn key(&self) -> &Key
+        ensures { result.now ≡ self.now.history.key }
+    {
+        &self.key
+    }
+
+    /// The number of the creation's change group.
+    pub fn change(&self) -> u64
+        ensures { result ≡ self.now.history.change }
+    {
+        self.change
+    }
+
+    /// The moment of the creation.
+    pub fn created(&self) -> Moment
+        ensures { result ≡ self.now.history.at }
+    {
+        self.at
+    }
+
+    /// The moment of the last change group, the creation among them.
+    pub fn updated(&self) -> Moment
+        ensures { result ≡ updated self.now.history }
+    {
+        self.updated
+    }
+
+    /// The present value of a field, lent.
+    pub fn value(&self, field: FieldNo) -> &Value
+        ensures { result.now ≡ present self.now.history field }
+    {
+        match place_of(&self.places, field) {
+            Some(at) => value_at(&self.opening, &self.entries, at).unwrap_or(&self.empty),
+            None => &self.empty,
+        }
+    }
+
+    /// Entry k of the issue, from 0; `None` exactly where there are at most k.
+    pub fn entry(&self, k: usize) -> Option<&Entry>
+        ensures { option_copied result ≡ slice_get self.now.history.entries k }
+    {
+        self.entries.get(k)
+    }
+
+    /// How many entries the issue has.
+    pub fn entries(&self) -> usize
+        ensures { result ≡ length self.now.history.entries }
+    {
+        self.entries.len()
+    }
+
+    /// Span k of a field: span 0 begins at the creation, and span k at the field's k-th entry. `None` exactly where the
+    /// field has fewer than k entries.
+    pub fn span(&self, field: FieldNo, k: usize) -> Option<Span<'_>>
+        ensures { option_map (λ s. record { begin = s.begin; end = s.end; author = s.author; value = s.value.now }) result ≡ span_of self.now.history field k }
+    {
+        let end = entry_of(&self.entries, field, k).map(|entry| entry.at);
+        if k == 0 {
+            let value = opening_value(&self.opening, field).unwrap_or(&self.empty);
+            return Some(Span {
+                begin: self.at,
+                end,
+                author: self.author,
+                value,
+            });
+        }
+        let entry = entry_of(&self.entries, field, k - 1)?;
+        Some(Span {
+            begin: entry.at,
+            end,
+            author: entry.author,
+            value: &entry.to,
+        })
+    }
+
+    /// Makes room for n entries more, or leaves all as it is.
+    pub fn reserve(&mut self, n: usize) -> Result<(), Memory>
+        ensures ok { OnOk result (self.new ≡ record self.old { room = n }) }
+        ensures err { OnErr result (self.new ≡ self.old) }
+        ensures history { self.new.history ≡ self.old.history }
+    {
+        self.places.reserve(n)?;
+        self.entries.reserve(n)?;
+        self.room = n;
+        Ok(())
+    }
+
+    /// Adds a group's entries at the end of the history, and changes nothing else. It takes no memory.
+    pub fn add(&mut self, group: Group)
+        requires room { length group.entries ≤ self.old.room }
+        requires group { MayAdd self.old.history group.change group.at group.author group.entries }
+        ensures history { self.new.history ≡ record self.old.history { entries = self.old.history.entries ++ group.entries } }
+        ensures room { self.new.room ≡ self.old.room - length group.entries }
+    {
+        let entries = group.entries.list;
+        self.room -= entries.len();
+        self.updated = group.at;
+        let first = self.opening.len() + self.entries.len();
+        set_places(&mut self.places, first, &entries);
+        append_all(&mut self.entries, entries);
+    }
+}
+
+// The value at a place.
+fn value_at<'a>(opening: &'a [Change], entries: &'a [Entry], at: usize) -> Option<&'a Value>
+    ensures { option_copied result ≡ value_at opening.now entries.now at }
+{
+    match opening.get(at) {
+        Some(change) => Some(&change.to),
+        None => match entries.get(at - opening.len()) {
+            Some(entry) => Some(&entry.to),
+            None => None,
+        },
+    }
+}
+
+fn opening_value<'a>(opening: &'a [Change], field: FieldNo) -> Option<&'a Value>
+    ensures { unwrap_or (option_copied result) Value.Empty ≡ opening_value opening.now field }
+{
+    for change in opening {
+        if change.field.0 == field.0 {
+            return Some(&change.to);
+        }
+    }
+    None
+}
+
+// Entry k of a field, from 0.
+fn entry_of(entries: &[Entry], field: FieldNo, k: usize) -> Option<&Entry>
+    ensures { option_copied result ≡ slice_get (entries_of entries.now field) k }
+{
+    let mut left = k;
+    for entry in entries {
+        if entry.field.0 == field.0 {
+            if left == 0 {
+                return Some(entry);
+            }
+            left -= 1;
+        }
+    }
+    None
+}
+
+// Sets the places of the fields that these entries change, the first of which will stand at `first`.
+fn set_places(places: &mut Vec<Place>, first: usize, entries: &[Entry])
+    requires room { vec_len places.old + length entries.now ≤ vec_capacity places.old }
+    requires few { first + length entries.now < 2 ^ 64 }
+    ensures items { places.new.items ≡ places_after places.old.items first entries.now }
+    ensures len { vec_len places.new ≤ vec_len places.old + length entries.now }
+    ensures capacity { vec_capacity places.old ≤ vec_capacity places.new }
+{
+    for (index, entry) in entries.iter().enumerate() {
+        set_place(places, entry.field, first + index);
+    }
+}
+
+// Puts the entries at the end, where there is room.
+fn append_all(entries: &mut Vec<Entry>, mut more: Vec<Entry>)
+    requires { vec_len entries.old + vec_len more ≤ vec_capacity entries.old }
+    ensures items { entries.new.items ≡ entries.old.items ++ more.items }
+    ensures len { vec_len entries.new ≡ vec_len entries.old + vec_len more }
+    ensures capacity { vec_capacity entries.old ≤ vec_capacity entries.new }
+{
+    entries.append(&mut more).unwrap();
+}

@@ -1,0 +1,17 @@
+//! The issues with their whole histories: what each was opened with, and every change since.
+#![tactic(auto)]
+
+mod change;
+mod entry;
+mod issue;
+mod key;
+mod places;
+mod span;
+#[cfg(test)]
+mod tests;
+
+pub use change::{Change, Changes};
+pub use entry::{Entries, Entry, Group};
+pub use issue::Issue;
+pub use key::Key;
+pub use span::Span;
