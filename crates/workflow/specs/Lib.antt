@@ -1,0 +1,11 @@
+pub mod FieldNumbers
+pub mod Same
+pub mod Net
+pub mod Conditions
+pub mod Inputs
+pub mod Validators
+pub mod PostFunctions
+pub mod Plan
+pub mod Difference
+pub mod Laws
+pub mod Rows

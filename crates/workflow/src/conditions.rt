@@ -1,0 +1,118 @@
+// Who may make a transition, and from where.
+ghost use Rattle.std.specs.Prelude.{◌≡◌, ◌==◌, ◌<◌, length, not, position, IfSome};
+ghost use Rattle.std.specs.List.{list_any};
+ghost use Rattle.fields.specs.SetupParts.{has_member};
+ghost use Rattle.workflow.specs.Conditions.{is_user, passes, condition_holds, is_among, failing_condition};
+
+use crate::project::project_of;
+use change_history::Issue;
+use fields::{
+    CallerTest, ChoiceNo, Condition, FieldNo, Group, GroupNo, Setup, Transition, UserNo, Value,
+};
+
+const STATUS: FieldNo = FieldNo(4);
+
+const ASSIGNEE: FieldNo = FieldNo(5);
+
+const REPORTER: FieldNo = FieldNo(6);
+
+fn is_user(user: UserNo, value: &Value) -> bool
+    ensures { result ≡ is_user user value.now }
+{
+    match value {
+        Value::User(no) => no.0 == user.0,
+        _ => false,
+    }
+}
+
+fn is_member(members: &[UserNo], user: UserNo) -> bool
+    ensures { result ≡ list_any (λ member. member.0 == user.0) members.now }
+{
+    members.iter().any(|member| member.0 == user.0)
+}
+
+/// Whether the group has the user.
+fn has_member(groups: &[Group], user: UserNo, group: GroupNo) -> bool
+    ensures { result ≡ has_member groups.now user.0 group }
+{
+    match groups.get(usize::from(group.0.saturating_sub(1))) {
+        Some(group) => is_member(group.members.as_slice(), user),
+        None => false,
+    }
+}
+
+fn passes(setup: &Setup, issue: &Issue, caller: UserNo, test: CallerTest) -> bool
+    ensures { result ≡ passes setup.now issue.now.history caller test }
+{
+    match test {
+        CallerTest::IsAssignee => is_user(caller, issue.value(ASSIGNEE)),
+        CallerTest::IsReporter => is_user(caller, issue.value(REPORTER)),
+        CallerTest::InGroup(group) => has_member(setup.group.as_slice(), caller, group),
+        CallerTest::HasPermission(permission) => setup.may(
+            caller,
+            permission,
+            project_of(setup, issue),
+        ),
+    }
+}
+
+fn passes_one(setup: &Setup, issue: &Issue, caller: UserNo, tests: &[CallerTest]) -> bool
+    ensures { result ≡ list_any (passes setup.now issue.now.history caller) tests.now }
+{
+    tests.iter().any(|test| passes(setup, issue, caller, *test))
+}
+
+/// Whether one of the condition's tests passes.
+fn condition_holds(setup: &Setup, issue: &Issue, caller: UserNo, condition: &Condition) -> bool
+    ensures { result ≡ condition_holds setup.now issue.now.history caller condition.now }
+{
+    passes_one(setup, issue, caller, condition.any_of.as_slice())
+}
+
+fn is_one_of(statuses: &[ChoiceNo], status: ChoiceNo) -> bool
+    ensures { result ≡ list_any (λ s. s.0 == status.0) statuses.now }
+{
+    statuses.iter().any(|other| other.0 == status.0)
+}
+
+fn is_among(statuses: &[ChoiceNo], value: &Value) -> bool
+    ensures { result ≡ is_among statuses.now value.now }
+{
+    match value {
+        Value::Choice(status) => is_one_of(statuses, *status),
+        _ => false,
+    }
+}
+
+fn first_failing(
+    setup: &Setup,
+    issue: &Issue,
+    caller: UserNo,
+    conditions: &[Condition],
+) -> Option<usize>
+    ensures place { result
+        ≡ position (λ condition. not (condition_holds setup.now issue.now.history caller condition)) conditions.now }
+    ensures within { IfSome result (λ place. place < length conditions.now) }
+{
+    conditions.iter().position(|condition| !condition_holds(setup, issue, caller, condition))
+}
+
+/// The first condition that fails: 0 is that the issue's status is among those that the transition leaves, and the
+/// setup's count from 1.
+#[tactic(auto, unfolding(crate::specs::Conditions::failing_condition))]
+pub(crate) fn failing_condition(
+    setup: &Setup,
+    issue: &Issue,
+    caller: UserNo,
+    transition: &Transition,
+) -> Option<usize>
+    ensures { result ≡ failing_condition setup.now issue.now.history caller transition.now }
+{
+    if !is_among(transition.from.as_slice(), issue.value(STATUS)) {
+        return Some(0);
+    }
+    match first_failing(setup, issue, caller, transition.conditions.as_slice()) {
+        Some(place) => Some(place + 1),
+        None => None,
+    }
+}

@@ -1,0 +1,21 @@
+//! Transitions: who may make them, what they ask of the issue, and what they change.
+#![tactic(auto)]
+
+mod conditions;
+mod fault;
+mod inputs;
+pub mod laws;
+mod net;
+mod planning;
+mod post_functions;
+mod project;
+mod same;
+#[cfg(test)]
+mod tests;
+mod validators;
+
+pub use fault::PlanFault;
+pub use inputs::refused_input;
+pub use net::net_changes;
+pub use planning::plan;
+pub use project::project_of;

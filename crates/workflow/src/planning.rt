@@ -1,0 +1,126 @@
+ghost use Rattle.std.specs.Prelude.{◌≡◌, ◌<◌, ◌∷◌, ◌++◌, [], length, slice_get, IfOk, IfSome};
+ghost use Rattle.workflow.specs.Plan.{first_fault, all_changes, planned, Answers};
+
+use crate::conditions::failing_condition;
+use crate::fault::PlanFault;
+use crate::inputs::refused_input;
+use crate::net::{change_copy, net_changes};
+use crate::post_functions::put_post;
+use crate::validators::failing_validator;
+use change_history::{Change, Changes, Issue};
+use fields::{FieldNo, Memory, Moment, Setup, Transition, UserNo, Value};
+use std::alloc::Global;
+
+const STATUS: FieldNo = FieldNo(4);
+
+fn copies(alloc: Global, changes: &[Change]) -> Result<Changes, Memory>
+    ensures { IfOk result (λ copies. copies ≡ changes.now) }
+{
+    let mut copies = Changes::new(alloc);
+    for change in changes {
+        copies.push(change_copy(alloc, change)?)?;
+    }
+    Ok(copies)
+}
+
+/// All that a transition changes: the inputs, then the status, then what the post functions set.
+#[tactic(auto, unfolding(crate::specs::Plan::all_changes))]
+fn all_changes(
+    alloc: Global,
+    setup: &Setup,
+    issue: &Issue,
+    caller: UserNo,
+    transition: &Transition,
+    inputs: &[Change],
+) -> Result<Changes, Memory>
+    ensures { IfOk result (λ changes. changes
+        ≡ all_changes setup.now issue.now.history caller transition.now inputs.now) }
+{
+    let mut changes = copies(alloc, inputs)?;
+    changes.push(Change {
+        field: STATUS,
+        to: Value::Choice(transition.to),
+    })?;
+    put_post(
+        alloc,
+        setup,
+        issue,
+        caller,
+        &mut changes,
+        transition.post.as_slice(),
+    )?;
+    Ok(changes)
+}
+
+/// The changes of an issue that a transition makes of its present values, by rising field number and each to another
+/// value: the inputs, the new status and what the post functions set, of which later ones overrule earlier ones. The
+/// first check that fails is told: of the conditions, of the inputs in the order of their fields' numbers, of the
+/// validators, which see the issue after the inputs. `transition` is its place in the setup's list.
+pub fn plan(
+    alloc: Global,
+    setup: &Setup,
+    issue: &Issue,
+    caller: UserNo,
+    transition: usize,
+    inputs: &[Change],
+    at: Moment,
+) -> Result<Changes, PlanFault>
+    requires { transition < length setup.now.transition }
+    ensures { IfSome (slice_get setup.now.transition transition) (λ t.
+        Answers (first_fault setup.now issue.now.history caller t inputs.now at)
+        (planned setup.now issue.now.history caller t inputs.now) result) }
+{
+    plan_of(
+        alloc,
+        setup,
+        issue,
+        caller,
+        &setup.transition.as_slice()[transition],
+        inputs,
+        at,
+    )
+}
+
+/// The first check that fails.
+#[tactic(auto, unfolding(crate::specs::Plan::first_fault))]
+fn first_fault(
+    setup: &Setup,
+    issue: &Issue,
+    caller: UserNo,
+    transition: &Transition,
+    inputs: &[Change],
+    at: Moment,
+) -> Option<PlanFault>
+    ensures { result ≡ first_fault setup.now issue.now.history caller transition.now inputs.now at }
+{
+    if let Some(place) = failing_condition(setup, issue, caller, transition) {
+        return Some(PlanFault::Condition(place));
+    }
+    if let Some(field) = refused_input(setup, inputs) {
+        return Some(PlanFault::Value(field));
+    }
+    if let Some(place) = failing_validator(setup, issue, caller, transition, inputs, at) {
+        return Some(PlanFault::Validator(place));
+    }
+    None
+}
+
+#[tactic(auto, unfolding(crate::specs::Plan::planned))]
+fn plan_of(
+    alloc: Global,
+    setup: &Setup,
+    issue: &Issue,
+    caller: UserNo,
+    transition: &Transition,
+    inputs: &[Change],
+    at: Moment,
+) -> Result<Changes, PlanFault>
+    ensures { Answers (first_fault setup.now issue.now.history caller transition.now inputs.now at)
+        (planned setup.now issue.now.history caller transition.now inputs.now) result }
+{
+    if let Some(fault) = first_fault(setup, issue, caller, transition, inputs, at) {
+        return Err(fault);
+    }
+    let changes = all_changes(alloc, setup, issue, caller, transition, inputs)?;
+    Ok(net_changes(alloc, issue, changes.as_slice())?)
+}
