@@ -1,0 +1,100 @@
+//! The rank between two neighbours that may be in different buckets.
+ghost use Rattle.std.specs.Prelude.{◌≡◌, ◌<◌, ◌↔◌, IsTrue, IfOk, IfErr, IfSome};
+ghost use Rattle.std.specs.Option.{option_copied};
+ghost use Rattle.rank_strings.specs.Rank.{IsBelow};
+ghost use Rattle.board.specs.Order.{IsOrder};
+ghost use Rattle.board.specs.Place.{rank_above, rank_below, IsBeside, bucket_between, bucket_beside, if_in, IsChosenBeside, ExplainsBeside};
+
+use fields::IssueNo;
+use rank_strings::{Rank, RankFault, between};
+use std::alloc::Global;
+
+/// The rank at a place, where there is one.
+pub(crate) fn rank_at(pairs: &[(Rank, IssueNo)], place: usize) -> Option<&Rank>
+    ensures { option_copied result ≡ rank_below pairs.now place }
+{
+    match pairs.get(place) {
+        Some(pair) => Some(&pair.0),
+        None => None,
+    }
+}
+
+/// The rank before a place, where there is one.
+pub(crate) fn rank_before(pairs: &[(Rank, IssueNo)], place: usize) -> Option<&Rank>
+    ensures { option_copied result ≡ rank_above pairs.now place }
+{
+    match place.checked_sub(1) {
+        Some(before) => rank_at(pairs, before),
+        None => None,
+    }
+}
+
+/// Whether a pair at a place is one of the two beside a gap.
+pub(crate) fn is_beside(place: usize, above: usize) -> bool
+    ensures { IsTrue result ↔ IsBeside place above }
+{
+    place <= above && above - place <= 1
+}
+
+fn bucket_between(low: u8, high: u8) -> u8
+    ensures { result ≡ bucket_between low high }
+{
+    if low == 0 && high == 2 { 0 } else { high }
+}
+
+/// The bucket of a place between these ranks.
+fn bucket_beside(low: Option<&Rank>, high: Option<&Rank>, empty_bucket: u8) -> u8
+    requires { empty_bucket < 3 }
+    ensures bucket { result ≡ bucket_beside (option_copied low.entry) (option_copied high.entry) empty_bucket }
+    ensures in_circle { result < 3 }
+{
+    match (low, high) {
+        (Some(low), Some(high)) => bucket_between(low.bucket(), high.bucket()),
+        (Some(low), None) => low.bucket(),
+        (None, Some(high)) => high.bucket(),
+        (None, None) => empty_bucket,
+    }
+}
+
+/// The rank, where it is in the bucket.
+fn if_in<'a>(bucket: u8, rank: Option<&'a Rank>) -> Option<&'a Rank>
+    ensures { option_copied result ≡ if_in bucket (option_copied rank.entry) }
+{
+    match rank {
+        Some(rank) if rank.bucket() == bucket => Some(rank),
+        _ => None,
+    }
+}
+
+/// The rank that is chosen between the neighbours of a place, of which those in its bucket decide.
+pub(crate) fn rank_between(
+    alloc: Global,
+    low: Option<&Rank>,
+    high: Option<&Rank>,
+    empty_bucket: u8,
+) -> Result<Rank, RankFault>
+    requires bucket { empty_bucket < 3 }
+    requires in_order { IfSome (option_copied low) (λ l. IfSome (option_copied high) (λ h. IsBelow l h)) }
+    ensures chosen { IfOk result (IsChosenBeside (option_copied low.entry) (option_copied high.entry) empty_bucket) }
+    ensures fault { IfErr result (ExplainsBeside (option_copied low.entry) (option_copied high.entry) empty_bucket) }
+{
+    let bucket = bucket_beside(low, high, empty_bucket);
+    between(alloc, if_in(bucket, low), if_in(bucket, high), bucket)
+}
+
+/// The rank that is chosen where so many pairs stand above.
+pub(crate) fn rank_at_gap(
+    alloc: Global,
+    pairs: &[(Rank, IssueNo)],
+    above: usize,
+    empty_bucket: u8,
+) -> Result<Rank, RankFault>
+    requires bucket { empty_bucket < 3 }
+    requires order { IsOrder pairs.now }
+    ensures chosen { IfOk result (IsChosenBeside (rank_above pairs.now above) (rank_below pairs.now above) empty_bucket) }
+    ensures fault { IfErr result (ExplainsBeside (rank_above pairs.now above) (rank_below pairs.now above) empty_bucket) }
+{
+    let low = rank_before(pairs, above);
+    let high = rank_at(pairs, above);
+    rank_between(alloc, low, high, empty_bucket)
+}

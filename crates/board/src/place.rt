@@ -1,0 +1,14 @@
+//! Where an issue is to stand.
+
+use fields::IssueNo;
+
+/// A place in the order of issues, which runs from the least rank, the top of a board, to the greatest.
+#[derive(Clone, Copy, Debug, PartialEq, Eq)]
+pub enum Place {
+    /// Just before this issue.
+    Before(IssueNo),
+    /// Just after this issue.
+    After(IssueNo),
+    /// After all issues.
+    Last,
+}
