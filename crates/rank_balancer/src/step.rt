@@ -1,0 +1,84 @@
+//! A step of the rebalancing: planned first, and then applied.
+ghost use Rattle.std.specs.Prelude.{◌≡◌, ◌≤◌, ◌<◌, IfOk, IfErr, min, length, vec_len};
+ghost use Rattle.board.specs.Order.{IsOrder};
+ghost use Rattle.rank_balancer.specs.Balance.{Agrees, IsMoving, next_bucket, from_of, to_of};
+ghost use Rattle.rank_balancer.specs.Step.{IsStep, ArePicks, ExplainsRefusal, after_moves, balance_after};
+
+use crate::balance::Balance;
+use crate::plan::plan_moves;
+use crate::search::pick;
+use board::Order;
+use fields::IssueNo;
+use rank_strings::{Rank, RankFault};
+use std::alloc::Global;
+use std::marker::Model;
+
+/// The moves of a step, in their order. Contracts see the list of issues and their new ranks.
+#[derive(Debug, Drop)]
+pub struct StepPlan {
+    moves: Vec<(IssueNo, Rank)>,
+}
+
+impl Model for StepPlan {
+    ghost use Rattle.std.specs.Prelude.{List};
+    ghost use Rattle.fields.specs.declared.numbers.IssueNo.{IssueNo};
+    ghost use Rattle.rank_strings.specs.Rank.{RankParts};
+
+    ghost Value = { List (IssueNo × RankParts) };
+
+    ghost view = { λ p. p.moves.items };
+}
+
+impl StepPlan {
+    /// Each issue with its new rank, in the order of the picks.
+    pub fn moves(&self) -> &[(IssueNo, Rank)]
+        ensures { result.now ≡ self.now }
+    {
+        &self.moves
+    }
+}
+
+/// Plans so many picks at most, one after the other, and changes nothing.
+///
+/// Where one pick has no room, the whole plan is refused: `Exhausted` comes exactly then, with the pick's neighbour.
+pub fn plan_step(
+    alloc: Global,
+    order: &Order,
+    balance: &Balance,
+    at_most: u32,
+) -> Result<StepPlan, RankFault>
+    requires moving { IsMoving balance.now }
+    requires agrees { Agrees order.now.pairs balance.now }
+    requires count { (1 ≤ at_most) × (at_most ≤ 1000) }
+    ensures step { IfOk result (IsStep order.now.pairs (from_of balance.now) (to_of balance.now) at_most) }
+    ensures fault { IfErr result (ExplainsRefusal order.now.pairs (from_of balance.now) (to_of balance.now) at_most) }
+{
+    match *balance {
+        Balance::Moving { from, .. } => Ok(StepPlan {
+            moves: plan_moves(alloc, order.list(), from, at_most as usize)?,
+        }),
+        Balance::Idle(_) => Ok(StepPlan {
+            moves: Vec::new(alloc),
+        }),
+    }
+}
+
+/// Makes the planned moves. The balance is idle in the new bucket exactly where no rank of the old one is left. It takes no memory.
+pub fn apply(plan: StepPlan, order: &mut Order, balance: &mut Balance)
+    requires moving { IsMoving balance.old }
+    requires agrees { Agrees order.old.pairs balance.old }
+    requires planned { ArePicks order.old.pairs (from_of balance.old) (to_of balance.old) plan }
+    ensures order { order.new ≡ record order.old { pairs = after_moves order.old.pairs plan } }
+    ensures balance { balance.new ≡ balance_after order.new.pairs (from_of balance.old) (to_of balance.old) }
+{
+    // The proof needs that it is an order.
+    let _ = order.list();
+    for (issue, rank) in plan.moves {
+        order.put(issue, rank);
+    }
+    if let Balance::Moving { to, .. } = *balance {
+        if pick(order, balance).is_none() {
+            *balance = Balance::Idle(to);
+        }
+    }
+}
