@@ -4,8 +4,9 @@ use Rattle.std.specs.Str.{is_utf8, bytes_eq}
 use Rattle.serde_json.specs.Data.{Data, Members, member, no_members}
 use Rattle.serde_json.specs.Find.{get, as_str, as_number, as_u64, as_object}
 use Rattle.serde_json.specs.Read.{read}
+use Rattle.tracker_calls.specs.Given.{set_at, set_if_there}
 use Rattle.tracker_calls.specs.declared.call.Call.{Call}
-use Rattle.tracker_calls.specs.declared.call.Call.TheVariants.{Tick}
+use Rattle.tracker_calls.specs.declared.call.Call.TheVariants.{Create, Edit, Tick, Show}
 use Rattle.tracker_calls.specs.declared.call.CallKind.{CallKind}
 use Rattle.tracker_calls.specs.declared.call.CallKind.TheVariants as kind
 use Rattle.tracker_calls.specs.declared.reply.Refusal.{Refusal}
@@ -52,10 +53,17 @@ is_among name (other ∷ more) = bytes_eq name other || is_among name more
 -- ---- the calls and their members
 
 abbrev pub kind_named : List ℕ → Option CallKind
-kind_named name = if bytes_eq name (codes "tick") then Some kind.Tick else None
+kind_named name =
+    if bytes_eq name (codes "create") then Some kind.Create else
+    (if bytes_eq name (codes "edit") then Some kind.Edit else
+    (if bytes_eq name (codes "tick") then Some kind.Tick else
+    (if bytes_eq name (codes "show") then Some kind.Show else None)))
 
 abbrev pub is_member : CallKind → List ℕ → Bool
+is_member kind.Create name = is_among name (codes "call" ∷ codes "project" ∷ codes "set" ∷ codes "summary" ∷ codes "type" ∷ codes "user" ∷ [])
+is_member kind.Edit name = is_among name (codes "call" ∷ codes "issue" ∷ codes "set" ∷ codes "user" ∷ [])
 is_member kind.Tick name = is_among name (codes "call" ∷ codes "to" ∷ codes "user" ∷ [])
+is_member kind.Show name = is_among name (codes "call" ∷ codes "issue" ∷ codes "user" ∷ [])
 
 -- the first name in byte order that is no member of the call
 abbrev pub first_other : CallKind → List (List ℕ) → Option (List ℕ)
@@ -65,13 +73,35 @@ first_other kind names = find (λ name. not (is_member kind name)) names
 abbrev pub Asked : Type 0
 Asked = Result (List ℕ × Call) Refusal
 
+abbrev pub create_of : Data → Members → List ℕ → Asked
+create_of d members user =
+    need (text_at (codes "project") d) (codes "project") (λ project.
+    need (text_at (codes "type") d) (codes "type") (λ issue_type.
+    need (text_at (codes "summary") d) (codes "summary") (λ summary.
+    need (set_if_there d) (codes "set") (λ set.
+    no_other (first_other kind.Create (names_of members)) (Ok (user, Create project issue_type summary set))))))
+
+abbrev pub edit_of : Data → Members → List ℕ → Asked
+edit_of d members user =
+    need (text_at (codes "issue") d) (codes "issue") (λ issue.
+    need (set_at d) (codes "set") (λ set.
+    no_other (first_other kind.Edit (names_of members)) (Ok (user, Edit issue set))))
+
 abbrev pub tick_of : Data → Members → List ℕ → Asked
 tick_of d members user =
     need (moment_at (codes "to") d) (codes "to") (λ to.
     no_other (first_other kind.Tick (names_of members)) (Ok (user, Tick to)))
 
+abbrev pub show_of : Data → Members → List ℕ → Asked
+show_of d members user =
+    need (text_at (codes "issue") d) (codes "issue") (λ issue.
+    no_other (first_other kind.Show (names_of members)) (Ok (user, Show issue)))
+
 abbrev pub asked_by : CallKind → Data → Members → List ℕ → Asked
+asked_by kind.Create d members user = create_of d members user
+asked_by kind.Edit d members user = edit_of d members user
 asked_by kind.Tick d members user = tick_of d members user
+asked_by kind.Show d members user = show_of d members user
 
 -- the user and the call, or the first fault in the order of the members
 abbrev pub call_of : Data → Asked

@@ -2,15 +2,20 @@
 //! text of each reply.
 #![tactic(auto)]
 
+mod asked;
 mod call;
+mod given;
 mod line;
+mod members;
 mod reply;
 mod reply_json;
+mod show_json;
 mod user_name;
 
 pub use call::{Call, CallKind};
+pub use given::{Given, GivenField, GivenFields, has_twins};
 pub use line::read_line;
-pub use reply::{Answer, Refusal, Reply, Thing};
+pub use reply::{Answer, Limit, Refusal, Reply, Shown, ShownField, ShownFields, Thing};
 pub use reply_json::{KEEPER_TEXT, MEMORY_TEXT, reply_text};
 pub use request_lines::{
     Clock, Failed, ListClock, MemorySink, MemorySource, Sink, Source, write_all,

@@ -1,13 +1,14 @@
 // A line that comes in.
-ghost use Rattle.std.specs.Prelude.{◌≡◌, option_map};
-ghost use Rattle.serde_json.specs.View.{view, members_view};
-ghost use Rattle.tracker_calls.specs.Line.{line_of, call_of, tick_of, kind_named, text_at, moment_at, first_other, is_member, names_of, UnlessMemory};
+ghost use Rattle.std.specs.Prelude.{◌≡◌};
+ghost use Rattle.serde_json.specs.View.{view};
+ghost use Rattle.tracker_calls.specs.Line.{line_of, call_of, kind_named, UnlessMemory};
 
+use crate::asked::{create_of, edit_of, show_of, tick_of};
 use crate::call::{Call, CallKind};
+use crate::members::{misses, text_at};
 use crate::reply::Refusal;
 use crate::user_name::UserName;
-use fields::{Moment, Text};
-use serde_json::{Map, Value};
+use serde_json::Value;
 use std::alloc::Global;
 use std::str;
 
@@ -50,37 +51,10 @@ fn call_of(alloc: Global, value: &Value) -> Result<(UserName, Call), Refusal>
         return misses(alloc, "call");
     };
     match kind {
+        CallKind::Create => create_of(alloc, value, members, user),
+        CallKind::Edit => edit_of(alloc, value, members, user),
         CallKind::Tick => tick_of(alloc, value, members, user),
-    }
-}
-
-fn tick_of(
-    alloc: Global,
-    value: &Value,
-    members: &Map<String, Value>,
-    user: &str,
-) -> Result<(UserName, Call), Refusal>
-    ensures { UnlessMemory result (tick_of (view value.now) (members_view members.now.entries) user.now) }
-{
-    let Some(to) = moment_at(value, "to") else {
-        return misses(alloc, "to");
-    };
-    if let Some(other) = first_other(CallKind::Tick, members) {
-        return misses(alloc, other);
-    }
-    match UserName::copy_of(alloc, user) {
-        Ok(user) => Ok((user, Call::Tick { to })),
-        Err(_) => Err(Refusal::Memory),
-    }
-}
-
-// The refusal that names a member.
-fn misses<T>(alloc: Global, member: &str) -> Result<T, Refusal>
-    ensures { UnlessMemory result (Err (Refusal.Form member.now)) }
-{
-    match Text::copy_of(alloc, member) {
-        Ok(member) => Err(Refusal::Form { member }),
-        Err(_) => Err(Refusal::Memory),
+        CallKind::Show => show_of(alloc, value, members, user),
     }
 }
 
@@ -88,43 +62,10 @@ fn kind_named(name: &str) -> Option<CallKind>
     ensures { result ≡ kind_named name.now }
 {
     match name {
+        "create" => Some(CallKind::Create),
+        "edit" => Some(CallKind::Edit),
         "tick" => Some(CallKind::Tick),
+        "show" => Some(CallKind::Show),
         _ => None,
-    }
-}
-
-fn text_at<'v>(value: &'v Value, name: &str) -> Option<&'v str>
-    ensures { option_map (λ text. text.now) result ≡ text_at name.now (view value.now) }
-{
-    value.get(name).and_then(Value::as_str)
-}
-
-fn moment_at(value: &Value, name: &str) -> Option<Moment>
-    ensures { result ≡ moment_at name.now (view value.now) }
-{
-    value
-        .get(name)
-        .and_then(Value::as_u64)
-        .and_then(Moment::new)
-}
-
-// The first name in byte order that is no member of the call.
-#[tactic(auto, using(crate::proofs::LineLemmas::names_of_members))]
-fn first_other<'v>(kind: CallKind, members: &'v Map<String, Value>) -> Option<&'v str>
-    ensures { option_map (λ name. name.now) result ≡ first_other kind (names_of (members_view members.now.entries)) }
-{
-    for name in members.keys() {
-        if !is_member(kind, name.as_str()) {
-            return Some(name.as_str());
-        }
-    }
-    None
-}
-
-fn is_member(kind: CallKind, name: &str) -> bool
-    ensures { result ≡ is_member kind name.now }
-{
-    match kind {
-        CallKind::Tick => matches!(name, "call" | "to" | "user"),
     }
 }

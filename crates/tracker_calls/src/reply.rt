@@ -1,4 +1,8 @@
-use fields::{Moment, Text};
+ghost use Rattle.std.specs.Prelude.{◌≡◌, ◌∷◌, ◌++◌, [], OnOk, OnErr};
+
+use fields::{Memory, Moment, Names, Text};
+use std::alloc::Global;
+use std::marker::Model;
 
 /// What a line is answered.
 #[derive(Debug, Drop)]
@@ -10,8 +14,90 @@ pub enum Reply {
 /// What a call that was made tells.
 #[derive(Debug, Drop)]
 pub enum Answer {
+    /// The new issue's key and its change number. `already` where an issue of the same external id was there before.
+    Create {
+        already: bool,
+        change: u64,
+        issue: Text,
+    },
+
+    /// The number of the change group, where the edit changed anything.
+    Edit {
+        change: Option<u64>,
+        issue: Text,
+    },
+
     /// The present moment, as it is now.
-    Tick { moment: Moment },
+    Tick {
+        moment: Moment,
+    },
+
+    /// The fields that aren't empty, and the moments of the creation and of the last change.
+    Show {
+        created: Moment,
+        fields: ShownFields,
+        issue: Text,
+        updated: Moment,
+    },
+}
+
+/// A field that isn't empty, by its name.
+#[derive(Debug, Drop)]
+pub struct ShownField {
+    pub name: Text,
+    pub value: Shown,
+}
+
+/// A field's value as an answer tells it.
+#[derive(Debug, Drop)]
+pub enum Shown {
+    Text(Text),
+    /// The names of a set, or labels.
+    List(Names),
+    /// A sprint.
+    Number(u32),
+}
+
+/// The fields that an answer tells, which contracts see as a list.
+#[derive(Debug, Drop)]
+pub struct ShownFields {
+    list: Vec<ShownField>,
+}
+
+impl Model for ShownFields {
+    ghost use Rattle.std.specs.Prelude.{List};
+    ghost use Rattle.tracker_calls.specs.declared.reply.ShownField.{ShownField};
+
+    ghost Value = { List ShownField };
+
+    ghost view = { λ f. f.list.items };
+}
+
+impl ShownFields {
+    /// No field.
+    pub fn new(alloc: Global) -> Self
+        ensures { result ≡ [] }
+    {
+        ShownFields {
+            list: Vec::new(alloc),
+        }
+    }
+
+    /// Puts one more at the end, or leaves all as it is.
+    pub fn push(&mut self, field: ShownField) -> Result<(), Memory>
+        ensures ok { OnOk result (self.new ≡ self.old ++ field ∷ []) }
+        ensures err { OnErr result (self.new ≡ self.old) }
+    {
+        self.list.push(field)?;
+        Ok(())
+    }
+
+    /// The fields in order, lent.
+    pub fn as_slice(&self) -> &[ShownField]
+        ensures { result.now ≡ self.now }
+    {
+        self.list.as_slice()
+    }
 }
 
 /// Why a call changed nothing.
@@ -22,6 +108,12 @@ pub enum Refusal {
 
     /// Number 2: there is no such thing.
     Unknown { kind: Thing, name: Text },
+
+    /// Number 6: this field is the first, by its number, whose value doesn't fit.
+    Unfit { field: Text },
+
+    /// Number 10: no more are kept than this limit.
+    Limit { limit: Limit },
 
     /// Number 11: the present moment is later than the one that was asked for.
     Earlier { kept: Moment },
@@ -34,4 +126,14 @@ pub enum Refusal {
 #[derive(Clone, Copy, Debug, PartialEq, Eq)]
 pub enum Thing {
     User,
+    Project,
+    Issue,
+    Field,
+}
+
+/// What the tracker keeps no more of than a number.
+#[derive(Clone, Copy, Debug, PartialEq, Eq)]
+pub enum Limit {
+    Issues,
+    Entries,
 }

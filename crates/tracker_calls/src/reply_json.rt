@@ -1,10 +1,11 @@
 // The text of a reply: compact JSON, the members of each object in byte order of their names.
-ghost use Rattle.std.specs.Prelude.{◌≡◌, codes, IfOk};
+ghost use Rattle.std.specs.Prelude.{◌≡◌, codes, IfOk, option_map};
 ghost use Rattle.serde_json.specs.View.{view};
-ghost use Rattle.tracker_calls.specs.Reply.{reply_text, reply_data, answer_data, refusal_data, thing_name};
+ghost use Rattle.tracker_calls.specs.Reply.{reply_text, reply_data, answer_data, create_data, edit_data, tick_data, refusal_data, form_data, unknown_data, unfit_data, limit_data, earlier_data, number_data, natural_or_null, thing_name, limit_name, limit_number};
 
-use crate::reply::{Answer, Refusal, Reply, Thing};
-use fields::{Memory, Text};
+use crate::reply::{Answer, Limit, Refusal, Reply, Thing};
+use crate::show_json::show_value;
+use fields::{Memory, Moment, Text};
 use serde_json::{Value, json};
 use std::alloc::Global;
 
@@ -15,7 +16,7 @@ pub const KEEPER_TEXT: &str = "{\"refused\":{\"no\":14}}";
 pub const MEMORY_TEXT: &str = "{\"refused\":{\"no\":15}}";
 
 /// The compact JSON text of a reply.
-#[tactic(auto, unfolding(crate::specs::Reply::reply_text))]
+#[tactic(auto, unfolding(crate::specs::Reply::reply_text), using(crate::proofs::Floats::reply_has_no_float))]
 pub fn reply_text(alloc: Global, reply: &Reply) -> Result<Text, Memory>
     ensures { IfOk result (λ text. text ≡ reply_text reply.now) }
 {
@@ -43,32 +44,107 @@ fn answer_value(alloc: Global, answer: &Answer) -> Result<Value, Memory>
     ensures { IfOk result (λ value. view value ≡ answer_data answer.now) }
 {
     match answer {
-        Answer::Tick { moment } => {
-            let moment = moment.seconds();
-            Ok(json!(in alloc; {"moment": moment})?)
-        }
+        Answer::Create {
+            already,
+            change,
+            issue,
+        } => create_value(alloc, *already, *change, issue),
+        Answer::Edit { change, issue } => edit_value(alloc, *change, issue),
+        Answer::Tick { moment } => tick_value(alloc, *moment),
+        Answer::Show {
+            created,
+            fields,
+            issue,
+            updated,
+        } => show_value(alloc, *created, fields, issue, *updated),
     }
+}
+
+fn create_value(alloc: Global, already: bool, change: u64, issue: &Text) -> Result<Value, Memory>
+    ensures { IfOk result (λ value. view value ≡ create_data already change issue.now) }
+{
+    let issue = issue.as_str();
+    Ok(json!(in alloc; {"already": already, "change": change, "issue": issue})?)
+}
+
+fn edit_value(alloc: Global, change: Option<u64>, issue: &Text) -> Result<Value, Memory>
+    ensures { IfOk result (λ value. view value ≡ edit_data change issue.now) }
+{
+    let change = number_or_null(change);
+    let issue = issue.as_str();
+    Ok(json!(in alloc; {"change": &change, "issue": issue})?)
+}
+
+fn number_or_null(number: Option<u64>) -> Value
+    ensures { view result ≡ natural_or_null number }
+{
+    match number {
+        Some(number) => Value::Number(number.into()),
+        None => Value::Null,
+    }
+}
+
+fn tick_value(alloc: Global, moment: Moment) -> Result<Value, Memory>
+    ensures { IfOk result (λ value. view value ≡ tick_data moment) }
+{
+    let moment = moment.seconds();
+    Ok(json!(in alloc; {"moment": moment})?)
 }
 
 fn refusal_value(alloc: Global, refusal: &Refusal) -> Result<Value, Memory>
     ensures { IfOk result (λ value. view value ≡ refusal_data refusal.now) }
 {
     match refusal {
-        Refusal::Form { member } => {
-            let member = member.as_str();
-            Ok(json!(in alloc; {"member": member, "no": 1})?)
-        }
-        Refusal::Unknown { kind, name } => {
-            let kind = kind.name();
-            let name = name.as_str();
-            Ok(json!(in alloc; {"kind": kind, "name": name, "no": 2})?)
-        }
-        Refusal::Earlier { kept } => {
-            let kept = kept.seconds();
-            Ok(json!(in alloc; {"kept": kept, "no": 11})?)
-        }
-        Refusal::Memory => Ok(json!(in alloc; {"no": 15})?),
+        Refusal::Form { member } => form_value(alloc, member),
+        Refusal::Unknown { kind, name } => unknown_value(alloc, *kind, name),
+        Refusal::Unfit { field } => unfit_value(alloc, field),
+        Refusal::Limit { limit } => limit_value(alloc, *limit),
+        Refusal::Earlier { kept } => earlier_value(alloc, *kept),
+        Refusal::Memory => number_value(alloc, 15),
     }
+}
+
+fn form_value(alloc: Global, member: &Text) -> Result<Value, Memory>
+    ensures { IfOk result (λ value. view value ≡ form_data member.now) }
+{
+    let member = member.as_str();
+    Ok(json!(in alloc; {"member": member, "no": 1})?)
+}
+
+fn unknown_value(alloc: Global, kind: Thing, name: &Text) -> Result<Value, Memory>
+    ensures { IfOk result (λ value. view value ≡ unknown_data kind name.now) }
+{
+    let kind = kind.name();
+    let name = name.as_str();
+    Ok(json!(in alloc; {"kind": kind, "name": name, "no": 2})?)
+}
+
+fn unfit_value(alloc: Global, field: &Text) -> Result<Value, Memory>
+    ensures { IfOk result (λ value. view value ≡ unfit_data field.now) }
+{
+    let field = field.as_str();
+    Ok(json!(in alloc; {"field": field, "no": 6})?)
+}
+
+fn limit_value(alloc: Global, limit: Limit) -> Result<Value, Memory>
+    ensures { IfOk result (λ value. view value ≡ limit_data limit) }
+{
+    let name = limit.name();
+    let number = limit.number();
+    Ok(json!(in alloc; {"limit": name, "no": 10, "number": number})?)
+}
+
+fn earlier_value(alloc: Global, kept: Moment) -> Result<Value, Memory>
+    ensures { IfOk result (λ value. view value ≡ earlier_data kept) }
+{
+    let kept = kept.seconds();
+    Ok(json!(in alloc; {"kept": kept, "no": 11})?)
+}
+
+fn number_value(alloc: Global, number: u64) -> Result<Value, Memory>
+    ensures { IfOk result (λ value. view value ≡ number_data number) }
+{
+    Ok(json!(in alloc; {"no": number})?)
 }
 
 impl Thing {
@@ -78,6 +154,31 @@ impl Thing {
     {
         match self {
             Thing::User => "user",
+            Thing::Project => "project",
+            Thing::Issue => "issue",
+            Thing::Field => "field",
+        }
+    }
+}
+
+impl Limit {
+    /// The word by which a refusal names the limit.
+    pub fn name(self) -> &'static str
+        ensures { result.now ≡ limit_name self }
+    {
+        match self {
+            Limit::Issues => "issues",
+            Limit::Entries => "entries",
+        }
+    }
+
+    /// How many are kept at most.
+    pub fn number(self) -> u64
+        ensures { result ≡ limit_number self }
+    {
+        match self {
+            Limit::Issues => 50_000,
+            Limit::Entries => 2_000_000,
         }
     }
 }

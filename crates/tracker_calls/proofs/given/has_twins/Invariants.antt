@@ -1,0 +1,6 @@
+use Rattle.std.proofs.Common.{◌≡◌, drop}
+use Rattle.tracker_calls.specs.Given.{has_twins}
+use Rattle.tracker_calls.proofs.given.has_twins.Given as goal
+
+abbrev pub invariant-loop-place : goal.invariant-loop-place
+invariant-loop-place l = has_twins l.fields ≡ has_twins (drop l.place l.fields)

@@ -1,0 +1,62 @@
+// The members of a line's object, looked up one by one.
+ghost use Rattle.std.specs.Prelude.{◌≡◌, option_map, Err};
+ghost use Rattle.serde_json.specs.View.{view, members_view};
+ghost use Rattle.tracker_calls.specs.Line.{text_at, moment_at, first_other, is_member, names_of, UnlessMemory};
+
+use crate::call::CallKind;
+use crate::reply::Refusal;
+use fields::{Moment, Text};
+use serde_json::{Map, Value};
+use std::alloc::Global;
+
+/// The refusal that names a member.
+pub fn misses<T>(alloc: Global, member: &str) -> Result<T, Refusal>
+    ensures { UnlessMemory result (Err (Refusal.Form member.now)) }
+{
+    match Text::copy_of(alloc, member) {
+        Ok(member) => Err(Refusal::Form { member }),
+        Err(_) => Err(Refusal::Memory),
+    }
+}
+
+pub fn text_at<'v>(value: &'v Value, name: &str) -> Option<&'v str>
+    ensures { option_map (λ text. text.now) result ≡ text_at name.now (view value.now) }
+{
+    value.get(name).and_then(Value::as_str)
+}
+
+pub fn moment_at(value: &Value, name: &str) -> Option<Moment>
+    ensures { result ≡ moment_at name.now (view value.now) }
+{
+    value
+        .get(name)
+        .and_then(Value::as_u64)
+        .and_then(Moment::new)
+}
+
+/// The first name in byte order that is no member of the call.
+#[tactic(auto, using(crate::proofs::LineLemmas::names_of_members))]
+pub fn first_other<'v>(kind: CallKind, members: &'v Map<String, Value>) -> Option<&'v str>
+    ensures { option_map (λ name. name.now) result ≡ first_other kind (names_of (members_view members.now.entries)) }
+{
+    for name in members.keys() {
+        if !is_member(kind, name.as_str()) {
+            return Some(name.as_str());
+        }
+    }
+    None
+}
+
+fn is_member(kind: CallKind, name: &str) -> bool
+    ensures { result ≡ is_member kind name.now }
+{
+    match kind {
+        CallKind::Create => matches!(
+            name,
+            "call" | "project" | "set" | "summary" | "type" | "user"
+        ),
+        CallKind::Edit => matches!(name, "call" | "issue" | "set" | "user"),
+        CallKind::Tick => matches!(name, "call" | "to" | "user"),
+        CallKind::Show => matches!(name, "call" | "issue" | "user"),
+    }
+}
