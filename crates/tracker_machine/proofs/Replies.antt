@@ -1,5 +1,5 @@
 -- A line's reply, by what was answered.
-use Rattle.std.proofs.Common.{subst, codes, [], ◌∷◌, ◌++◌, true, false, ◌≡◌, ℕ, List, Ok, Err, Some, None, refl, sym, ap, ◌∙◌}
+use Rattle.std.proofs.Common.{subst, codes, [], false, ◌≡◌, ℕ, List, Ok, Err, Some, None, refl, sym, ap, ◌∙◌}
 use Rattle.std.specs.Prelude.{Option}
 use Rattle.std.specs.Bool.{MatchBool}
 use Rattle.std.specs.Fmt.{digits}
@@ -16,7 +16,7 @@ use Rattle.tracker_machine.specs.Machine.{Machine}
 use Rattle.tracker_machine.specs.Refusal.{first_refusal}
 use Rattle.tracker_machine.specs.Answer.{answer_of}
 use Rattle.tracker_machine.specs.Step.{changed, refused_or, same_or, reply_of, next_of, Performs, IsRefused, IsStep}
-use Rattle.tracker_machine.specs.Run.{Mark, plain, memory, asked_reply, asked_next, marked_reply, marked_next, reply_line, is_blank, RepliesTo, HasReply, AnswersLine}
+use Rattle.tracker_machine.specs.Run.{plain, memory, asked_reply, asked_next, reply_line, is_blank, RepliesTo, HasReply, AnswersLine}
 
 plainly : (old new : Machine) (line user : List ℕ) (c : Call) (r : Reply) → line_of line ≡ Ok (user, c) → r ≡ reply_of old user c → new ≡ next_of old user c → RepliesTo old line r new
 plainly old new line user c r asked is next = record {
@@ -45,6 +45,8 @@ unmarked : (old new : Machine) (line user : List ℕ) (c : Call) (r : Refusal) �
 unmarked old new line user c refusal.Memory asked same = record { mark = memory; reply_is = refl; new_is = same }
 unmarked old new line user c (refusal.Form f) asked step = refused old new line user c (refusal.Form f) asked step.0 step.1
 unmarked old new line user c (refusal.Unknown k f) asked step = refused old new line user c (refusal.Unknown k f) asked step.0 step.1
+unmarked old new line user c (refusal.Unfit f) asked step = refused old new line user c (refusal.Unfit f) asked step.0 step.1
+unmarked old new line user c (refusal.Limit l) asked step = refused old new line user c (refusal.Limit l) asked step.0 step.1
 unmarked old new line user c (refusal.Earlier k) asked step = refused old new line user c (refusal.Earlier k) asked step.0 step.1
 
 performed : (old new : Machine) (line user : List ℕ) (c : Call) (r : Reply) → line_of line ≡ Ok (user, c) → Performs (first_refusal old user c) (answer_of old user c) (changed old user c) old r new → RepliesTo old line r new

@@ -3,12 +3,14 @@ use Rattle.std.specs.Prelude.{ℕ, List}
 use Rattle.tracker_calls.specs.declared.call.Call.{Call}
 use Rattle.tracker_calls.specs.declared.call.Call.TheVariants as call
 use Rattle.tracker_calls.specs.declared.reply.Answer.{Answer}
-use Rattle.tracker_calls.specs.declared.reply.Answer.TheVariants as answer
 use Rattle.tracker_machine.specs.Machine.{Machine}
-
--- the moment that it is now
-abbrev pub tick_answer : ℕ → Answer
-tick_answer to = answer.Tick to
+use Rattle.tracker_machine.specs.Create.{create_answer}
+use Rattle.tracker_machine.specs.Edit.{edit_answer}
+use Rattle.tracker_machine.specs.Show.{show_answer}
+use Rattle.tracker_machine.specs.Tick.{tick_answer}
 
 unfoldable pub answer_of : Machine → List ℕ → Call → Answer
+answer_of m caller (call.Create project issue_type summary set) = create_answer m project
+answer_of m caller (call.Edit issue set) = edit_answer m issue set
 answer_of m caller (call.Tick to) = tick_answer to
+answer_of m caller (call.Show issue) = show_answer m issue

@@ -1,5 +1,12 @@
-pub mod Answer
 pub mod Machine
+pub mod Known
+pub mod Wanted
+pub mod Checks
+pub mod Create
+pub mod Edit
+pub mod Show
+pub mod Tick
 pub mod Refusal
-pub mod Run
+pub mod Answer
 pub mod Step
+pub mod Run

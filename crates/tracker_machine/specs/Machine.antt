@@ -1,10 +1,16 @@
 -- The abstract tracker's state. It keeps no present values, no verdicts and no totals.
-use Rattle.std.specs.Prelude.{ℕ, List}
+use Rattle.std.specs.Prelude.{ℕ, List, []}
+use Rattle.fields.specs.Reading.{Parts}
+use Rattle.change_history.specs.History.{History}
 
 pub record Machine : Type 0 where
-  pub users : List (List ℕ)
+  pub setup : Parts
   pub moment : ℕ
+  -- the number of the last change group
+  pub change : ℕ
+  -- the issues, by their numbers from 1
+  pub histories : List History
 
--- a new tracker of these users
-abbrev pub opening : List (List ℕ) → Machine
-opening users = record { users = users; moment = 0 }
+-- a new tracker of this setup
+abbrev pub opening : Parts → Machine
+opening setup = record { setup = setup; moment = 0; change = 0; histories = [] }

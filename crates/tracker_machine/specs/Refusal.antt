@@ -1,33 +1,32 @@
 -- The first refusal of a call.
-use Rattle.std.specs.Prelude.{ℕ, List, Option, Some, None, nat_lt, if◌then◌else◌}
-use Rattle.fields.specs.Setup.{place_named}
+use Rattle.std.specs.Prelude.{ℕ, List, Option, None}
 use Rattle.tracker_calls.specs.declared.call.Call.{Call}
 use Rattle.tracker_calls.specs.declared.call.Call.TheVariants as call
 use Rattle.tracker_calls.specs.declared.reply.Refusal.{Refusal}
-use Rattle.tracker_calls.specs.declared.reply.Refusal.TheVariants as refusal
-use Rattle.tracker_calls.specs.declared.reply.Thing.TheVariants as thing
 use Rattle.tracker_machine.specs.Machine.{Machine}
+use Rattle.tracker_machine.specs.Known.{known_place}
+use Rattle.tracker_machine.specs.Checks.{or_then, twins_refusal, caller_refusal}
+use Rattle.tracker_machine.specs.Create.{create_refusal}
+use Rattle.tracker_machine.specs.Edit.{edit_refusal}
+use Rattle.tracker_machine.specs.Show.{show_refusal}
+use Rattle.tracker_machine.specs.Tick.{tick_refusal}
 
--- the first of two checks that fails
-abbrev pub or_then : Option Refusal → Option Refusal → Option Refusal
-or_then None later = later
-or_then (Some r) later = Some r
+-- a call that was read from a line has no fault of form
+unfoldable pub form_refusal : Call → Option Refusal
+form_refusal (call.Create project issue_type summary set) = twins_refusal set
+form_refusal (call.Edit issue set) = twins_refusal set
+form_refusal (call.Tick to) = None
+form_refusal (call.Show issue) = None
 
--- what is looked for must be there
-abbrev pub unless_known : {A : Type 0} → Option A → Refusal → Option Refusal
-unless_known None r = Some r
-unless_known (Some x) r = None
+-- the caller by place
+abbrev pub user_of : Machine → List ℕ → ℕ
+user_of m caller = known_place caller m.setup.users
 
--- the caller is one of the setup's users
-abbrev pub caller_refusal : Machine → List ℕ → Option Refusal
-caller_refusal m caller = unless_known (place_named caller m.users) (refusal.Unknown thing.User caller)
-
--- time doesn't go back
-abbrev pub tick_refusal : Machine → ℕ → Option Refusal
-tick_refusal m to = if nat_lt to m.moment then Some (refusal.Earlier m.moment) else None
-
-abbrev pub call_refusal : Machine → List ℕ → Call → Option Refusal
+unfoldable pub call_refusal : Machine → List ℕ → Call → Option Refusal
+call_refusal m caller (call.Create project issue_type summary set) = create_refusal m (user_of m caller) project issue_type summary set
+call_refusal m caller (call.Edit issue set) = edit_refusal m issue set
 call_refusal m caller (call.Tick to) = tick_refusal m to
+call_refusal m caller (call.Show issue) = show_refusal m issue
 
 unfoldable pub first_refusal : Machine → List ℕ → Call → Option Refusal
-first_refusal m caller c = or_then (caller_refusal m caller) (call_refusal m caller c)
+first_refusal m caller c = or_then (form_refusal c) (or_then (caller_refusal m caller) (call_refusal m caller c))

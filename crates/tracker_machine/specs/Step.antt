@@ -8,16 +8,18 @@ use Rattle.tracker_calls.specs.declared.reply.Answer.{Answer}
 use Rattle.tracker_calls.specs.declared.reply.Refusal.{Refusal}
 use Rattle.tracker_calls.specs.declared.reply.Refusal.TheVariants as refusal
 use Rattle.tracker_machine.specs.Machine.{Machine}
-use Rattle.tracker_machine.specs.Refusal.{first_refusal}
+use Rattle.tracker_machine.specs.Refusal.{first_refusal, user_of}
 use Rattle.tracker_machine.specs.Answer.{answer_of}
-
--- the moment is this one
-abbrev pub ticked : Machine → ℕ → Machine
-ticked m to = record m { moment = to }
+use Rattle.tracker_machine.specs.Create.{created}
+use Rattle.tracker_machine.specs.Edit.{edited}
+use Rattle.tracker_machine.specs.Tick.{ticked}
 
 -- the state after a call that isn't refused
 unfoldable pub changed : Machine → List ℕ → Call → Machine
+changed m caller (call.Create project issue_type summary set) = created m (user_of m caller) project issue_type summary set
+changed m caller (call.Edit issue set) = edited m (user_of m caller) issue set
 changed m caller (call.Tick to) = ticked m to
+changed m caller (call.Show issue) = m
 
 -- a refused call has its refusal as the reply, and leaves all as it is
 abbrev pub refused_or : Option Refusal → Answer → Reply

@@ -3,5 +3,7 @@
 #![tactic(auto)]
 
 mod laws;
+mod wanted;
 
 pub use laws::memory_text_is_its_own;
+pub use wanted::Wanted;

@@ -17,6 +17,8 @@ unfolding digits serde_json_on_literals reply_text
 its_own (reply.Ok a) e = absurd (apart 111 114 (lit< tt) (ap (λ l. slice_index l 2) e))
 its_own (reply.Refused (refusal.Form f)) e = absurd (apart 109 110 (lit< tt) (ap (λ l. slice_index l 13) e))
 its_own (reply.Refused (refusal.Unknown k f)) e = absurd (apart 107 110 (lit< tt) (ap (λ l. slice_index l 13) e))
+its_own (reply.Refused (refusal.Unfit f)) e = absurd (apart 102 110 (lit< tt) (ap (λ l. slice_index l 13) e))
+its_own (reply.Refused (refusal.Limit l)) e = absurd (apart 108 110 (lit< tt) (ap (λ l. slice_index l 13) e))
 its_own (reply.Refused (refusal.Earlier k)) e = absurd (apart 107 110 (lit< tt) (ap (λ l. slice_index l 13) e))
 its_own (reply.Refused refusal.Memory) e = refl
 

@@ -1,0 +1,84 @@
+-- The call `create`: a new issue of a project.
+use Rattle.std.specs.Prelude.{ℕ, ◌+◌, ◌==◌, false, not, List, [], ◌∷◌, ◌++◌, filter, length, Option, Result, Ok, Err, if◌then◌else◌}
+use Rattle.std.specs.Option.{is_some, option_map_or}
+use Rattle.fields.specs.declared.numbers.FieldNo.{FieldNo}
+use Rattle.fields.specs.declared.value.Value.TheVariants.{Choice, User}
+use Rattle.fields.specs.Known.{Names, value_of}
+use Rattle.fields.specs.Names.{place_named}
+use Rattle.fields.specs.Reading.{Parts}
+use Rattle.change_history.specs.declared.change.Change.{Change}
+use Rattle.change_history.specs.History.{History}
+use Rattle.workflow.specs.Same.{is_empty}
+use Rattle.tracker_calls.specs.declared.given.GivenField.{GivenField}
+use Rattle.tracker_calls.specs.declared.reply.Answer.{Answer}
+use Rattle.tracker_calls.specs.declared.reply.Answer.TheVariants as answer
+use Rattle.tracker_calls.specs.declared.reply.Refusal.{Refusal}
+use Rattle.tracker_calls.specs.declared.reply.Refusal.TheVariants as refusal
+use Rattle.tracker_calls.specs.declared.reply.Thing.TheVariants as thing
+use Rattle.tracker_machine.specs.declared.wanted.Wanted.{Wanted}
+use Rattle.tracker_machine.specs.declared.wanted.Wanted.TheVariants as wanted
+use Rattle.tracker_machine.specs.Machine.{Machine}
+use Rattle.tracker_machine.specs.Known.{names_in, project_keys, known_place, name_at, next_key}
+use Rattle.tracker_machine.specs.Wanted.{given_for, wanted_or, wanted_given, wanted_in, changes_of}
+use Rattle.tracker_machine.specs.Checks.{or_then, unless_known, fields_refusal, issues_refusal, values_refusal}
+
+-- type and summary have members of their own, and aren't given in `set` as well
+abbrev pub member_wanted : Names → ℕ → List GivenField → List ℕ → Wanted
+member_wanted names n set text = if is_some (given_for names.fields n set) then wanted.NoValue else wanted_or (value_of names n text)
+
+-- an issue begins in the setup's first status
+abbrev pub status_wanted : Parts → List GivenField → Wanted
+status_wanted setup set = if is_some (given_for setup.field 4 set) then wanted.NoValue else wanted.Value (Choice setup.first_status)
+
+-- the caller reports the issue, unless `set` says otherwise
+abbrev pub reporter_wanted : Parts → ℕ → List GivenField → Wanted
+reporter_wanted setup caller set = option_map_or (wanted_given (names_in setup) 6) (given_for setup.field 6 set) (wanted.Value (User (record { 0 = caller })))
+
+abbrev pub create_wants : Parts → ℕ → List ℕ → List ℕ → List GivenField → ℕ → Wanted
+create_wants setup caller issue_type summary set n =
+    if n == 1 then member_wanted (names_in setup) 1 set issue_type
+    else if n == 2 then member_wanted (names_in setup) 2 set summary
+    else if n == 4 then status_wanted setup set
+    else if n == 6 then reporter_wanted setup caller set
+    else wanted_in (names_in setup) n set
+
+-- what the new issue's fields are to hold, or the first field at fault
+abbrev pub create_changes : Machine → ℕ → List ℕ → List ℕ → List GivenField → Result (List Change) FieldNo
+create_changes m caller issue_type summary set = changes_of (names_in m.setup) (create_wants m.setup caller issue_type summary set)
+
+abbrev pub create_refusal : Machine → ℕ → List ℕ → List ℕ → List ℕ → List GivenField → Option Refusal
+create_refusal m caller project issue_type summary set =
+    or_then (unless_known (place_named project (project_keys m.setup)) (refusal.Unknown thing.Project project))
+    (or_then (fields_refusal m set)
+    (or_then (issues_refusal m)
+    (values_refusal m (create_changes m caller issue_type summary set))))
+
+-- the project's key as the setup spells it
+abbrev pub spelled_key : Machine → List ℕ → List ℕ
+spelled_key m project = name_at (project_keys m.setup) (known_place project (project_keys m.setup))
+
+abbrev pub create_answer : Machine → List ℕ → Answer
+create_answer m project = answer.Create false (m.change + 1) (next_key m (spelled_key m project))
+
+-- the changes that aren't to nothing
+abbrev pub opening_of : Result (List Change) FieldNo → List Change
+opening_of (Ok changes) = filter (λ c. not (is_empty c.to)) changes
+opening_of (Err f) = []
+
+abbrev pub opened : Machine → ℕ → List ℕ → List Change → History
+opened m caller project opening = record {
+  no = record { 0 = length m.histories + 1 };
+  key = next_key m project;
+  change = m.change + 1;
+  at = m.moment;
+  author = record { 0 = caller };
+  opening = opening;
+  entries = [];
+}
+
+abbrev pub with_issue : Machine → History → Machine
+with_issue m h = record m { change = m.change + 1; histories = m.histories ++ h ∷ [] }
+
+abbrev pub created : Machine → ℕ → List ℕ → List ℕ → List ℕ → List GivenField → Machine
+created m caller project issue_type summary set =
+    with_issue m (opened m caller (spelled_key m project) (opening_of (create_changes m caller issue_type summary set)))

@@ -1,0 +1,83 @@
+-- What names stand for.
+use Rattle.std.specs.Prelude.{ℕ, suc, ◌+◌, ◌-◌, ◌==◌, Bool, false, List, [], ◌∷◌, ◌++◌, map, sum_by, slice_get, unwrap_or, decimal, Option, Some, None, option_map, option_and_then, if◌then◌else◌}
+use Rattle.std.specs.List.{list_any}
+use Rattle.std.specs.Option.{option_or, option_map_or}
+use Rattle.std.specs.Str.{bytes_eq}
+use Rattle.fields.specs.declared.field.Field.{Field}
+use Rattle.fields.specs.BuiltIn.{field_names}
+use Rattle.fields.specs.Cuts.{cut_at}
+use Rattle.fields.specs.Known.{Names, field_named, own_field}
+use Rattle.fields.specs.Names.{place_named}
+use Rattle.fields.specs.Reading.{Parts}
+use Rattle.change_history.specs.History.{History}
+use Rattle.tracker_machine.specs.Machine.{Machine}
+
+-- the names that a value may name
+abbrev pub names_in : Parts → Names
+names_in setup = record {
+  users = setup.users;
+  types = setup.types;
+  statuses = map (λ s. s.name) setup.status;
+  priorities = setup.priorities;
+  resolutions = setup.resolutions;
+  versions = setup.versions;
+  groups = map (λ g. g.name) setup.group;
+  fields = setup.field;
+}
+
+abbrev pub project_keys : Parts → List (List ℕ)
+project_keys setup = map (λ p. p.key) setup.project
+
+-- a place that is looked up where it is known to be there
+abbrev pub known_place : List ℕ → List (List ℕ) → ℕ
+known_place name names = unwrap_or (place_named name names) 0
+
+-- the name at a place
+abbrev pub name_at : List (List ℕ) → ℕ → List ℕ
+name_at names place = unwrap_or (slice_get names place) []
+
+-- ---- fields
+
+-- the fields that a call may speak of, by their numbers
+abbrev pub open_fields : List ℕ
+open_fields = 1 ∷ 2 ∷ 4 ∷ 5 ∷ 6 ∷ 12 ∷ []
+
+abbrev pub is_open_field : ℕ → Bool
+is_open_field n = list_any (λ f. f == n) open_fields
+
+-- the name of a field as the setup spells it
+abbrev pub field_name : List Field → ℕ → List ℕ
+field_name fields n = unwrap_or (option_or (slice_get field_names (n - 1)) (option_map (λ f. f.name) (own_field fields n))) []
+
+-- the name is that field's
+abbrev pub names_field : List Field → ℕ → List ℕ → Bool
+names_field fields n name = option_map_or (λ k. k == n) (field_named fields name) false
+
+-- the name is that of a field that a call may speak of
+abbrev pub is_field : List Field → List ℕ → Bool
+is_field fields name = option_map_or is_open_field (field_named fields name) false
+
+-- ---- issues
+
+-- the place of the issue of that key, and its history
+abbrev pub place_of_issue : List ℕ → List History → Option ℕ
+place_of_issue name [] = None
+place_of_issue name (h ∷ hs) = if bytes_eq h.key name then Some 0 else option_map suc (place_of_issue name hs)
+
+abbrev pub history_named : Machine → List ℕ → Option History
+history_named m name = option_and_then (λ place. slice_get m.histories place) (place_of_issue name m.histories)
+
+abbrev pub key_of : List ℕ → ℕ → List ℕ
+key_of project number = project ++ 45 ∷ decimal number
+
+-- the key of an issue's project, which stands before the first hyphen
+abbrev pub project_of : List ℕ → List ℕ
+project_of key = option_map_or (λ parts. parts.0) (cut_at 45 key) key
+
+-- how many issues a project has
+abbrev pub issues_of : List ℕ → List History → ℕ
+issues_of project histories = sum_by (λ h. if bytes_eq (project_of h.key) project then 1 else 0) histories
+
+-- the key of the project's next issue
+abbrev pub next_key : Machine → List ℕ → List ℕ
+next_key m project = key_of project (issues_of project m.histories + 1)

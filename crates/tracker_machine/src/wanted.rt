@@ -1,0 +1,14 @@
+use fields::Value;
+
+/// What a call wants a field to hold.
+#[derive(Debug, Drop)]
+pub enum Wanted {
+    /// Nothing is wanted: the field stays as it is.
+    Nothing,
+
+    /// What was given for the field is none of its values.
+    NoValue,
+
+    /// This value.
+    Value(Value),
+}
