@@ -1,54 +1,236 @@
-ghost use Rattle.std.specs.Prelude.{◌≡◌, option_map};
-ghost use Rattle.fields.specs.Setup.{place_named};
+ghost use Rattle.std.specs.Prelude.{◌≡◌, ◌≤◌, ◌<◌, ◌+◌, [], ◌∷◌, ◌++◌, true, length, map, slice_get, slice_set, option_map, string_bytes, IfOk, IfSome, OnOk, OnErr, Some};
+ghost use Rattle.workflow.specs.Laws.{AllFit};
+ghost use Rattle.fields.specs.Names.{place_named};
+ghost use Rattle.tracker_machine.specs.Create.{with_issue};
+ghost use Rattle.fields.specs.SetupParts.{parts};
+ghost use Rattle.change_history.specs.History.{MayAdd};
 ghost use Rattle.tracker_machine.specs.Machine.{opening};
+ghost use Rattle.tracker_machine.specs.Known.{names_in, name_at, project_keys, issues_of, place_of_issue};
+ghost use Rattle.tracker_machine.specs.Checks.{entries_kept};
+ghost use Rattle.tracker_core.specs.State.{counts_of, with_key, IsSettled, AllEntriesFit};
 
-use fields::{Moment, Setup, UserNo};
+use crate::issues::Issues;
+use crate::project_key::count_key;
+use change_history::{Group, Issue};
+use fields::{Memory, Moment, Project, ProjectNo, Setup, UserNo};
+use std::alloc::Global;
 use std::marker::Model;
 
-/// The tracker's state. Contracts see it as the abstract tracker's.
+/// The tracker's state. Contracts see it as the abstract tracker's, and beside it what there is room for.
 #[derive(Debug, Drop)]
 pub struct State {
     setup: Setup,
     moment: Moment,
+    change: u64,
+    issues: Issues,
+    // How many issues each project has.
+    counts: Vec<u32>,
 }
 
 impl Model for State {
-    ghost use Rattle.tracker_machine.specs.Machine.{Machine};
+    ghost use Rattle.std.specs.Prelude.{map};
+    ghost use Rattle.fields.specs.SetupParts.{parts};
+    ghost use Rattle.tracker_core.specs.State.{Held, IsSound};
 
-    ghost Value = { Machine };
+    ghost Value = { Held };
 
-    ghost view = { λ s. record { users = s.setup.users; moment = s.moment } };
+    ghost view = { λ s. record { machine = record { setup = parts s.setup; moment = s.moment; change = s.change; histories = map (λ i. i.history) s.issues.kept }; room = s.issues.room; rooms = map (λ i. i.room) s.issues.kept } };
+
+    ghost invariant = { λ s. IsSound (record { setup = parts s.setup; moment = s.moment; change = s.change; histories = map (λ i. i.history) s.issues.kept }) s.counts.items };
+}
+
+/// A new issue with all that is kept of it.
+#[derive(Debug, Drop)]
+pub struct NewIssue {
+    pub issue: Issue,
+    /// The text of its key.
+    pub key: String,
+    /// How many issues each project has with it.
+    pub counts: Vec<u32>,
 }
 
 impl State {
     /// The state of a new tracker.
-    pub fn opening(setup: Setup) -> State
-        ensures { result ≡ opening setup.users }
+    pub fn opening(alloc: Global, setup: Setup) -> Result<State, Memory>
+        ensures { IfOk result (λ state. state.machine ≡ opening (parts setup)) }
     {
-        State {
+        let counts = no_counts(alloc, setup.project.as_slice())?;
+        Ok(State {
             setup,
             moment: Moment::first(),
-        }
+            change: 0,
+            issues: Issues::new(alloc),
+            counts,
+        })
+    }
+
+    /// The setup, lent.
+    pub fn setup(&self) -> &Setup
+        ensures { parts result.now ≡ self.now.machine.setup }
+    {
+        &self.setup
     }
 
     /// The present moment: that of the last accepted tick.
     pub fn moment(&self) -> Moment
-        ensures { result ≡ self.now.moment }
+        ensures { result ≡ self.now.machine.moment }
     {
         self.moment
     }
 
+    /// The number of the next change group.
+    pub fn next_change(&self) -> u64
+        ensures { result ≡ self.now.machine.change + 1 }
+    {
+        self.change + 1
+    }
+
     /// The user of that name, ASCII case ignored; `None` exactly where there is none.
     pub fn user_named(&self, name: &str) -> Option<UserNo>
-        ensures { option_map (λ no. no.0) result ≡ place_named name.now self.now.users }
+        ensures { option_map (λ no. no.0) result ≡ place_named name.now self.now.machine.setup.users }
     {
         self.setup.user_named(name)
     }
 
+    /// The project of that key, ASCII case ignored; `None` exactly where there is none.
+    pub fn project_named(&self, name: &str) -> Option<ProjectNo>
+        ensures place { option_map (λ no. no.0) result ≡ place_named name.now (project_keys self.now.machine.setup) }
+        ensures there { IfSome result (λ no. no.0 < length self.now.machine.setup.project) }
+    {
+        self.setup.project_named(name)
+    }
+
+    /// How many issues there are.
+    pub fn issue_count(&self) -> usize
+        ensures count { result ≡ length self.now.machine.histories }
+        ensures few { result ≤ 50_000 }
+    {
+        self.issues.len()
+    }
+
+    /// How many entries all of them have.
+    pub fn entry_count(&self) -> usize
+        ensures { result ≡ entries_kept self.now.machine.histories }
+    {
+        self.issues.entries()
+    }
+
+    /// The place of the issue of that key, in exact letters; `None` exactly where there is none.
+    pub fn place_of_issue(&self, key: &str) -> Option<usize>
+        ensures place { result ≡ place_of_issue key.now self.now.machine.histories }
+        ensures there { IfSome result (λ place. place < length self.now.machine.histories) }
+    {
+        self.issues.place_of(key)
+    }
+
+    /// The issue at a place; `None` exactly where there is none.
+    pub fn issue_at(&self, place: usize) -> Option<&Issue>
+        ensures history { option_map (λ i. i.now.history) result ≡ slice_get self.now.machine.histories place }
+        ensures settled { IfSome result (λ i. IsSettled (names_in self.now.machine.setup) self.now.machine.moment self.now.machine.change i.now.history) }
+    {
+        self.issues.get(place)
+    }
+
+    /// How many issues the project at a place has.
+    pub fn count_in(&self, project: ProjectNo) -> u32
+        requires { project.0 < length self.now.machine.setup.project }
+        ensures count { result ≡ issues_of (name_at (project_keys self.now.machine.setup) project.0) self.now.machine.histories }
+        ensures few { result ≤ 50_000 }
+    {
+        count_at(&self.counts, project)
+    }
+
+    /// The key of the project at a place, or nothing where there is none.
+    pub fn project_key(&self, project: ProjectNo) -> &str
+        ensures { result.now ≡ name_at (project_keys self.now.machine.setup) project.0 }
+    {
+        match self.setup.project.as_slice().get(usize::from(project.0)) {
+            Some(project) => project.key.as_str(),
+            None => "",
+        }
+    }
+
+    /// How many issues each project has, with one more of that key.
+    pub fn counts_with(&self, alloc: Global, key: &str) -> Result<Vec<u32>, Memory>
+        ensures { IfOk result (λ counts. counts.items
+            ≡ with_key (counts_of self.now.machine.setup.project self.now.machine.histories) self.now.machine.setup.project key.now) }
+    {
+        count_key(alloc, &self.counts, self.setup.project.as_slice(), key)
+    }
+
     /// Sets the present moment.
     pub fn set_moment(&mut self, to: Moment)
-        ensures { self.new ≡ record self.old { moment = to } }
+        requires { self.old.machine.moment ≤ to }
+        ensures { self.new ≡ record self.old { machine = record self.old.machine { moment = to } } }
     {
         self.moment = to;
     }
+
+    /// Makes room for one more issue, or leaves all as it is.
+    pub fn reserve_issue(&mut self) -> Result<(), Memory>
+        ensures machine { self.new.machine ≡ self.old.machine }
+        ensures room { OnOk result (1 ≤ self.new.room) }
+    {
+        self.issues.reserve()
+    }
+
+    /// Puts a new issue at the end. It takes no memory.
+    pub fn push(&mut self, new: NewIssue)
+        requires room { 1 ≤ self.old.room }
+        requires few { length self.old.machine.histories < 50_000 }
+        requires key { string_bytes new.key ≡ new.issue.history.key }
+        requires change { new.issue.history.change ≡ self.old.machine.change + 1 }
+        requires at { new.issue.history.at ≡ self.old.machine.moment }
+        requires entries { new.issue.history.entries ≡ [] }
+        requires fitting { AllFit (names_in self.old.machine.setup) new.issue.history.opening }
+        requires counts { new.counts.items ≡ with_key (counts_of self.old.machine.setup.project self.old.machine.histories) self.old.machine.setup.project new.issue.history.key }
+        ensures { self.new.machine ≡ with_issue self.old.machine new.issue.history }
+    {
+        self.change += 1;
+        self.counts = new.counts;
+        self.issues.push(new.key, new.issue);
+    }
+
+    /// Makes room for n entries more of the issue at a place, or leaves all as it is.
+    pub fn reserve_entries(&mut self, place: usize, n: usize) -> Result<(), Memory>
+        requires { place < length self.old.machine.histories }
+        ensures machine { self.new.machine ≡ self.old.machine }
+        ensures room { OnOk result (slice_get self.new.rooms place ≡ Some n) }
+    {
+        self.issues.reserve_entries(place, n)
+    }
+
+    /// Adds a group to the issue at a place. It takes no memory.
+    pub fn add(&mut self, place: usize, group: Group)
+        requires there { place < length self.old.machine.histories }
+        requires room { IfSome (slice_get self.old.rooms place) (λ room. length group.entries ≤ room) }
+        requires few { entries_kept self.old.machine.histories + length group.entries ≤ 2_000_000 }
+        requires change { group.change ≡ self.old.machine.change + 1 }
+        requires at { group.at ≡ self.old.machine.moment }
+        requires group { IfSome (slice_get self.old.machine.histories place) (λ h. MayAdd h group.change group.at group.author group.entries) }
+        requires fitting { AllEntriesFit (names_in self.old.machine.setup) group.entries }
+        ensures { IfSome (slice_get self.old.machine.histories place) (λ h. self.new.machine
+            ≡ record self.old.machine { change = self.old.machine.change + 1; histories = slice_set self.old.machine.histories place (record h { entries = h.entries ++ group.entries }) }) }
+    {
+        self.change += 1;
+        self.issues.add(place, group);
+    }
+}
+
+// How many issues each project has at first.
+fn no_counts(alloc: Global, projects: &[Project]) -> Result<Vec<u32>, Memory>
+    ensures { IfOk result (λ counts. counts.items ≡ counts_of projects.now []) }
+{
+    let mut counts = Vec::new(alloc);
+    for _ in projects {
+        counts.push(0)?;
+    }
+    Ok(counts)
+}
+
+fn count_at(counts: &[u32], project: ProjectNo) -> u32
+    requires { project.0 < length counts.now }
+    ensures { Some result ≡ slice_get counts.now project.0 }
+{
+    counts[usize::from(project.0)]
 }

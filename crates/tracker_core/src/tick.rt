@@ -1,7 +1,6 @@
 // The call `tick`.
-ghost use Rattle.tracker_machine.specs.Answer.{tick_answer};
-ghost use Rattle.tracker_machine.specs.Refusal.{tick_refusal};
-ghost use Rattle.tracker_machine.specs.Step.{Performs, ticked};
+ghost use Rattle.tracker_machine.specs.Step.{Performs};
+ghost use Rattle.tracker_machine.specs.Tick.{tick_refusal, tick_answer, ticked};
 
 use crate::state::State;
 use fields::Moment;
@@ -9,7 +8,7 @@ use tracker_calls::{Answer, Refusal, Reply};
 
 /// Moves the present moment on, or refuses one that is earlier.
 pub fn tick(state: &mut State, to: Moment) -> Reply
-    ensures { Performs (tick_refusal state.old to) (tick_answer to) (ticked state.old to) state.old result state.new }
+    ensures { Performs (tick_refusal state.old.machine to) (tick_answer to) (ticked state.old.machine to) state.old.machine result state.new.machine }
 {
     let kept = state.moment();
     if to < kept {

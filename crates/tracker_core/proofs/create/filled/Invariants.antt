@@ -1,0 +1,6 @@
+use Rattle.std.proofs.Common.{◌≡◌, ◌++◌, drop}
+use Rattle.tracker_core.specs.Made.{filled}
+use Rattle.tracker_core.proofs.create.filled.Given as goal
+
+abbrev pub invariant-loop-change : goal.invariant-loop-change
+invariant-loop-change l = filled l.changes ≡ l.kept ++ filled (drop l.change-index l.changes)

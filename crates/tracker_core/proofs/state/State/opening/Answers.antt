@@ -1,0 +1,15 @@
+use Rattle.std.proofs.Common.{◌≡◌, [], ap, ◌∙◌, arith}
+use Rattle.tracker_core.specs.Issues.{Shelf}
+use Rattle.tracker_core.specs.State.{counts_of}
+use Rattle.tracker_core.proofs.state.State.opening.Goals as goal
+
+pub invariant_of-result : goal.invariant_of-result
+invariant_of-result c =
+    let none : c.new.result.kept ≡ [] = ap (λ (s : Shelf). s.kept) c.new.ensures in
+    rw (none) (record {
+      counted = c.in_ok-counts.ensures ∙ ap (λ ps. counts_of ps []) c.as_slice.ensures;
+      few_issues = omega arith;
+      few_entries = omega arith;
+      numbered = omega arith;
+      settled = λ k d in'. absurd (omega (arith, in'));
+    })

@@ -1,0 +1,148 @@
+// The call `create`: a new issue of a project.
+ghost use Rattle.std.specs.Prelude.{◌≡◌, ◌<◌, ◌+◌, length, string_bytes, IfOk, false};
+ghost use Rattle.workflow.specs.Laws.{AllFit};
+ghost use Rattle.tracker_machine.specs.Step.{Performs};
+ghost use Rattle.tracker_machine.specs.Create.{create_refusal, create_answer, created, opened, with_issue};
+ghost use Rattle.tracker_machine.specs.Known.{name_at, names_in, project_keys, next_key};
+ghost use Rattle.tracker_core.specs.Made.{IsMade, filled};
+ghost use Rattle.tracker_core.specs.State.{with_key, counts_of};
+
+use crate::empty::is_empty;
+use crate::state::{NewIssue, State};
+use crate::unknown::{unfit, unknown};
+use crate::wants::{ValueFault, Wants, changes_of, first_strange};
+use change_history::{Change, Changes, Issue, Key};
+use fields::{IssueNo, Memory, ProjectNo, Text, UserNo};
+use std::alloc::Global;
+use tracker_calls::{Answer, GivenField, Limit, Refusal, Reply, Thing};
+
+/// Makes a new issue of the project, or says why not.
+pub fn create(
+    alloc: Global,
+    state: &mut State,
+    caller: UserNo,
+    project: &str,
+    issue_type: &str,
+    summary: &str,
+    set: &[GivenField],
+) -> Reply
+    ensures { Performs (create_refusal state.old.machine caller.0 project.now issue_type.now summary.now set.now)
+        (create_answer state.old.machine project.now)
+        (created state.old.machine caller.0 project.now issue_type.now summary.now set.now)
+        state.old.machine result state.new.machine }
+{
+    let Some(place) = state.project_named(project) else {
+        return unknown(alloc, Thing::Project, project);
+    };
+    if let Some(strange) = first_strange(state.setup(), set) {
+        return unknown(alloc, Thing::Field, strange.name.as_str());
+    }
+    if state.issue_count() >= 50_000 {
+        return Reply::Refused(Refusal::Limit {
+            limit: Limit::Issues,
+        });
+    }
+    let wants = Wants::Create {
+        caller,
+        issue_type,
+        summary,
+        set,
+    };
+    let changes = match changes_of(alloc, state.setup(), &wants) {
+        Ok(changes) => changes,
+        Err(ValueFault::Unfit(field)) => return unfit(alloc, state.setup(), field),
+        Err(ValueFault::Memory) => return Reply::Refused(Refusal::Memory),
+    };
+    open(alloc, state, caller, place, &changes)
+}
+
+// Opens the issue with these values.
+fn open(
+    alloc: Global,
+    state: &mut State,
+    caller: UserNo,
+    project: ProjectNo,
+    changes: &Changes,
+) -> Reply
+    requires few { length state.old.machine.histories < 50_000 }
+    requires there { project.0 < length state.old.machine.setup.project }
+    requires fitting { AllFit (names_in state.old.machine.setup) changes.now }
+    ensures { IsMade (Answer.Create false (state.old.machine.change + 1) (next_key state.old.machine (name_at (project_keys state.old.machine.setup) project.0)))
+        (with_issue state.old.machine (opened state.old.machine caller.0 (name_at (project_keys state.old.machine.setup) project.0) (filled changes.now)))
+        state.old.machine result state.new.machine }
+{
+    let Ok(new) = prepare(alloc, state, caller, project, changes) else {
+        return Reply::Refused(Refusal::Memory);
+    };
+    let Ok(told) = Text::copy_of(alloc, new.key.as_str()) else {
+        return Reply::Refused(Refusal::Memory);
+    };
+    let Ok(()) = state.reserve_issue() else {
+        return Reply::Refused(Refusal::Memory);
+    };
+    let change = state.next_change();
+    state.push(new);
+    Reply::Ok(Answer::Create {
+        already: false,
+        change,
+        issue: told,
+    })
+}
+
+// All that is kept of the new issue.
+fn prepare(
+    alloc: Global,
+    state: &State,
+    caller: UserNo,
+    project: ProjectNo,
+    changes: &Changes,
+) -> Result<NewIssue, Memory>
+    requires few { length state.now.machine.histories < 50_000 }
+    requires there { project.0 < length state.now.machine.setup.project }
+    ensures history { IfOk result (λ new. new.issue.history ≡ opened state.now.machine caller.0 (name_at (project_keys state.now.machine.setup) project.0) (filled changes.now)) }
+    ensures key { IfOk result (λ new. string_bytes new.key ≡ next_key state.now.machine (name_at (project_keys state.now.machine.setup) project.0)) }
+    ensures counts { IfOk result (λ new. new.counts.items ≡ with_key (counts_of state.now.machine.setup.project state.now.machine.histories) state.now.machine.setup.project
+        (next_key state.now.machine (name_at (project_keys state.now.machine.setup) project.0))) }
+{
+    let issue_key = next_key(alloc, state, project)?;
+    let key = String::from_str(alloc, issue_key.as_str())?;
+    let counts = state.counts_with(alloc, key.as_str())?;
+    let opening = filled(alloc, changes.as_slice())?;
+    let no = IssueNo(state.issue_count() as u32 + 1);
+    let change = state.next_change();
+    let issue = Issue::open(
+        alloc,
+        no,
+        issue_key,
+        change,
+        state.moment(),
+        caller,
+        opening,
+    )?;
+    Ok(NewIssue { issue, key, counts })
+}
+
+// The key of the project's next issue.
+fn next_key(alloc: Global, state: &State, project: ProjectNo) -> Result<Key, Memory>
+    requires { project.0 < length state.now.machine.setup.project }
+    ensures { IfOk result (λ key. key ≡ next_key state.now.machine (name_at (project_keys state.now.machine.setup) project.0)) }
+{
+    let count = state.count_in(project);
+    Key::of(alloc, state.project_key(project), count + 1)
+}
+
+// The changes that aren't to nothing.
+fn filled(alloc: Global, changes: &[Change]) -> Result<Changes, Memory>
+    ensures { IfOk result (λ kept. kept ≡ filled changes.now) }
+{
+    let mut kept = Changes::new(alloc);
+    for change in changes {
+        if !is_empty(&change.to) {
+            kept.push(Change {
+                field: change.field,
+                to: change.to.copy(alloc)?,
+            })?;
+        }
+    }
+    Ok(kept)
+}

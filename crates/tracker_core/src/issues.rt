@@ -1,0 +1,152 @@
+// The issues, found by place and by key, with a running total of their entries.
+ghost use Rattle.std.specs.Prelude.{◌≡◌, ◌≤◌, ◌<◌, ◌+◌, ◌-◌, ◌^◌, ◌∷◌, ◌++◌, [], length, map, slice_get, slice_set, option_copied, string_bytes, OnOk, OnErr, IfSome, vec_len, vec_capacity, List, ℕ, Some, None, if◌then◌else◌};
+ghost use Rattle.std.specs.Option.{option_or};
+ghost use Rattle.std.specs.Str.{bytes_eq};
+ghost use Rattle.std.specs.HashMap.{spare, get_by_text};
+ghost use Rattle.change_history.specs.History.{MayAdd};
+ghost use Rattle.tracker_core.specs.Issues.{place_of, total_entries, with_entries};
+
+use change_history::{Group, Issue};
+use fields::Memory;
+use std::alloc::Global;
+use std::collections::HashMap;
+use std::marker::Model;
+
+/// The issues by place from 0. Contracts see them as a list, and beside it how many more there is room for.
+#[derive(Debug, Drop)]
+pub struct Issues {
+    list: Vec<Issue>,
+    by_key: HashMap<String, usize>,
+    entries: usize,
+    room: usize,
+}
+
+impl Model for Issues {
+    ghost use Rattle.std.specs.Prelude.{vec_len, vec_capacity};
+    ghost use Rattle.tracker_core.specs.Issues.{Shelf, AreIndexed};
+
+    ghost Value = { Shelf };
+
+    ghost view = { λ i. record { kept = i.list.items; room = i.room } };
+
+    ghost invariant = { λ i. AreIndexed i.list.items i.by_key i.entries i.room (vec_len i.list) (vec_capacity i.list) };
+}
+
+impl Issues {
+    /// No issue.
+    pub fn new(alloc: Global) -> Issues
+        ensures { result ≡ record { kept = []; room = 0 } }
+    {
+        Issues {
+            list: Vec::new(alloc),
+            by_key: HashMap::new(alloc),
+            entries: 0,
+            room: 0,
+        }
+    }
+
+    /// How many issues there are.
+    pub fn len(&self) -> usize
+        ensures { result ≡ length self.now.kept }
+    {
+        self.list.len()
+    }
+
+    /// How many entries all of them have.
+    pub fn entries(&self) -> usize
+        ensures { result ≡ total_entries self.now.kept }
+    {
+        self.entries
+    }
+
+    /// The issue at a place.
+    pub fn get(&self, place: usize) -> Option<&Issue>
+        ensures { option_copied result ≡ slice_get self.now.kept place }
+    {
+        self.list.get(place)
+    }
+
+    /// The place of the issue of that key, in exact letters.
+    pub fn place_of(&self, key: &str) -> Option<usize>
+        ensures { result ≡ place_of key.now self.now.kept }
+    {
+        self.by_key.get(key).copied()
+    }
+
+    /// Makes room for one more issue, or leaves all as it is.
+    pub fn reserve(&mut self) -> Result<(), Memory>
+        ensures ok { OnOk result (self.new ≡ record self.old { room = 1 }) }
+        ensures err { OnErr result (self.new ≡ self.old) }
+    {
+        self.list.reserve(1)?;
+        self.by_key.reserve(1)?;
+        self.room = 1;
+        Ok(())
+    }
+
+    /// Puts an issue at the end, whose key's text is given too. It takes no memory.
+    pub fn push(&mut self, key: String, issue: Issue)
+        requires room { 1 ≤ self.old.room }
+        requires key { string_bytes key ≡ issue.history.key }
+        requires few { total_entries self.old.kept + length issue.history.entries < 2 ^ 64 }
+        ensures kept { self.new.kept ≡ self.old.kept ++ issue ∷ [] }
+        ensures room { self.new.room ≡ self.old.room - 1 }
+    {
+        let place = self.list.len();
+        index_key(&mut self.by_key, key, place);
+        self.room -= 1;
+        self.entries += issue.entries();
+        put_issue(&mut self.list, issue);
+    }
+
+    /// Makes room for n entries more of the issue at a place, or leaves all as it is.
+    pub fn reserve_entries(&mut self, place: usize, n: usize) -> Result<(), Memory>
+        requires { place < length self.old.kept }
+        ensures ok { OnOk result (IfSome (slice_get self.old.kept place) (λ i.
+            self.new ≡ record self.old { kept = slice_set self.old.kept place (record i { room = n }) })) }
+        ensures err { OnErr result (self.new ≡ self.old) }
+        ensures histories { map (λ i. i.history) self.new.kept ≡ map (λ i. i.history) self.old.kept }
+    {
+        self.list[place].reserve(n)
+    }
+
+    /// Adds a group to the issue at a place. It takes no memory.
+    pub fn add(&mut self, place: usize, group: Group)
+        requires there { place < length self.old.kept }
+        requires few { total_entries self.old.kept + length group.entries < 2 ^ 64 }
+        requires group { IfSome (slice_get self.old.kept place) (λ i.
+            (length group.entries ≤ i.room) × MayAdd i.history group.change group.at group.author group.entries) }
+        ensures kept { IfSome (slice_get self.old.kept place) (λ i.
+            self.new.kept ≡ slice_set self.old.kept place (with_entries i group.entries)) }
+        ensures room { self.new.room ≡ self.old.room }
+    {
+        self.entries += group.entries.as_slice().len();
+        self.list[place].add(group);
+    }
+}
+
+// Has the key lead to a place, unless it leads to one before.
+fn index_key(by_key: &mut HashMap<String, usize>, key: String, place: usize)
+    requires { 1 ≤ spare by_key.old }
+    ensures found { (name : List ℕ) → get_by_text by_key.new name
+        ≡ option_or (get_by_text by_key.old name) (if bytes_eq (string_bytes key) name then Some place else None) }
+    ensures spare { spare by_key.old ≤ spare by_key.new + 1 }
+{
+    if by_key.contains_key(key.as_str()) {
+        return;
+    }
+    let Ok(_) = by_key.insert(key, place) else {
+        unreachable!()
+    };
+}
+
+fn put_issue(list: &mut Vec<Issue>, issue: Issue)
+    requires { vec_len list.old + 1 ≤ vec_capacity list.old }
+    ensures items { list.new.items ≡ list.old.items ++ issue ∷ [] }
+    ensures len { vec_len list.new ≡ vec_len list.old + 1 }
+    ensures capacity { vec_capacity list.old ≤ vec_capacity list.new }
+{
+    let Ok(()) = list.push(issue) else {
+        unreachable!()
+    };
+}
