@@ -6,10 +6,10 @@ ghost use Rattle.request_lines.specs.Lines.{lines, whole_lines, AreWithinLimits}
 ghost use Rattle.request_lines.specs.Run.{Ends};
 ghost use Rattle.request_lines.specs.Bytes.{WritesAll};
 ghost use Rattle.tracker_machine.specs.Run.{AnswersLine};
-ghost use Rattle.tracker_cli.specs.Outcome.{IsExec, usage, AreReplies, GrewBy, GrewByFront, IsLimitText, AreCutReplies, EndsRun, start};
+ghost use Rattle.tracker_cli.specs.Outcome.{IsExec, usage, AreReplies, GrewBy, GrewByFront, IsLimitText, AreCutReplies, EndsRun};
 
 use crate::exec::RequestLines;
-use fields::{Setup, Steps};
+use fields::{BUILT_IN, Setup, Steps};
 use request_lines::{End, answer_lines};
 use std::alloc::Global;
 use std::marker::Brand;
@@ -26,25 +26,25 @@ pub fn run<S: Source, T: Sink>(alloc: Global, words: &[String], input: &mut S, o
 
     // The input was read to its end, and each of its lines has its reply.
     ensures done { result ≡ 0 → IfSome (S.left input.old) (λ bytes. IsAtEnd (S.left input.new)
-        × AreWithinLimits (lines bytes) × GrewBy (T.taken out.old) (T.taken out.new) (AreReplies (lines bytes))) }
+        × AreWithinLimits (lines bytes) × GrewBy (T.taken out.old) (T.taken out.new) (AreReplies BUILT_IN.now (lines bytes))) }
 
     // A read failed: the whole lines before have their replies.
     ensures read_cause { result ≡ 2 → Rose (S.faults input.old) (S.faults input.new) }
     ensures read { result ≡ 2 → IfSome (S.left input.old) (λ bytes. (read : List ℕ) × Consumes (Some bytes) (S.left input.new) read
-        × GrewBy (T.taken out.old) (T.taken out.new) (AreReplies (whole_lines read))) }
+        × GrewBy (T.taken out.old) (T.taken out.new) (AreReplies BUILT_IN.now (whole_lines read))) }
 
     // A write failed: the first lines have their replies, and at most the next one a front of its reply; or
     // a front was written of what is due at a limit, or for words that are no command's.
     ensures write_cause { result ≡ 3 → Rose (T.faults out.old) (T.faults out.new) }
     ensures written { result ≡ 3 → GrewByFront (T.taken out.old) (T.taken out.new) (λ due. due ≡ usage)
-        ⊎ IfSome (S.left input.old) (λ bytes. GrewBy (T.taken out.old) (T.taken out.new) (AreCutReplies bytes)
-        ⊎ GrewByFront (T.taken out.old) (T.taken out.new) (IsLimitText bytes)) }
+        ⊎ IfSome (S.left input.old) (λ bytes. GrewBy (T.taken out.old) (T.taken out.new) (AreCutReplies BUILT_IN.now bytes)
+        ⊎ GrewByFront (T.taken out.old) (T.taken out.new) (IsLimitText BUILT_IN.now bytes)) }
 
     // Want of memory: the first lines have their replies, and no more was written.
-    ensures memory { result ≡ 6 → IfSome (S.left input.old) (λ bytes. GrewBy (T.taken out.old) (T.taken out.new) (AreCutReplies bytes)) }
+    ensures memory { result ≡ 6 → IfSome (S.left input.old) (λ bytes. GrewBy (T.taken out.old) (T.taken out.new) (AreCutReplies BUILT_IN.now bytes)) }
 
     // A limit is passed: the lines before have their replies, and the limit's text follows.
-    ensures limit { result ≡ 7 → IfSome (S.left input.old) (λ bytes. GrewBy (T.taken out.old) (T.taken out.new) (IsLimitText bytes)) }
+    ensures limit { result ≡ 7 → IfSome (S.left input.old) (λ bytes. GrewBy (T.taken out.old) (T.taken out.new) (IsLimitText BUILT_IN.now bytes)) }
     ensures read_later { S.faults input.old ≤ S.faults input.new }
     ensures write_later { T.faults out.old ≤ T.faults out.new }
     ensures statuses { result ≤ 7 × (result ≢ 4) × (result ≢ 5) }
@@ -81,7 +81,7 @@ fn exec<L: Ledger, S: Source, T: Sink>(
     requires name { blank.name ≡ L.name }
     requires parts { blank.parts ≡ L.parts }
     requires some { 0 < L.parts }
-    ensures run { IfSome (S.left input.old) (λ bytes. EndsRun bytes (S.left input.new) (T.taken out.old) (T.taken out.new) result) }
+    ensures run { IfSome (S.left input.old) (λ bytes. EndsRun BUILT_IN.now bytes (S.left input.new) (T.taken out.old) (T.taken out.new) result) }
     ensures read_cause { result ≡ End.ReadFault → Rose (S.faults input.old) (S.faults input.new) }
     ensures write_cause { result ≡ End.WriteFault → Rose (T.faults out.old) (T.faults out.new) }
     ensures read_later { S.faults input.old ≤ S.faults input.new }
