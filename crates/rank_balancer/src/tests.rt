@@ -218,6 +218,8 @@ fn goes_round_the_circle(rt: HostRuntime) -> Result<(), Fail> {
     let mut order = three(&rt, rt.alloc())?;
     let mut balance = Balance::Idle(0);
     assert_eq!(rt; rebalanced(&rt, rt.alloc(), &mut order, &mut balance)?, 3);
+    let once = [(1, "1|qzzncw:"), (2, "1|qzztog:"), (3, "1|r00000:")];
+    assert!(rt; is_list(&order, rt.alloc(), &once)?);
     assert_eq!(rt; rebalanced(&rt, rt.alloc(), &mut order, &mut balance)?, 3);
     let twice = [(1, "2|qzzncw:"), (2, "2|qzztog:"), (3, "2|r00000:")];
     assert!(rt; is_list(&order, rt.alloc(), &twice)?);
