@@ -6,3 +6,6 @@ pub mod LocalSteps
 pub mod Fitting
 pub mod Members
 pub mod Floats
+pub mod Facts
+pub mod Sound
+pub mod Rising

@@ -1,5 +1,6 @@
 -- Groups of which one has got other members.
-use Rattle.std.specs.Prelude.{ℕ, zero, suc, Bool, true, ◌&&◌, nat_lt, List, [], ◌∷◌}
+use Rattle.std.specs.Prelude.{ℕ, zero, suc, ◌<◌, Bool, true, ◌&&◌, nat_lt, List, [], ◌∷◌}
+use Rattle.std.specs.List.{AllPairs, All}
 use Rattle.fields.specs.declared.numbers.UserNo.{UserNo}
 use Rattle.fields.specs.declared.parts.Group.{Group}
 
@@ -14,3 +15,11 @@ abbrev pub is_user_list : ℕ → List UserNo → Bool
 is_user_list count [] = true
 is_user_list count (user ∷ []) = nat_lt user.0 count
 is_user_list count (user ∷ next ∷ users) = nat_lt user.0 next.0 && is_user_list count (next ∷ users)
+
+-- the numbers of the users rise
+abbrev pub AreRising : List UserNo → Type 0
+AreRising users = AllPairs (λ one other. one.0 < other.0) users
+
+-- those of the members of each group do
+abbrev pub HaveRising : List Group → Type 0
+HaveRising groups = All (λ group. AreRising group.members) groups

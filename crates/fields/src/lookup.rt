@@ -5,7 +5,7 @@ ghost use Rattle.fields.specs.Names.{place_named};
 ghost use Rattle.fields.specs.Known.{names_of, AreFew, field_named, choices_of, value_of, fits};
 ghost use Rattle.relative_dates.specs.Calendar.{local_day};
 ghost use Rattle.fields.specs.Offsets.{zone_of};
-ghost use Rattle.fields.specs.GroupMembers.{with_members, is_user_list};
+ghost use Rattle.fields.specs.GroupMembers.{with_members, is_user_list, AreRising, HaveRising};
 ghost use Rattle.fields.specs.ValueTexts.{IsTextOf};
 ghost use Rattle.fields.specs.SetupParts.{parts, names, choice_named, groups_in, groups_with, has_member, may};
 
@@ -26,13 +26,17 @@ use crate::value_text::value_text;
 use std::alloc::Global;
 
 fn is_member(members: &[UserNo], user: UserNo) -> bool
+    requires { AreRising members.now }
     ensures { result ≡ list_any (λ member. member.0 == user.0) members.now }
 {
-    members.iter().any(|member| member.0 == user.0)
+    members
+        .binary_search_by_key(&user.0, |member| member.0)
+        .is_ok()
 }
 
 /// Whether the group has the user.
 fn has_member(groups: &[Group], user: UserNo, group: GroupNo) -> bool
+    requires { HaveRising groups.now }
     ensures { result ≡ has_member groups.now user.0 group }
 {
     match groups.get(usize::from(group.0.saturating_sub(1))) {
@@ -43,6 +47,7 @@ fn has_member(groups: &[Group], user: UserNo, group: GroupNo) -> bool
 
 /// Whether one of these groups has the user.
 fn has_member_in(groups: &[Group], user: UserNo, wanted: &[GroupNo]) -> bool
+    requires { HaveRising groups.now }
     ensures { result ≡ list_any (has_member groups.now user.0) wanted.now }
 {
     wanted.iter().any(|group| has_member(groups, user, *group))

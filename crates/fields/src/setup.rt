@@ -4,6 +4,7 @@ ghost use Rattle.fields.specs.Fields.{has_few_options};
 ghost use Rattle.fields.specs.Offsets.{zone_of};
 ghost use Rattle.fields.specs.Words.{day_number};
 ghost use Rattle.fields.specs.Reading.{memberless, kept_in};
+ghost use Rattle.fields.specs.Sound.{IsSound};
 
 use crate::built_in_text::BUILT_IN;
 use crate::draft::Draft;
@@ -78,6 +79,7 @@ pub struct Setup {
     ghost named_transitions: { transition_names ≡ map (λ t. t.name) transition },
     ghost clock: { calendar ≡ record { zone = zone_of utc_offset_minutes offset; first_day = day_number week_starts } },
     ghost reads: { kept_in text ≡ Ok (memberless (record { utc_offset_minutes = utc_offset_minutes; week_starts = week_starts; rebalancer = rebalancer; users = users; types = types; priorities = priorities; resolutions = resolutions; versions = versions; first_status = first_status; plan = plan; administer = administer; group = group; project = project; status = status; transition = transition; field = field; offset = offset })) },
+    ghost sound: { IsSound (record { utc_offset_minutes = utc_offset_minutes; week_starts = week_starts; rebalancer = rebalancer; users = users; types = types; priorities = priorities; resolutions = resolutions; versions = versions; first_status = first_status; plan = plan; administer = administer; group = group; project = project; status = status; transition = transition; field = field; offset = offset }) },
 }
 
 impl Setup {

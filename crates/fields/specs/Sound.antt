@@ -1,0 +1,40 @@
+-- What holds of every setup that is read.
+use Rattle.std.specs.Prelude.{◌≡◌, ◌≢◌, ◌<◌, ℕ, Bool, true, false, ◌&&◌, nat_lt, List, length, map}
+use Rattle.std.specs.List.{list_all, AllPairs}
+use Rattle.std.specs.Str.{str_eq_ignore_ascii_case}
+use Rattle.fields.specs.declared.field.Field.{Field}
+use Rattle.fields.specs.declared.parts.Group.{Group}
+use Rattle.fields.specs.declared.parts.Transition.{Transition}
+use Rattle.fields.specs.Names.{is_from_to, is_project_key}
+use Rattle.fields.specs.GroupMembers.{is_user_list}
+use Rattle.fields.specs.Reading.{Parts}
+
+-- no two of the names are the same
+abbrev pub AreDistinct : List (List ℕ) → Type 0
+AreDistinct names = AllPairs (λ one other. str_eq_ignore_ascii_case one other ≡ false) names
+
+-- a field of the setup's own has a number from 10000 to 19999
+abbrev pub has_own_number : Field → Bool
+has_own_number field = is_from_to 10000 19999 field.number.0
+
+-- it goes from some of so many statuses to one of them
+abbrev pub goes_inside : ℕ → Transition → Bool
+goes_inside count transition = nat_lt transition.to.0 count && list_all (λ status. nat_lt status.0 count) transition.from
+
+-- its members are some of so many users, in their order
+abbrev pub has_members_in : ℕ → Group → Bool
+has_members_in count group = is_user_list count group.members
+
+pub record IsSound (parts : Parts) : Type 0 where
+  pub users : AreDistinct parts.users
+  pub types : AreDistinct parts.types
+  pub priorities : AreDistinct parts.priorities
+  pub resolutions : AreDistinct parts.resolutions
+  pub versions : AreDistinct parts.versions
+  pub keys : AreDistinct (map (λ p. p.key) parts.project)
+  pub key_forms : list_all (λ p. is_project_key p.key) parts.project ≡ true
+  pub numbers : AllPairs (λ one other. one.number.0 ≢ other.number.0) parts.field
+  pub own_numbers : list_all has_own_number parts.field ≡ true
+  pub first_status : parts.first_status.0 < length parts.status
+  pub transitions : list_all (goes_inside (length parts.status)) parts.transition ≡ true
+  pub members : list_all (has_members_in (length parts.users)) parts.group ≡ true
