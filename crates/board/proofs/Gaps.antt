@@ -4,7 +4,7 @@ use Rattle.std.specs.Prelude.{slice_get, option_map, IfSome}
 use Rattle.std.proofs.lemmas.Bool.{cases_eq, cases_lt}
 use Rattle.std.proofs.lemmas.Bool.Decides.{nat_tests}
 use Rattle.std.proofs.lemmas.Option.{slice_get-get_or, slice_get_past}
-use Rattle.fields.specs.declared.numbers.IssueNo.{IssueNo}
+use Rattle.field_values.specs.declared.numbers.IssueNo.{IssueNo}
 use Rattle.rank_strings.specs.Rank.{RankParts, IsBelow}
 use Rattle.rank_strings.specs.declared.fault.RankFault.{RankFault}
 use Rattle.rank_strings.specs.declared.fault.RankFault.TheVariants.{Exhausted, Memory}

@@ -6,7 +6,7 @@ use Rattle.std.proofs.lemmas.Bool.{cases_eq, cases_lt}
 use Rattle.std.proofs.lemmas.List.{length-set, get_or-set_same, get_or-set_other, get_or_default, take-set-le, drop-set-lt, get_or_at, get_or_append_left, take_at, drop_all, length_push}
 use Rattle.std.proofs.lemmas.List.Quantifiers.{all_pairs_push}
 use Rattle.rank_strings.specs.Rank.{RankParts}
-use Rattle.fields.specs.declared.numbers.IssueNo.{IssueNo}
+use Rattle.field_values.specs.declared.numbers.IssueNo.{IssueNo}
 use Rattle.board.specs.Order.{Pair, places_before, place_in, without}
 use Rattle.board.specs.Table.{nothing, number_at, IsTableOf, HasPairAt}
 use Rattle.board.specs.Lengths.{AreCountsOf}

@@ -12,7 +12,7 @@ use Rattle.std.proofs.lemmas.Option.{slice_get-get_or}
 use Rattle.rank_strings.specs.Rank.{RankParts, IsRank, IsBelow, rank_cmp}
 use Rattle.rank_strings.specs.Total.{rank_cmp-total}
 use Rattle.rank_strings.proofs.Order.{nat_cmp-less, nat_cmp-greater}
-use Rattle.fields.specs.declared.numbers.IssueNo.{IssueNo}
+use Rattle.field_values.specs.declared.numbers.IssueNo.{IssueNo}
 use Rattle.board.specs.declared.place.Place.{Place}
 use Rattle.board.specs.declared.place.Place.TheVariants.{Before, After, Last}
 use Rattle.board.specs.Order.{Pair, IsOrder, IsFreeFor, places_before, rank_in, without, put_in}

@@ -13,7 +13,7 @@ use Rattle.std.proofs.lemmas.List.Sorted.{IsPermutation-trans, IsPermutation-rem
 use Rattle.rank_strings.specs.Rank.{RankParts, IsRank, IsBelow, rank_cmp}
 use Rattle.rank_strings.specs.Total.{rank_cmp-total}
 use Rattle.rank_strings.proofs.Reading.{same_from_equal}
-use Rattle.fields.specs.declared.numbers.IssueNo.{IssueNo}
+use Rattle.field_values.specs.declared.numbers.IssueNo.{IssueNo}
 use Rattle.board.specs.Order.{Pair, IsOrder, IsFreeFor, places_before, without, put_in}
 use Rattle.board.specs.Table.{nothing, number_at, IsTableOf, IsKept, HasPairAt, GoesTo}
 use Rattle.board.specs.Search.{rank_at, IsFront}

@@ -1,6 +1,6 @@
 -- What holds of every order.
 use Rattle.std.specs.Prelude.{ℕ, ◌≡◌, List, insert, true, Option, Some, None}
-use Rattle.fields.specs.declared.numbers.IssueNo.{IssueNo}
+use Rattle.field_values.specs.declared.numbers.IssueNo.{IssueNo}
 use Rattle.rank_strings.specs.Rank.{RankParts, IsRank}
 use Rattle.board.specs.declared.place.Place.{Place}
 use Rattle.board.specs.Order.{Pair, IsOrder, IsIn, IsFreeFor, without, put_in}

@@ -1,7 +1,7 @@
 -- The order of issues: pairs of a rank and an issue, the least rank first.
 use Rattle.std.specs.Prelude.{ℕ, suc, zero, ◌≢◌, ◌+◌, ◌<◌, ◌≤◌, ◌==◌, List, [], ◌∷◌, length, max, nat_lt, slice_get, option_map, AllPairs, All, Option, Some, None, if◌then◌else◌}
 use Rattle.std.specs.Ordering.{is_lt}
-use Rattle.fields.specs.declared.numbers.IssueNo.{IssueNo}
+use Rattle.field_values.specs.declared.numbers.IssueNo.{IssueNo}
 use Rattle.rank_strings.specs.Rank.{RankParts, IsRank, IsBelow, rank_cmp}
 use Rattle.rank_strings.specs.Text.{rank_text}
 

@@ -1,6 +1,6 @@
 -- Where an issue is to stand, and the rank that puts it there.
 use Rattle.std.specs.Prelude.{ℕ, ◌≡◌, ◌≢◌, ◌+◌, ◌≤◌, ◌==◌, ◌&&◌, List, length, slice_get, option_map, Bool, true, false, Option, Some, None, IfSome, if◌then◌else◌}
-use Rattle.fields.specs.declared.numbers.IssueNo.{IssueNo}
+use Rattle.field_values.specs.declared.numbers.IssueNo.{IssueNo}
 use Rattle.rank_strings.specs.Rank.{RankParts}
 use Rattle.rank_strings.specs.Chosen.{IsChosen}
 use Rattle.rank_strings.specs.declared.fault.RankFault.{RankFault}

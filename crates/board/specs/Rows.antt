@@ -1,6 +1,6 @@
 -- Worked values, computed from the definitions.
 use Rattle.std.specs.Prelude.{ℕ, ◌≡◌, List, [], ◌∷◌, true, false, Some, None, refl}
-use Rattle.fields.specs.declared.numbers.IssueNo.{IssueNo}
+use Rattle.field_values.specs.declared.numbers.IssueNo.{IssueNo}
 use Rattle.rank_strings.specs.Rank.{RankParts}
 use Rattle.board.specs.declared.place.Place.TheVariants.{Before, After, Last}
 use Rattle.board.specs.Order.{Pair, place_in, without, put_in}

@@ -3,7 +3,7 @@ ghost use Rattle.std.specs.Prelude.{◌≡◌, OnOk, OnErr};
 ghost use Rattle.board.specs.Board.{AreRows};
 
 use crate::order::Order;
-use fields::{BoardNo, FilterNo, IssueNo, Memory, Text};
+use field_values::{BoardNo, FilterNo, IssueNo, Memory, Text};
 
 /// A board shows the issues of a saved filter.
 #[derive(Debug, Drop)]

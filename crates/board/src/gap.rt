@@ -5,7 +5,7 @@ ghost use Rattle.rank_strings.specs.Rank.{IsBelow};
 ghost use Rattle.board.specs.Order.{IsOrder};
 ghost use Rattle.board.specs.Place.{rank_above, rank_below, IsBeside, bucket_between, bucket_beside, if_in, IsChosenBeside, ExplainsBeside};
 
-use fields::IssueNo;
+use field_values::IssueNo;
 use rank_strings::{Rank, RankFault, between};
 use std::alloc::Global;
 

@@ -4,7 +4,7 @@ ghost use Rattle.rank_strings.specs.Rank.{IsRank};
 ghost use Rattle.rank_strings.specs.Text.{rank_text};
 ghost use Rattle.board.specs.Lengths.{CountsOneMore, IsLongest};
 
-use fields::Memory;
+use field_values::Memory;
 use rank_strings::Rank;
 
 /// A rank's text has at most 254 bytes, so its length is one of these many.

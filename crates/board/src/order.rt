@@ -8,7 +8,7 @@ use crate::lengths::{longest, room_for_lengths};
 use crate::pairs::put_pair;
 use crate::place::Place;
 use crate::search::{place_by, room_for_numbers};
-use fields::{IssueNo, Memory};
+use field_values::{IssueNo, Memory};
 use rank_strings::{Rank, RankFault};
 use std::alloc::Global;
 use std::marker::Model;

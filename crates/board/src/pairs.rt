@@ -8,7 +8,7 @@ ghost use Rattle.board.specs.Lengths.{AreCountsOf};
 use crate::lengths::{count_in, count_out, length_of};
 use crate::search::{count_below, place_by};
 use crate::shift::shift;
-use fields::IssueNo;
+use field_values::IssueNo;
 use rank_strings::Rank;
 
 /// Sets the rank of the issue's pair, which stands at this place.

@@ -1,6 +1,6 @@
 //! Where an issue is to stand.
 
-use fields::IssueNo;
+use field_values::IssueNo;
 
 /// A place in the order of issues, which runs from the least rank, the top of a board, to the greatest.
 #[derive(Clone, Copy, Debug, PartialEq, Eq)]

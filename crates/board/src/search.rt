@@ -4,7 +4,7 @@ ghost use Rattle.rank_strings.specs.Rank.{IsRank};
 ghost use Rattle.board.specs.Order.{IsOrder};
 ghost use Rattle.board.specs.Search.{IsFront};
 
-use fields::{IssueNo, Memory};
+use field_values::{IssueNo, Memory};
 use rank_strings::Rank;
 
 /// The issue's place by the table.

@@ -2,7 +2,7 @@
 ghost use Rattle.std.specs.Prelude.{◌≡◌, ◌≢◌, ◌≤◌, ◌<◌, ℕ, length, slice_index_or, insert, remove, AllPairs};
 ghost use Rattle.board.specs.Table.{nothing, number_at, IsTableOf, Mended};
 
-use fields::IssueNo;
+use field_values::IssueNo;
 use rank_strings::Rank;
 
 /// Moves the pair at one place to another; those between shift by one, and all others stay.

@@ -3,7 +3,7 @@ ghost use Rattle.board.specs.Order.{IsIn, IsFreeFor};
 ghost use Rattle.board.specs.Place.{AreNamed, named_by};
 
 use crate::{Board, Order, Place};
-use fields::{BoardNo, FilterNo, IssueNo, Memory, Text};
+use field_values::{BoardNo, FilterNo, IssueNo, Memory, Text};
 use rank_strings::{Rank, RankFault};
 use std::alloc::{AllocError, Global};
 use std::process::Abort;

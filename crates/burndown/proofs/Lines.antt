@@ -6,7 +6,7 @@ use Rattle.std.proofs.lemmas.Bool.Decides.{nat_tests}
 use Rattle.std.proofs.lemmas.List.{length-set, get_or-set_other}
 use Rattle.std.proofs.lemmas.Grind.{common_steps, get_or-set_at}
 use Rattle.std.proofs.lemmas.List.Edits.{length-insert, get_or-insert_below, get_or-insert_at, get_or-insert_above}
-use Rattle.fields.specs.declared.numbers.SprintNo.{SprintNo}
+use Rattle.field_values.specs.declared.numbers.SprintNo.{SprintNo}
 use Rattle.burndown.specs.declared.progress.Progress.{Progress}
 use Rattle.burndown.specs.declared.progress.Stage.{Stage}
 use Rattle.burndown.specs.declared.progress.Stage.TheVariants.{Ahead}

@@ -5,7 +5,7 @@ use Rattle.std.specs.Ordering.{nat_cmp, ordering_index}
 use Rattle.std.proofs.lemmas.Cmp.{ranked}
 use Rattle.std.proofs.lemmas.List.Sorted.{IsNonDecreasingBy-from_default}
 use Rattle.std.proofs.lemmas.Bool.Decides.{nat_tests}
-use Rattle.fields.specs.declared.numbers.SprintNo.{SprintNo}
+use Rattle.field_values.specs.declared.numbers.SprintNo.{SprintNo}
 use Rattle.burndown.specs.Burndown.{sprint_at, IsRising, IsAt, IsGapFor}
 
 module _ (ts : List (SprintNo × ℤ)) (rising : IsRising ts) (s : ℕ) where

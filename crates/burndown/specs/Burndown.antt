@@ -1,6 +1,6 @@
 -- The burndown of all sprints, and how calls change it.
 use Rattle.std.specs.Prelude.{ℕ, ◌≡◌, ◌≢◌, ◌<◌, ◌≤◌, ◌==◌, ℤ, pos, List, [], ◌∷◌, length, slice_index_or, Option, if◌then◌else◌}
-use Rattle.fields.specs.declared.numbers.SprintNo.{SprintNo}
+use Rattle.field_values.specs.declared.numbers.SprintNo.{SprintNo}
 use Rattle.burndown.specs.declared.share.BurnRow.{BurnRow}
 use Rattle.burndown.specs.declared.group.Group.{Group}
 use Rattle.burndown.specs.declared.progress.Progress.{Progress}

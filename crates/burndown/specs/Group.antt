@@ -1,7 +1,7 @@
 -- The sprints that a change group names: the issue's sprint before, and another one after.
 use Rattle.std.specs.Prelude.{ℕ, ◌==◌, Option, Some, None, if◌then◌else◌}
-use Rattle.fields.specs.declared.numbers.SprintNo.{SprintNo}
-use Rattle.fields.specs.declared.numbers.IssueNo.{IssueNo}
+use Rattle.field_values.specs.declared.numbers.SprintNo.{SprintNo}
+use Rattle.field_values.specs.declared.numbers.IssueNo.{IssueNo}
 use Rattle.burndown.specs.declared.share.Share.{Share}
 use Rattle.burndown.specs.declared.group.Group.{Group}
 

@@ -1,6 +1,6 @@
 -- What is kept, sprint by sprint: the burndown, and how many rows there is room for.
 use Rattle.std.specs.Prelude.{ℕ, ◌≡◌, ◌<◌, ◌==◌, ℤ, List, [], ◌∷◌, vec_capacity, if◌then◌else◌}
-use Rattle.fields.specs.declared.numbers.SprintNo.{SprintNo}
+use Rattle.field_values.specs.declared.numbers.SprintNo.{SprintNo}
 use Rattle.burndown.specs.declared.progress.Progress.{Progress}
 use Rattle.burndown.specs.declared.progress.Stage.TheVariants.{Ahead}
 use Rattle.burndown.specs.Course.{Course, untold}

@@ -1,6 +1,6 @@
 -- What an issue counts for in a sprint.
 use Rattle.std.specs.Prelude.{ℕ, ◌==◌, ℤ, pos, Bool, false, not, ◌&&◌, Option, Some, None, if◌then◌else◌}
-use Rattle.fields.specs.declared.numbers.SprintNo.{SprintNo}
+use Rattle.field_values.specs.declared.numbers.SprintNo.{SprintNo}
 use Rattle.burndown.specs.declared.share.Share.{Share}
 
 -- whether this is the sprint

@@ -9,7 +9,7 @@ use crate::group::Group;
 use crate::places::{insert_reserved, place_of};
 use crate::progress::{Progress, Stage};
 use crate::share::{BurnRow, Share};
-use fields::{IssueNo, Memory, Moment, SprintNo};
+use field_values::{IssueNo, Memory, Moment, SprintNo};
 use std::alloc::Global;
 use std::marker::Model;
 

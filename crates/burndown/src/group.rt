@@ -3,7 +3,7 @@ ghost use Rattle.std.specs.Prelude.{◌≡◌};
 ghost use Rattle.burndown.specs.Group.{first_sprint, second_sprint};
 
 use crate::share::Share;
-use fields::{IssueNo, Moment, SprintNo};
+use field_values::{IssueNo, Moment, SprintNo};
 
 /// A change group: its number, moment and issue, and what the issue's share was and is. There was none before a creation.
 #[derive(Clone, Copy, Debug, PartialEq, Eq)]

@@ -3,7 +3,7 @@ ghost use Rattle.std.specs.Prelude.{◌<◌, ◌≤◌, ◌≡◌, IfOk, IfErr, 
 ghost use Rattle.std.specs.List.{insert};
 ghost use Rattle.burndown.specs.Burndown.{IsRising, IsAt, IsGapFor};
 
-use fields::SprintNo;
+use field_values::SprintNo;
 
 /// The sprint's place, or the place where it would go.
 pub(crate) fn place_of(totals: &[(SprintNo, i64)], sprint: SprintNo) -> Result<usize, usize>

@@ -5,7 +5,7 @@ ghost use Rattle.burndown.specs.Line.{course, IsAhead};
 
 use crate::group::Group;
 use crate::share::{BurnRow, counted_before};
-use fields::{Memory, SprintNo};
+use field_values::{Memory, SprintNo};
 use std::alloc::Global;
 
 /// Whether a sprint has begun and ended, with its total at the begin.

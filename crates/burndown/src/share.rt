@@ -2,7 +2,7 @@
 ghost use Rattle.std.specs.Prelude.{◌≡◌};
 ghost use Rattle.burndown.specs.Share.{counts_for, counted_before};
 
-use fields::{IssueNo, Moment, SprintNo};
+use field_values::{IssueNo, Moment, SprintNo};
 
 /// What remaining work depends on in an issue. Points are in thousandths, 0 where the issue has none.
 #[derive(Clone, Copy, Debug, PartialEq, Eq)]

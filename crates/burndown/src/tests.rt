@@ -5,7 +5,7 @@ ghost use Rattle.burndown.specs.Small.{IsSmall, SmallBefore};
 
 use crate::group::Group;
 use crate::{BurnRow, Burndown, Share};
-use fields::{IssueNo, Memory, Moment, SprintNo};
+use field_values::{IssueNo, Memory, Moment, SprintNo};
 use std::process::Abort;
 use std::test::Fail;
 

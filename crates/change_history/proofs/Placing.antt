@@ -4,9 +4,9 @@ use Rattle.std.specs.Prelude.{slice_get, unwrap_or, option_map, if◌then◌else
 use Rattle.std.proofs.lemmas.Bool.{eqb-true}
 use Rattle.std.proofs.lemmas.List.{map-append}
 use Rattle.std.proofs.Math.ListN.{set}
-use Rattle.fields.specs.declared.numbers.FieldNo.{FieldNo}
-use Rattle.fields.specs.declared.value.Value.{Value}
-use Rattle.fields.specs.declared.value.Value.TheVariants.{Empty}
+use Rattle.field_values.specs.declared.numbers.FieldNo.{FieldNo}
+use Rattle.field_values.specs.declared.value.Value.{Value}
+use Rattle.field_values.specs.declared.value.Value.TheVariants.{Empty}
 use Rattle.change_history.specs.declared.change.Change.{Change}
 use Rattle.change_history.specs.declared.entry.Entry.{Entry}
 use Rattle.change_history.specs.declared.places.Place.{Place}

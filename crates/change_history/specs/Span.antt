@@ -1,8 +1,8 @@
 -- How long a field held each of its values.
 use Rattle.std.specs.Prelude.{ℕ, ◌-◌, ◌==◌, List, filter, slice_get, Option, Some, option_map, if◌then◌else◌}
-use Rattle.fields.specs.declared.numbers.UserNo.{UserNo}
-use Rattle.fields.specs.declared.numbers.FieldNo.{FieldNo}
-use Rattle.fields.specs.declared.value.Value.{Value}
+use Rattle.field_values.specs.declared.numbers.UserNo.{UserNo}
+use Rattle.field_values.specs.declared.numbers.FieldNo.{FieldNo}
+use Rattle.field_values.specs.declared.value.Value.{Value}
 use Rattle.change_history.specs.declared.entry.Entry.{Entry}
 use Rattle.change_history.specs.History.{History, opening_value}
 

@@ -1,6 +1,6 @@
 ghost use Rattle.std.specs.Prelude.{◌≡◌, [], ◌∷◌, ◌++◌, OnOk, OnErr};
 
-use fields::{FieldNo, Memory, Moment, UserNo, Value};
+use field_values::{FieldNo, Memory, Moment, UserNo, Value};
 use std::alloc::Global;
 use std::marker::Model;
 

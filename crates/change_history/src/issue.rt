@@ -8,7 +8,7 @@ use crate::entry::{Entry, Group};
 use crate::key::Key;
 use crate::places::{Place, opening_places, place_of, set_place};
 use crate::span::Span;
-use fields::{FieldNo, IssueNo, Memory, Moment, UserNo, Value};
+use field_values::{FieldNo, IssueNo, Memory, Moment, UserNo, Value};
 use std::alloc::Global;
 use std::marker::Model;
 

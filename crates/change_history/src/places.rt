@@ -3,7 +3,7 @@ ghost use Rattle.std.specs.Prelude.{◌≡◌, ◌+◌, ◌<◌, ◌≤◌, [], 
 ghost use Rattle.change_history.specs.Places.{place_of, set_place, index_of, opening_places};
 
 use crate::change::Change;
-use fields::{FieldNo, Memory};
+use field_values::{FieldNo, Memory};
 use std::alloc::Global;
 
 /// The place of a field's present value: an opening value's place, or, past all these, an entry's.

@@ -1,4 +1,4 @@
-use fields::{Moment, UserNo, Value};
+use field_values::{Moment, UserNo, Value};
 
 /// How long a field held a value: from `begin`, when `author` set it, to `end`, or until now where there is none.
 #[derive(Debug, Drop)]

@@ -1,5 +1,5 @@
 use crate::{Change, Changes, Issue, Key};
-use fields::{ChoiceNo, FieldNo, IssueNo, Memory, Moment, Text, UserNo, Value};
+use field_values::{ChoiceNo, FieldNo, IssueNo, Memory, Moment, Text, UserNo, Value};
 use std::alloc::Global;
 use std::test::Fail;
 

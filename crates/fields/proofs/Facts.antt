@@ -9,15 +9,16 @@ use Rattle.std.proofs.lemmas.List.{append_assoc, append-nil}
 use Rattle.std.proofs.lemmas.List.Quantifiers.{all_pairs_push, position-Some}
 use Rattle.std.proofs.lemmas.List.Folds.{list_any-from_Any, list_any-append}
 use Rattle.toml.specs.Data.{Data, Members, as_str, as_integer, get_member}
-use Rattle.fields.specs.declared.fault.SetupFault.{SetupFault}
-use Rattle.fields.specs.declared.fault.SetupFault.TheVariants.{Missing, BadValue, Duplicate}
-use Rattle.fields.specs.declared.name_form.NameForm.{NameForm}
-use Rattle.fields.specs.Faults.{fault_if, first_of}
-use Rattle.fields.specs.Names.{is_among, first_double}
-use Rattle.fields.specs.Cells.{has_form, new_name_fault, text_in, names_in, list_fault, names_fault, optional_names_fault, crowd_fault}
-use Rattle.fields.specs.Written.{texts_of, has_fewer_than}
+use Rattle.setup_drafts.specs.declared.fault.SetupFault.{SetupFault}
+use Rattle.setup_drafts.specs.declared.fault.SetupFault.TheVariants.{Missing, BadValue, Duplicate}
+use Rattle.field_forms.specs.declared.name_form.NameForm.{NameForm}
+use Rattle.setup_drafts.specs.Faults.{fault_if, first_of}
+use Rattle.field_forms.specs.Names.{is_among, first_double}
+use Rattle.field_forms.specs.NameForms.{has_form}
+use Rattle.setup_drafts.specs.Cells.{new_name_fault, text_in, names_in, list_fault, names_fault, optional_names_fault, crowd_fault}
+use Rattle.setup_drafts.specs.Written.{texts_of, has_fewer_than}
 use Rattle.fields.specs.Sound.{AreDistinct}
-use Rattle.fields.specs.Entries.{entries_fault, with_name}
+use Rattle.setup_drafts.specs.Entries.{entries_fault, with_name}
 
 pub none_first : {X : Type 0} (a b : Option X) → option_or a b ≡ None → a ≡ None
 none_first None b h = refl
@@ -50,10 +51,10 @@ one_more names name distinct new =
 pub without_double : (seen names : List (List ℕ)) → AreDistinct seen → first_double seen names ≡ None → AreDistinct (seen ++ names)
 without_double seen [] distinct none = rw append-nil distinct
 without_double seen (name ∷ names) distinct none = elim (cases_Bool (is_among seen name)) [
-    | inl double ↦ absurd (grind (arith, double, none))
-    | inr new ↦
-        let more : AreDistinct ((seen ++ name ∷ []) ++ names) = without_double (seen ++ name ∷ []) names (one_more seen name distinct new) (grind (arith, new, none)) in
-        rw append_assoc at more
+  | inl double ↦ absurd (grind (arith, double, none))
+  | inr new ↦
+      let more : AreDistinct ((seen ++ name ∷ []) ++ names) = without_double (seen ++ name ∷ []) names (one_more seen name distinct new) (grind (arith, new, none)) in
+      rw append_assoc at more
 ]
 
 -- a name at a key without a fault is a new one of its form
@@ -92,9 +93,9 @@ list_distinct key form least most d h =
     let few = none_second (fault_if (has_fewer_than least d) (Missing key)) _ h in
     let formed = none_second (fault_if (not (option_map_or (list_all (has_form form)) (texts_of d) false)) (BadValue key)) _ few in
     by_double d (first_double [] (names_in (Some d))) refl (none_second (crowd_fault key most (length (names_in (Some d)))) _ formed) where
-  by_double : (d : Data) (double : Option (List ℕ)) → first_double [] (names_in (Some d)) ≡ double → option_map Duplicate (first_double [] (names_in (Some d))) ≡ None → AreDistinct (names_in (Some d))
-  by_double d None e none = without_double [] (names_in (Some d)) (λ i j n lt inside. absurd (omega arith)) e
-  by_double d (Some name) e none = absurd (grind (arith, e, none))
+      by_double : (d : Data) (double : Option (List ℕ)) → first_double [] (names_in (Some d)) ≡ double → option_map Duplicate (first_double [] (names_in (Some d))) ≡ None → AreDistinct (names_in (Some d))
+      by_double d None e none = without_double [] (names_in (Some d)) (λ i j n lt inside. absurd (omega arith)) e
+      by_double d (Some name) e none = absurd (grind (arith, e, none))
 
 pub names_distinct : (key : List ℕ) (form : NameForm) (least : ℕ) (most : Option ℕ) (value : Option Data) → names_fault key form least most value ≡ None → AreDistinct (names_in value)
 names_distinct key form least most None h = absurd (cc)

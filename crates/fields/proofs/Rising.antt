@@ -11,9 +11,9 @@ use Rattle.std.proofs.lemmas.List.Kept.{AllPairs-cons}
 use Rattle.std.proofs.lemmas.List.Folds.{list_any_none}
 use Rattle.std.proofs.lemmas.List.Sorted.{IsNonDecreasingBy-from_default}
 use Rattle.std.proofs.lemmas.List.Sums.{AllPass-from_list_all}
-use Rattle.fields.specs.declared.numbers.UserNo.{UserNo}
-use Rattle.fields.specs.declared.parts.Group.{Group}
-use Rattle.fields.specs.GroupMembers.{is_user_list, AreRising, HaveRising}
+use Rattle.field_values.specs.declared.numbers.UserNo.{UserNo}
+use Rattle.field_values.specs.declared.parts.Group.{Group}
+use Rattle.field_values.specs.GroupMembers.{is_user_list, AreRising, HaveRising}
 use Rattle.fields.specs.Sound.{has_members_in}
 use Rattle.fields.proofs.Facts.{each_fails}
 
@@ -53,10 +53,10 @@ module _ (users : List UserNo) (rising : AreRising users) (user : ℕ) where
         let here : nat_cmp ((get_or users i d).0) user ≡ _ = equal d in
         absurd (grind (arith, nat_tests, other, ranked _ user _ (sym here)))
   found_is (Err i) inside parted = sym (list_any_none (λ (u : UserNo). u.0 == user) users (λ k d within. elim (cases_Bool (nat_lt k i)) [
-      | inl before ↦
-          let less = ranked ((get_or users k d).0) user _ (sym ((parted comparisons_rise).0 k d (omega arith) (grind (arith, before)))) in
-          grind (arith, nat_tests, less)
-      | inr after ↦
-          let greater = ranked ((get_or users k d).0) user _ (sym ((parted comparisons_rise).1 k d (grind (arith, after)) within)) in
-          grind (arith, nat_tests, greater)
-    ]))
+    | inl before ↦
+        let less = ranked ((get_or users k d).0) user _ (sym ((parted comparisons_rise).0 k d (omega arith) (grind (arith, before)))) in
+        grind (arith, nat_tests, less)
+    | inr after ↦
+        let greater = ranked ((get_or users k d).0) user _ (sym ((parted comparisons_rise).1 k d (grind (arith, after)) within)) in
+        grind (arith, nat_tests, greater)
+  ]))

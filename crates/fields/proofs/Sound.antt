@@ -10,31 +10,33 @@ use Rattle.std.proofs.lemmas.List.{append_assoc, append-nil, length-map}
 use Rattle.std.proofs.lemmas.List.Quantifiers.{all_pairs_push, position-Some}
 use Rattle.std.proofs.lemmas.List.Folds.{list_all-map}
 use Rattle.toml.specs.Data.{Data, Members, as_str, as_integer, get_member}
-use Rattle.fields.specs.declared.fault.SetupFault.{SetupFault}
-use Rattle.fields.specs.declared.fault.SetupFault.TheVariants.{Missing, BadValue, Duplicate, Unknown}
-use Rattle.fields.specs.declared.field.Field.{Field}
-use Rattle.fields.specs.declared.parts.Group.{Group}
-use Rattle.fields.specs.declared.numbers.UserNo.{UserNo}
-use Rattle.fields.specs.declared.name_form.NameForm.{NameForm}
-use Rattle.fields.specs.declared.name_form.NameForm.TheVariants.{ProjectKey, User, Plain, Resolution}
-use Rattle.fields.specs.Faults.{fault_if, first_of}
-use Rattle.fields.specs.Names.{is_from_to, is_among, first_double, is_project_key, place_named}
-use Rattle.fields.specs.Cells.{has_form, is_whole, whole_fault, whole_in, new_name_fault, text_in, names_in, list_fault, names_fault, optional_names_fault, tables_in}
-use Rattle.fields.specs.Entries.{entries_fault, with_name}
-use Rattle.fields.specs.Fields.{number_in, number_fault, field_fault, field_of, with_field}
-use Rattle.fields.specs.Projects.{project_fault, project_draft}
-use Rattle.fields.specs.Ties.{unknown, place_in, choice_in, first_over, members_in, group_unknown, group_tied, project_unknown, project_tied, transition_unknown, transition_tied, rights_unknown, rights_tied, tables_unknown, tables_tied, tie_fault, tie_fault_by, tied, tied_by, names_in as known_in}
-use Rattle.fields.specs.Known as known
+use Rattle.setup_drafts.specs.declared.fault.SetupFault.{SetupFault}
+use Rattle.setup_drafts.specs.declared.fault.SetupFault.TheVariants.{Missing, BadValue, Duplicate, Unknown}
+use Rattle.field_values.specs.declared.field.Field.{Field}
+use Rattle.field_values.specs.declared.parts.Group.{Group}
+use Rattle.field_values.specs.declared.numbers.UserNo.{UserNo}
+use Rattle.field_forms.specs.declared.name_form.NameForm.{NameForm}
+use Rattle.field_forms.specs.declared.name_form.NameForm.TheVariants.{ProjectKey, User, Plain, Resolution}
+use Rattle.setup_drafts.specs.Faults.{fault_if, first_of}
+use Rattle.field_forms.specs.Names.{is_from_to, is_among, first_double, is_project_key, place_named}
+use Rattle.field_forms.specs.NameForms.{has_form}
+use Rattle.setup_drafts.specs.Cells.{is_whole, whole_fault, whole_in, new_name_fault, text_in, names_in, list_fault, names_fault, optional_names_fault, tables_in}
+use Rattle.setup_drafts.specs.Entries.{entries_fault, with_name}
+use Rattle.setup_drafts.specs.Fields.{number_in, number_fault, field_fault, field_of, with_field}
+use Rattle.setup_drafts.specs.Projects.{project_fault, project_draft}
+use Rattle.setup_reading.specs.Ties.{unknown, place_in, choice_in, first_over, members_in, group_unknown, group_tied, project_unknown, project_tied, transition_unknown, transition_tied, rights_unknown, rights_tied, tables_unknown, tables_tied, tie_fault, tie_fault_by, tied, tied_by, names_in as known_in}
+use Rattle.field_forms.specs.Known as known
 use Rattle.toml.specs.Parse.{parse_document}
-use Rattle.fields.specs.Reading.{Parts, parts_in, parts_or_fault, fault_or, first_fault, setup_in}
-use Rattle.fields.specs.declared.draft.Draft.{Draft}
-use Rattle.fields.specs.declared.status.Status.{Status}
-use Rattle.fields.specs.declared.draft.group.GroupDraft.{GroupDraft}
-use Rattle.fields.specs.declared.draft.transition.TransitionDraft.{TransitionDraft}
-use Rattle.fields.specs.GroupMembers.{is_user_list, with_members}
+use Rattle.field_values.specs.Parts.{Parts}
+use Rattle.setup_reading.specs.Reading.{parts_in, parts_or_fault, fault_or, first_fault, setup_in}
+use Rattle.setup_drafts.specs.declared.draft.Draft.{Draft}
+use Rattle.field_values.specs.declared.status.Status.{Status}
+use Rattle.setup_drafts.specs.declared.draft.group.GroupDraft.{GroupDraft}
+use Rattle.setup_drafts.specs.declared.draft.transition.TransitionDraft.{TransitionDraft}
+use Rattle.field_values.specs.GroupMembers.{is_user_list, with_members}
 use Rattle.fields.specs.Sound.{AreDistinct, has_own_number, goes_inside, has_members_in, IsSound}
-use Rattle.fields.specs.Drafts.{draft_fault, head_fault, lists_fault, lists_of, rights_fault, tables_fault, groups_fault, projects_fault, projects_of, statuses_fault, transitions_fault, fields_fault, fields_of, tables_of, draft_of}
-use Rattle.fields.specs.Cells as cells
+use Rattle.setup_drafts.specs.Drafts.{draft_fault, head_fault, lists_fault, lists_of, rights_fault, tables_fault, groups_fault, projects_fault, projects_of, statuses_fault, transitions_fault, fields_fault, fields_of, tables_of, draft_of}
+use Rattle.setup_drafts.specs.Cells as cells
 use Rattle.fields.proofs.Facts.{IsNewName, none_first, none_second, not_faulty, each_fails, new_name, distinct_entries, each_entry, map_map, names_distinct, optional_distinct}
 
 -- a project's entry without a fault has a new key of the right form
@@ -69,8 +71,8 @@ known_inside names name h = by_place (place_named name names) refl where
   by_place : (place : Option ℕ) → place_named name names ≡ place → place_in names name < length names
   by_place None e = absurd (grind (arith, e, h))
   by_place (Some k) e =
-    let found = position-Some (λ other. str_eq_ignore_ascii_case other name) names k [] e in
-    grind (arith, e, found.0)
+      let found = position-Some (λ other. str_eq_ignore_ascii_case other name) names k [] e in
+      grind (arith, e, found.0)
 
 -- what holds of each thing that isn't faulty holds of all
 pub each_over : {X : Type 0} (fault : X → Option SetupFault) (test : X → Bool) → ((x : X) → fault x ≡ None → test x ≡ true) → (xs : List X) → first_over fault xs ≡ None → list_all test xs ≡ true
@@ -94,8 +96,8 @@ members_start : (place : ℕ) (users texts : List (List ℕ)) → starts_at plac
 unfolding starts_at
 members_start place [] texts = refl
 members_start place (user ∷ users) texts = elim (cases_Bool (is_among texts user)) [
-    | inl named ↦ rw named (grind arith)
-    | inr other ↦ rw other (starts_before place (members_in (place + 1) users texts) (members_start (place + 1) users texts))
+  | inl named ↦ rw named (grind arith)
+  | inr other ↦ rw other (starts_before place (members_in (place + 1) users texts) (members_start (place + 1) users texts))
 ]
 
 -- one more user before those of a list
@@ -125,8 +127,8 @@ distinct_numbers earlier [] distinct none = rw append-nil distinct
 distinct_numbers earlier (e ∷ es) distinct none =
     let new = own_number earlier e (none_first _ _ none) in
     let more : AllPairs (λ one other. one.number.0 ≢ other.number.0) ((earlier ++ field_of e ∷ []) ++ map field_of es) = distinct_numbers (earlier ++ field_of e ∷ []) es (all_pairs_push (λ one other. one.number.0 ≢ other.number.0) earlier (field_of e) distinct (λ k d inside same.
-        let other : ((get_or earlier k d).number.0 == (field_of e).number.0) ≡ false = each_fails (λ f. f.number.0 == (field_of e).number.0) earlier new.new k d inside in
-        absurd (grind (arith, other, same)))) (none_second (field_fault earlier e) _ none) in
+    let other : ((get_or earlier k d).number.0 == (field_of e).number.0) ≡ false = each_fails (λ f. f.number.0 == (field_of e).number.0) earlier new.new k d inside in
+    absurd (grind (arith, other, same)))) (none_second (field_fault earlier e) _ none) in
     rw append_assoc at more
 
 inside_mapped : {A B : Type 0} (f : A → B) (xs : List A) (k : ℕ) → k < length (map f xs) → k < length xs
@@ -331,6 +333,7 @@ sound_setup text parts reads = by_document (parse_document text) refl where
   by_fault : (ms : Members) (fault : Option SetupFault) → first_fault ms ≡ fault → fault_or fault (parts_in ms) ≡ Ok parts → IsSound parts
   by_fault ms None e same = subst IsSound (ok_is (parts_in ms) parts (Ok parts) (sym same) refl) (sound_parts ms e)
   by_fault ms (Some fault) e same = absurd (cc)
+
   by_document : (document : Option Members) → parse_document text ≡ document → IsSound parts
   by_document None e = absurd (grind (arith, e, reads))
   by_document (Some ms) e = by_fault ms (first_fault ms) refl (grind (arith, e, reads))

@@ -3,16 +3,16 @@ use Rattle.std.specs.Prelude.{ℕ, ◌-◌, ◌==◌, Bool, false, List, [], map
 use Rattle.std.specs.List.{list_any, slice_get}
 use Rattle.std.specs.Option.{option_map_or}
 use Rattle.fields.specs.declared.setup.Setup.{Setup}
-use Rattle.fields.specs.declared.form.Form.{Form}
-use Rattle.fields.specs.declared.form.Form.TheVariants.{Choice, Set}
-use Rattle.fields.specs.declared.numbers.GroupNo.{GroupNo}
-use Rattle.fields.specs.declared.rules.Permission.{Permission}
-use Rattle.fields.specs.declared.rules.Permission.TheVariants.{Browse, Create, Edit, Transition, Rank, Plan, Administer}
-use Rattle.fields.specs.declared.parts.Group.{Group}
-use Rattle.fields.specs.declared.parts.Project.{Project}
-use Rattle.fields.specs.Names.{place_named}
-use Rattle.fields.specs.Known.{Names, form_of, choices_of}
-use Rattle.fields.specs.Reading.{Parts}
+use Rattle.field_forms.specs.declared.form.Form.{Form}
+use Rattle.field_forms.specs.declared.form.Form.TheVariants.{Choice, Set}
+use Rattle.field_values.specs.declared.numbers.GroupNo.{GroupNo}
+use Rattle.field_values.specs.declared.rules.Permission.{Permission}
+use Rattle.field_values.specs.declared.rules.Permission.TheVariants.{Browse, Create, Edit, Transition, Rank, Plan, Administer}
+use Rattle.field_values.specs.declared.parts.Group.{Group}
+use Rattle.field_values.specs.declared.parts.Project.{Project}
+use Rattle.field_forms.specs.Names.{place_named}
+use Rattle.field_forms.specs.Known.{Names, form_of, choices_of}
+use Rattle.field_values.specs.Parts.{Parts}
 
 abbrev pub parts : Setup → Parts
 parts setup = record {

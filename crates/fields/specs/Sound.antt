@@ -2,12 +2,12 @@
 use Rattle.std.specs.Prelude.{◌≡◌, ◌≢◌, ◌<◌, ℕ, Bool, true, false, ◌&&◌, nat_lt, List, length, map}
 use Rattle.std.specs.List.{list_all, AllPairs}
 use Rattle.std.specs.Str.{str_eq_ignore_ascii_case}
-use Rattle.fields.specs.declared.field.Field.{Field}
-use Rattle.fields.specs.declared.parts.Group.{Group}
-use Rattle.fields.specs.declared.parts.Transition.{Transition}
-use Rattle.fields.specs.Names.{is_from_to, is_project_key}
-use Rattle.fields.specs.GroupMembers.{is_user_list}
-use Rattle.fields.specs.Reading.{Parts}
+use Rattle.field_values.specs.declared.field.Field.{Field}
+use Rattle.field_values.specs.declared.parts.Group.{Group}
+use Rattle.field_values.specs.declared.parts.Transition.{Transition}
+use Rattle.field_forms.specs.Names.{is_from_to, is_project_key}
+use Rattle.field_values.specs.GroupMembers.{is_user_list}
+use Rattle.field_values.specs.Parts.{Parts}
 
 -- no two of the names are the same
 abbrev pub AreDistinct : List (List ℕ) → Type 0

@@ -1,28 +1,28 @@
 // What the setup says by name, of values and of permissions.
 ghost use Rattle.std.specs.Prelude.{◌≡◌, ◌≢◌, ◌≤◌, true, pos, ◌==◌, ◌+◌, ◌-◌, length, map, option_map, IfOk, slice_get, slice_set};
 ghost use Rattle.std.specs.List.{list_any};
-ghost use Rattle.fields.specs.Names.{place_named};
-ghost use Rattle.fields.specs.Known.{names_of, AreFew, field_named, choices_of, value_of, fits};
+ghost use Rattle.field_forms.specs.Names.{place_named};
+ghost use Rattle.field_forms.specs.Known.{names_of, AreFew, field_named, choices_of, value_of, fits};
 ghost use Rattle.relative_dates.specs.Calendar.{local_day};
-ghost use Rattle.fields.specs.Offsets.{zone_of};
-ghost use Rattle.fields.specs.GroupMembers.{with_members, is_user_list, AreRising, HaveRising};
-ghost use Rattle.fields.specs.ValueTexts.{IsTextOf};
+ghost use Rattle.setup_drafts.specs.Offsets.{zone_of};
+ghost use Rattle.field_values.specs.GroupMembers.{with_members, is_user_list, AreRising, HaveRising};
+ghost use Rattle.field_forms.specs.ValueTexts.{IsTextOf};
 ghost use Rattle.fields.specs.SetupParts.{parts, names, choice_named, groups_in, groups_with, has_member, may};
 
-use crate::fit;
-use crate::form::Form;
-use crate::known::{Known, choices_of, field_named, form_of, value_of};
-use crate::memory::Memory;
-use crate::moment::Moment;
-use crate::name_form::place_of;
-use crate::numbers::{ChoiceNo, Day, FieldNo, GroupNo, ProjectNo, UserNo};
-use crate::parts::{Group, Project};
-use crate::rules::Permission;
-use crate::sequence::Sequence;
 use crate::setup::Setup;
-use crate::text::Text;
-use crate::value::Value;
-use crate::value_text::value_text;
+use field_forms::fit;
+use field_forms::form::Form;
+use field_forms::known::{Known, choices_of, field_named, form_of, value_of};
+use field_forms::name_form::place_of;
+use field_forms::value_text::value_text;
+use field_values::memory::Memory;
+use field_values::moment::Moment;
+use field_values::numbers::{ChoiceNo, Day, FieldNo, GroupNo, ProjectNo, UserNo};
+use field_values::parts::{Group, Project};
+use field_values::rules::Permission;
+use field_values::sequence::Sequence;
+use field_values::text::Text;
+use field_values::value::Value;
 use std::alloc::Global;
 
 fn is_member(members: &[UserNo], user: UserNo) -> bool
@@ -212,7 +212,7 @@ impl Setup {
 
     /// The text of a value that the field may hold and that isn't empty: what a choice or a user is called, a day as
     /// yyyy-MM-dd, the shortest spelling of a number, and a JSON array without spaces for a set or labels.
-    #[tactic(auto, using(crate::proofs::Fitting::fits_says))]
+    #[tactic(auto, using(field_forms::proofs::Fitting::fits_says))]
     pub fn text_of(&self, alloc: Global, field: FieldNo, value: &Value) -> Result<Text, Memory>
         requires fits { fits (names self.now) field.0 value.now ≡ true }
         requires some { value.now ≢ Value.Empty }
@@ -222,7 +222,7 @@ impl Setup {
     }
 
     /// Gives a group other members, in the setup's order of users and each once. All else stays, the text too.
-    #[tactic(auto, using(crate::proofs::Members::same_names, crate::proofs::Members::same_length, crate::proofs::Members::same_but_members))]
+    #[tactic(auto, using(field_values::proofs::Members::same_names, field_values::proofs::Members::same_length, field_values::proofs::Members::same_but_members))]
     pub fn set_members(&mut self, group: GroupNo, members: Sequence<UserNo>)
         requires from_one { 1 ≤ group.0 }
         requires there { group.0 ≤ length self.old.group }

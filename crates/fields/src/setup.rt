@@ -1,28 +1,28 @@
 ghost use Rattle.std.specs.Prelude.{◌≡◌, ◌≤◌, true, Ok, length, map};
 ghost use Rattle.std.specs.List.{list_all};
-ghost use Rattle.fields.specs.Fields.{has_few_options};
-ghost use Rattle.fields.specs.Offsets.{zone_of};
-ghost use Rattle.fields.specs.Words.{day_number};
-ghost use Rattle.fields.specs.Reading.{memberless, kept_in};
+ghost use Rattle.field_forms.specs.Known.{has_few_options};
+ghost use Rattle.setup_drafts.specs.Offsets.{zone_of};
+ghost use Rattle.field_values.specs.Words.{day_number};
+ghost use Rattle.setup_reading.specs.Reading.{memberless, kept_in};
 ghost use Rattle.fields.specs.Sound.{IsSound};
 
-use crate::built_in_text::BUILT_IN;
-use crate::draft::Draft;
-use crate::fault::SetupFault;
-use crate::field::Field;
-use crate::memory::Memory;
-use crate::name_lists::{group_names, project_keys, status_names, transition_names};
-use crate::names::Names;
-use crate::numbers::{ChoiceNo, GroupNo, UserNo};
-use crate::offset::Offset;
-use crate::parts::{Group, Project, Transition};
-use crate::reading::{Reading, read_text};
-use crate::sequence::Sequence;
-use crate::status::Status;
-use crate::text::Text;
-use crate::tied::Tied;
-use crate::words::Weekday;
+use field_values::field::Field;
+use field_values::memory::Memory;
+use field_values::names::Names;
+use field_values::numbers::{ChoiceNo, GroupNo, UserNo};
+use field_values::offset::Offset;
+use field_values::parts::{Group, Project, Transition};
+use field_values::sequence::Sequence;
+use field_values::status::Status;
+use field_values::text::Text;
+use field_values::words::Weekday;
 use relative_dates::Calendar;
+use setup_drafts::draft::Draft;
+use setup_drafts::fault::SetupFault;
+use setup_reading::built_in_text::BUILT_IN;
+use setup_reading::name_lists::{group_names, project_keys, status_names, transition_names};
+use setup_reading::reading::{Reading, read_text};
+use setup_reading::tied::Tied;
 use std::alloc::Global;
 use std::str;
 
@@ -84,9 +84,9 @@ pub struct Setup {
 
 impl Setup {
     ghost use Rattle.std.specs.Prelude.{IfOk, IfErr, IsUtf8, codes};
-    ghost use Rattle.fields.specs.Drafts.{IsSmall};
-    ghost use Rattle.fields.specs.Offsets.{steps_of};
-    ghost use Rattle.fields.specs.Reading.{parts_of, setup_in, Explains};
+    ghost use Rattle.setup_drafts.specs.Drafts.{IsSmall};
+    ghost use Rattle.setup_drafts.specs.Offsets.{steps_of};
+    ghost use Rattle.setup_reading.specs.Reading.{parts_of, setup_in, Explains};
     ghost use Rattle.fields.specs.SetupParts.{parts};
 
     /// Reads a setup from the bytes of a TOML text. The first fault is told, in the order of the setup's keys: first of
@@ -114,7 +114,7 @@ impl Setup {
         }
     }
 
-    #[tactic(auto, unfolding(crate::specs::Reading::kept_in))]
+    #[tactic(auto, unfolding(setup_reading::specs::Reading::kept_in))]
     fn of(alloc: Global, text: &str, reading: Reading) -> Result<Setup, Memory>
         requires reads { setup_in text.now ≡ Ok (parts_of reading.draft reading.numbers) }
         requires small { IsSmall reading.draft }

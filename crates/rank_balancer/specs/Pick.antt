@@ -1,6 +1,6 @@
 -- Which issue is picked, and which rank it gets.
 use Rattle.std.specs.Prelude.{ℕ, ◌≡◌, ◌==◌, List, [], ◌∷◌, Option, Some, None, option_map, if◌then◌else◌}
-use Rattle.fields.specs.declared.numbers.IssueNo.{IssueNo}
+use Rattle.field_values.specs.declared.numbers.IssueNo.{IssueNo}
 use Rattle.rank_strings.specs.Rank.{RankParts}
 use Rattle.rank_strings.specs.Chosen.{IsChosen}
 use Rattle.rank_strings.specs.Between.{HasNoRoom}

@@ -1,6 +1,6 @@
 -- A step: some picks, one after the other.
 use Rattle.std.specs.Prelude.{ℕ, ◌≡◌, ◌<◌, ◌==◌, min, List, [], ◌∷◌, length, count_by, Option, Some, if◌then◌else◌}
-use Rattle.fields.specs.declared.numbers.IssueNo.{IssueNo}
+use Rattle.field_values.specs.declared.numbers.IssueNo.{IssueNo}
 use Rattle.rank_strings.specs.Rank.{RankParts}
 use Rattle.rank_strings.specs.declared.fault.RankFault.{RankFault}
 use Rattle.rank_strings.specs.declared.fault.RankFault.TheVariants.{Exhausted, Memory}

@@ -10,7 +10,7 @@ ghost use Rattle.rank_balancer.specs.Balance.{Agrees, next_bucket};
 ghost use Rattle.rank_balancer.specs.Pick.{first_rank, IsNextRank, ExplainsNoNext};
 
 use crate::search::{count_up_to, rank_at, rank_before};
-use fields::IssueNo;
+use field_values::IssueNo;
 use rank_strings::{Rank, RankFault, between};
 use std::alloc::Global;
 

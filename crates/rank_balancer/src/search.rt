@@ -8,7 +8,7 @@ ghost use Rattle.rank_balancer.specs.Pick.{first_in, last_in, pick_of};
 
 use crate::balance::Balance;
 use board::Order;
-use fields::IssueNo;
+use field_values::IssueNo;
 use rank_strings::Rank;
 
 /// How many pairs are in buckets up to this one.

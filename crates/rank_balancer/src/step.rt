@@ -8,7 +8,7 @@ use crate::balance::Balance;
 use crate::plan::plan_moves;
 use crate::search::pick;
 use board::Order;
-use fields::IssueNo;
+use field_values::IssueNo;
 use rank_strings::{Rank, RankFault};
 use std::alloc::Global;
 use std::marker::Model;
@@ -21,7 +21,7 @@ pub struct StepPlan {
 
 impl Model for StepPlan {
     ghost use Rattle.std.specs.Prelude.{List};
-    ghost use Rattle.fields.specs.declared.numbers.IssueNo.{IssueNo};
+    ghost use Rattle.field_values.specs.declared.numbers.IssueNo.{IssueNo};
     ghost use Rattle.rank_strings.specs.Rank.{RankParts};
 
     ghost Value = { List (IssueNo × RankParts) };

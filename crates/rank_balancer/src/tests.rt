@@ -5,7 +5,7 @@ ghost use Rattle.rank_balancer.specs.Balance.{Agrees, IsMoving};
 
 use crate::{Balance, BalanceIs, apply, pick, plan_step};
 use board::{Order, Place};
-use fields::{IssueNo, Memory};
+use field_values::{IssueNo, Memory};
 use rank_strings::{Rank, RankFault};
 use std::alloc::{AllocError, Global};
 use std::process::Abort;

@@ -1,7 +1,7 @@
 //! One sprint.
 
 use crate::state::SprintState;
-use fields::Text;
+use field_values::Text;
 
 /// A sprint: what it is called, and its state.
 #[derive(Debug, Drop)]

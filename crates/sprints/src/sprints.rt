@@ -6,7 +6,7 @@ ghost use Rattle.sprints.specs.State.{after_start, after_close};
 
 use crate::sprint::Sprint;
 use crate::state::{SprintFault, SprintState};
-use fields::{Moment, SprintNo, Text};
+use field_values::{Moment, SprintNo, Text};
 use std::alloc::Global;
 use std::marker::Model;
 

@@ -2,7 +2,7 @@
 ghost use Rattle.std.specs.Prelude.{◌≡◌};
 ghost use Rattle.sprints.specs.State.{after_start, after_close};
 
-use fields::Moment;
+use field_values::Moment;
 
 /// The state of a sprint. With each moment goes the number of the last change group at that time.
 #[derive(Clone, Copy, Debug, PartialEq, Eq)]

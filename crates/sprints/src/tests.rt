@@ -1,5 +1,5 @@
 use crate::{SprintFault, SprintState, Sprints};
-use fields::{Moment, SprintNo, Text};
+use field_values::{Moment, SprintNo, Text};
 use std::process::Abort;
 use std::test::Fail;
 

@@ -8,7 +8,7 @@ use crate::given::{set_at, set_if_there};
 use crate::members::{first_other, misses, moment_at, text_at};
 use crate::reply::Refusal;
 use crate::user_name::UserName;
-use fields::Text;
+use field_values::Text;
 use serde_json::{Map, Value};
 use std::alloc::Global;
 

@@ -1,5 +1,5 @@
 use crate::given::GivenFields;
-use fields::{Moment, Text};
+use field_values::{Moment, Text};
 
 /// What a line asks for.
 #[derive(Debug, Drop)]

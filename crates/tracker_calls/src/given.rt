@@ -4,7 +4,7 @@ ghost use Rattle.std.specs.List.{list_any};
 ghost use Rattle.serde_json.specs.View.{view, members_view, items_view};
 ghost use Rattle.tracker_calls.specs.Given.{given_of, fields_of, texts_of, is_twin, has_twins, set_of, set_at, set_if_there};
 
-use fields::{Memory, Names, Text};
+use field_values::{Memory, Names, Text};
 use serde_json::{Map, Value};
 use std::alloc::Global;
 use std::marker::Model;

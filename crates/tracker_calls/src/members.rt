@@ -5,7 +5,7 @@ ghost use Rattle.tracker_calls.specs.Line.{text_at, moment_at, first_other, is_m
 
 use crate::call::CallKind;
 use crate::reply::Refusal;
-use fields::{Moment, Text};
+use field_values::{Moment, Text};
 use serde_json::{Map, Value};
 use std::alloc::Global;
 

@@ -1,6 +1,6 @@
 ghost use Rattle.std.specs.Prelude.{◌≡◌, ◌∷◌, ◌++◌, [], OnOk, OnErr};
 
-use fields::{Memory, Moment, Names, Text};
+use field_values::{Memory, Moment, Names, Text};
 use std::alloc::Global;
 use std::marker::Model;
 

@@ -5,7 +5,7 @@ ghost use Rattle.tracker_calls.specs.Reply.{reply_text, reply_data, answer_data,
 
 use crate::reply::{Answer, Limit, Refusal, Reply, Thing};
 use crate::show_json::show_value;
-use fields::{Memory, Moment, Text};
+use field_values::{Memory, Moment, Text};
 use serde_json::{Value, json};
 use std::alloc::Global;
 

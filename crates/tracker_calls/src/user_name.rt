@@ -1,6 +1,6 @@
 ghost use Rattle.std.specs.Prelude.{◌≡◌, IfOk};
 
-use fields::{Memory, Text};
+use field_values::{Memory, Text};
 use std::alloc::Global;
 use std::marker::Model;
 

@@ -1,7 +1,8 @@
 -- What the command line writes, by its status.
 use Rattle.std.specs.Prelude.{◌≡◌, ◌⊎◌, ℕ, List, [], ◌∷◌, ◌++◌, codes, Option, Some, Ok}
 use Rattle.std.specs.Io.KnownBytes.{Appends, Consumes, IsAtEnd}
-use Rattle.fields.specs.Reading.{Parts, setup_in}
+use Rattle.field_values.specs.Parts.{Parts}
+use Rattle.setup_reading.specs.Reading.{setup_in}
 use Rattle.request_lines.specs.Lines.{lines, whole_lines, AreWithinLimits, StopsAtLong, StopsAtMany}
 use Rattle.request_lines.specs.declared.run.End.{End}
 use Rattle.request_lines.specs.declared.run.End.TheVariants.{Done, ReadFault, WriteFault, Memory, LongLine, ManyLines}

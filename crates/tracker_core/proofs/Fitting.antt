@@ -1,12 +1,12 @@
 -- Values that fit, through what a call makes of them.
 use Rattle.std.proofs.Common.{◌≡◌, ◌==◌, ℕ, suc, ◌+◌, ◌≤◌, List, [], ◌∷◌, ◌++◌, length, filter, Bool, true, false, Option, Some, Result, Ok, Err, refl, sym, ap, arith, append_assoc}
 use Rattle.std.specs.Prelude.{if◌then◌else◌, nat_lt, slice_get, unwrap_or}
-use Rattle.fields.specs.declared.numbers.FieldNo.{FieldNo}
-use Rattle.fields.specs.declared.numbers.UserNo.{UserNo}
-use Rattle.fields.specs.declared.value.Value.{Value}
-use Rattle.fields.specs.declared.value.Value.TheVariants as value
-use Rattle.fields.specs.Known.{Names, fits, choices_of}
-use Rattle.fields.specs.ValueTexts.{IsTextOf}
+use Rattle.field_values.specs.declared.numbers.FieldNo.{FieldNo}
+use Rattle.field_values.specs.declared.numbers.UserNo.{UserNo}
+use Rattle.field_values.specs.declared.value.Value.{Value}
+use Rattle.field_values.specs.declared.value.Value.TheVariants as value
+use Rattle.field_forms.specs.Known.{Names, fits, choices_of}
+use Rattle.field_forms.specs.ValueTexts.{IsTextOf}
 use Rattle.change_history.specs.declared.change.Change.{Change}
 use Rattle.workflow.specs.Same.{is_empty}
 use Rattle.workflow.specs.Net.{put_change, put_changes, is_news, net_changes}

@@ -1,8 +1,8 @@
 -- A call that was prepared is performed as the abstract tracker performs it.
 use Rattle.std.proofs.Common.{◌≡◌, ℕ, ◌+◌, List, length, slice_get, true, false, Option, Some, None, Ok, Err, refl, sym, ◌∙◌, subst, inl, inr}
 use Rattle.std.specs.Prelude.{nat_lt, nat_le}
-use Rattle.fields.specs.declared.numbers.FieldNo.{FieldNo}
-use Rattle.fields.specs.Names.{place_named}
+use Rattle.field_values.specs.declared.numbers.FieldNo.{FieldNo}
+use Rattle.field_forms.specs.Names.{place_named}
 use Rattle.change_history.specs.declared.change.Change.{Change}
 use Rattle.change_history.specs.History.{History, present}
 use Rattle.workflow.specs.Net.{net_changes}

@@ -7,11 +7,11 @@ use Rattle.std.proofs.lemmas.List.{length-append, map-set, length-set}
 use Rattle.std.proofs.lemmas.List.Sums.{sum_by_push, sum_by-set, sum_by-cons}
 use Rattle.std.proofs.lemmas.List.Elements.{All-push, All-set}
 use Rattle.std.proofs.lemmas.Option.{slice_get-map, slice_get_within, get_or_from_slice_get}
-use Rattle.fields.specs.declared.numbers.FieldNo.{FieldNo}
-use Rattle.fields.specs.declared.numbers.UserNo.{UserNo}
-use Rattle.fields.specs.declared.parts.Project.{Project}
-use Rattle.fields.specs.declared.value.Value.{Value}
-use Rattle.fields.specs.Known.{Names, fits}
+use Rattle.field_values.specs.declared.numbers.FieldNo.{FieldNo}
+use Rattle.field_values.specs.declared.numbers.UserNo.{UserNo}
+use Rattle.field_values.specs.declared.parts.Project.{Project}
+use Rattle.field_values.specs.declared.value.Value.{Value}
+use Rattle.field_forms.specs.Known.{Names, fits}
 use Rattle.change_history.specs.declared.change.Change.{Change}
 use Rattle.change_history.specs.declared.entry.Entry.{Entry}
 use Rattle.change_history.specs.History.{Kept, History, opening_value, value_after, present, last_change, last_moment, AreGroupEntries, MayAdd}

@@ -1,7 +1,7 @@
 -- What is told of a field.
 use Rattle.std.specs.Prelude.{Bool, true, false, List, ◌∷◌, Option, Some, None}
-use Rattle.fields.specs.declared.value.Value.{Value}
-use Rattle.fields.specs.declared.value.Value.TheVariants.{Text, Number, Choice, User}
+use Rattle.field_values.specs.declared.value.Value.{Value}
+use Rattle.field_values.specs.declared.value.Value.TheVariants.{Text, Number, Choice, User}
 use Rattle.tracker_calls.specs.declared.reply.ShownField.{ShownField}
 
 -- a value of the kinds that the fields so far hold

@@ -1,9 +1,9 @@
 -- What a call wants of an issue's fields, and what comes of it.
 use Rattle.std.specs.Prelude.{◌≡◌, ⊤, ℕ, List, Result, Ok, Err, ◌++◌}
-use Rattle.fields.specs.declared.numbers.FieldNo.{FieldNo}
+use Rattle.field_values.specs.declared.numbers.FieldNo.{FieldNo}
 use Rattle.change_history.specs.declared.change.Change.{Change}
 use Rattle.tracker_machine.specs.declared.wanted.Wanted.{Wanted}
-use Rattle.fields.specs.Reading.{Parts}
+use Rattle.field_values.specs.Parts.{Parts}
 use Rattle.tracker_machine.specs.Known.{names_in}
 use Rattle.tracker_machine.specs.Wanted.{wanted_in}
 use Rattle.tracker_machine.specs.Create.{create_wants}

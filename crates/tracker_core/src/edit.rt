@@ -1,7 +1,7 @@
 // The call `edit`: fields of an issue become other values, as one change group.
 ghost use Rattle.std.specs.Prelude.{◌≡◌, ◌<◌, ◌≤◌, ◌+◌, [], length, slice_get, IfOk, IfSome, Some};
 ghost use Rattle.change_history.specs.History.{present, updated, last_change, MayAdd};
-ghost use Rattle.fields.specs.Known.{Names};
+ghost use Rattle.field_forms.specs.Known.{Names};
 ghost use Rattle.tracker_core.specs.State.{AllEntriesFit};
 ghost use Rattle.workflow.specs.Difference.{entries_of};
 ghost use Rattle.workflow.specs.Laws.{AllFit};

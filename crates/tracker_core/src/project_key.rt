@@ -1,6 +1,6 @@
 // The project's part of an issue's key.
 ghost use Rattle.std.specs.Prelude.{◌≡◌, ◌<◌, ◌+◌, ◌^◌, ◌++◌, [], length, IfOk, if◌then◌else◌, option_map};
-ghost use Rattle.fields.specs.Cuts.{cut_at};
+ghost use Rattle.field_forms.specs.Cuts.{cut_at};
 ghost use Rattle.std.specs.List.{All};
 ghost use Rattle.std.specs.Str.{bytes_eq};
 ghost use Rattle.tracker_machine.specs.Known.{project_of};

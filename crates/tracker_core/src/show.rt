@@ -1,6 +1,6 @@
 // The call `show`: an issue's present values.
 ghost use Rattle.std.specs.Prelude.{◌≡◌, false, List, IfOk, IfSome, option_map};
-ghost use Rattle.fields.specs.Known.{choices_of};
+ghost use Rattle.field_forms.specs.Known.{choices_of};
 ghost use Rattle.fields.specs.SetupParts.{parts};
 ghost use Rattle.change_history.specs.History.{present, updated};
 ghost use Rattle.tracker_machine.specs.Step.{Performs};

@@ -1,6 +1,6 @@
 ghost use Rattle.std.specs.Prelude.{◌≡◌, ◌≤◌, ◌<◌, ◌+◌, [], ◌∷◌, ◌++◌, true, length, map, slice_get, slice_set, option_map, string_bytes, IfOk, IfSome, OnOk, OnErr, Some};
 ghost use Rattle.workflow.specs.Laws.{AllFit};
-ghost use Rattle.fields.specs.Names.{place_named};
+ghost use Rattle.field_forms.specs.Names.{place_named};
 ghost use Rattle.tracker_machine.specs.Create.{with_issue};
 ghost use Rattle.fields.specs.SetupParts.{parts};
 ghost use Rattle.change_history.specs.History.{MayAdd};

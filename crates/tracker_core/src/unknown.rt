@@ -1,7 +1,7 @@
 // The refusals that name something.
 ghost use Rattle.std.specs.Prelude.{◌≡◌, ◌-◌, slice_get, option_map};
-ghost use Rattle.fields.specs.BuiltIn.{field_names};
-ghost use Rattle.fields.specs.Known.{own_field};
+ghost use Rattle.field_forms.specs.BuiltIn.{field_names};
+ghost use Rattle.field_forms.specs.Known.{own_field};
 ghost use Rattle.tracker_machine.specs.Known.{field_name};
 ghost use Rattle.tracker_core.specs.Unknown.{IsMalformed, IsUnknown, IsUnfit};
 

@@ -3,7 +3,7 @@ ghost use Rattle.std.specs.Prelude.{◌≡◌, not, find, option_map, IfOk, IfEr
 ghost use Rattle.workflow.specs.Laws.{AllFit};
 ghost use Rattle.std.specs.Option.{is_some};
 ghost use Rattle.fields.specs.SetupParts.{parts};
-ghost use Rattle.fields.specs.Known.{value_of, fits};
+ghost use Rattle.field_forms.specs.Known.{value_of, fits};
 ghost use Rattle.tracker_machine.specs.Known.{names_in, open_fields, is_open_field, is_field, names_field};
 ghost use Rattle.tracker_machine.specs.Wanted.{given_for, wanted_or, wanted_by, wanted_given, wanted_in, tested, with_field, gathered, changes_of};
 ghost use Rattle.tracker_machine.specs.Create.{member_wanted, status_wanted, reporter_wanted};

@@ -1,8 +1,8 @@
 -- Checks, the first of which that fails refuses a call.
 use Rattle.std.specs.Prelude.{ℕ, Bool, List, Option, Some, None, Result, Ok, Err, if◌then◌else◌, find, not, option_map, length, nat_lt, nat_le, sum_by}
-use Rattle.fields.specs.declared.numbers.FieldNo.{FieldNo}
+use Rattle.field_values.specs.declared.numbers.FieldNo.{FieldNo}
 use Rattle.change_history.specs.declared.change.Change.{Change}
-use Rattle.fields.specs.Names.{place_named}
+use Rattle.field_forms.specs.Names.{place_named}
 use Rattle.tracker_calls.specs.Given.{has_twins}
 use Rattle.tracker_calls.specs.declared.given.GivenField.{GivenField}
 use Rattle.tracker_calls.specs.declared.reply.Refusal.{Refusal}

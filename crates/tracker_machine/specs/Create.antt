@@ -1,11 +1,11 @@
 -- The call `create`: a new issue of a project.
 use Rattle.std.specs.Prelude.{ℕ, ◌+◌, ◌==◌, false, not, List, [], ◌∷◌, ◌++◌, filter, length, Option, Result, Ok, Err, if◌then◌else◌}
 use Rattle.std.specs.Option.{is_some, option_map_or}
-use Rattle.fields.specs.declared.numbers.FieldNo.{FieldNo}
-use Rattle.fields.specs.declared.value.Value.TheVariants.{Choice, User}
-use Rattle.fields.specs.Known.{Names, value_of}
-use Rattle.fields.specs.Names.{place_named}
-use Rattle.fields.specs.Reading.{Parts}
+use Rattle.field_values.specs.declared.numbers.FieldNo.{FieldNo}
+use Rattle.field_values.specs.declared.value.Value.TheVariants.{Choice, User}
+use Rattle.field_forms.specs.Known.{Names, value_of}
+use Rattle.field_forms.specs.Names.{place_named}
+use Rattle.field_values.specs.Parts.{Parts}
 use Rattle.change_history.specs.declared.change.Change.{Change}
 use Rattle.change_history.specs.History.{History}
 use Rattle.workflow.specs.Same.{is_empty}

@@ -3,12 +3,12 @@ use Rattle.std.specs.Prelude.{ℕ, suc, ◌+◌, ◌-◌, ◌==◌, Bool, false,
 use Rattle.std.specs.List.{list_any}
 use Rattle.std.specs.Option.{option_or, option_map_or}
 use Rattle.std.specs.Str.{bytes_eq}
-use Rattle.fields.specs.declared.field.Field.{Field}
-use Rattle.fields.specs.BuiltIn.{field_names}
-use Rattle.fields.specs.Cuts.{cut_at}
-use Rattle.fields.specs.Known.{Names, field_named, own_field}
-use Rattle.fields.specs.Names.{place_named}
-use Rattle.fields.specs.Reading.{Parts}
+use Rattle.field_values.specs.declared.field.Field.{Field}
+use Rattle.field_forms.specs.BuiltIn.{field_names}
+use Rattle.field_forms.specs.Cuts.{cut_at}
+use Rattle.field_forms.specs.Known.{Names, field_named, own_field}
+use Rattle.field_forms.specs.Names.{place_named}
+use Rattle.field_values.specs.Parts.{Parts}
 use Rattle.change_history.specs.History.{History}
 use Rattle.tracker_machine.specs.Machine.{Machine}
 

@@ -1,6 +1,6 @@
 -- The abstract tracker's state. It keeps no present values, no verdicts and no totals.
 use Rattle.std.specs.Prelude.{ℕ, List, []}
-use Rattle.fields.specs.Reading.{Parts}
+use Rattle.field_values.specs.Parts.{Parts}
 use Rattle.change_history.specs.History.{History}
 
 pub record Machine : Type 0 where

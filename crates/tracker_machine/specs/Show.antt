@@ -1,9 +1,9 @@
 -- The call `show`: an issue's present values.
 use Rattle.std.specs.Prelude.{ℕ, List, [], ◌∷◌, Option, Some, None}
-use Rattle.fields.specs.declared.value.Value.{Value}
-use Rattle.fields.specs.declared.value.Value.TheVariants as value
-use Rattle.fields.specs.Known.{Names, choices_of}
-use Rattle.fields.specs.Numbers.{number_text}
+use Rattle.field_values.specs.declared.value.Value.{Value}
+use Rattle.field_values.specs.declared.value.Value.TheVariants as value
+use Rattle.field_forms.specs.Known.{Names, choices_of}
+use Rattle.field_forms.specs.Numbers.{number_text}
 use Rattle.change_history.specs.History.{History, present, updated}
 use Rattle.tracker_calls.specs.declared.reply.Answer.{Answer}
 use Rattle.tracker_calls.specs.declared.reply.Answer.TheVariants as answer

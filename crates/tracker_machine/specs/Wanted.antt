@@ -1,11 +1,11 @@
 -- What a call wants each field to hold.
 use Rattle.std.specs.Prelude.{ℕ, ◌==◌, List, [], ◌∷◌, Option, Some, None, Result, Ok, Err, if◌then◌else◌}
 use Rattle.std.specs.Option.{option_or, option_map_or}
-use Rattle.fields.specs.declared.field.Field.{Field}
-use Rattle.fields.specs.declared.numbers.FieldNo.{FieldNo}
-use Rattle.fields.specs.declared.value.Value.{Value}
-use Rattle.fields.specs.declared.value.Value.TheVariants as value
-use Rattle.fields.specs.Known.{Names, fits, value_of}
+use Rattle.field_values.specs.declared.field.Field.{Field}
+use Rattle.field_values.specs.declared.numbers.FieldNo.{FieldNo}
+use Rattle.field_values.specs.declared.value.Value.{Value}
+use Rattle.field_values.specs.declared.value.Value.TheVariants as value
+use Rattle.field_forms.specs.Known.{Names, fits, value_of}
 use Rattle.change_history.specs.declared.change.Change.{Change}
 use Rattle.tracker_calls.specs.declared.given.Given.{Given}
 use Rattle.tracker_calls.specs.declared.given.Given.TheVariants as given

@@ -1,4 +1,4 @@
-use fields::Value;
+use field_values::Value;
 
 /// What a call wants a field to hold.
 #[derive(Debug, Drop)]

@@ -3,18 +3,18 @@ use Rattle.std.proofs.Common.{◌≡◌, ◌≢◌, ◌==◌, ℕ, zero, suc, mi
 use Rattle.std.specs.Prelude.{if◌then◌else◌, filter, slice_get, option_and_then, ◌||◌}
 use Rattle.std.specs.Option.{option_or, option_map_or}
 use Rattle.std.proofs.lemmas.Bool.{eqb-true, eqb-false, ne_eqb, lt-ltb}
-use Rattle.fields.specs.declared.numbers.UserNo.{UserNo}
-use Rattle.fields.specs.declared.numbers.ChoiceNo.{ChoiceNo}
-use Rattle.fields.specs.declared.numbers.FieldNo.{FieldNo}
-use Rattle.fields.specs.declared.value.Value.{Value}
-use Rattle.fields.specs.declared.value.Value.TheVariants as value
-use Rattle.fields.specs.declared.rules.PostFunction.{PostFunction}
-use Rattle.fields.specs.declared.rules.PostFunction.TheVariants.{Set, Clear, AssignCaller, AssignReporter, AssignLead, Resolution}
-use Rattle.fields.specs.declared.parts.Project.{Project}
-use Rattle.fields.specs.declared.parts.Transition.{Transition}
-use Rattle.fields.specs.declared.status.Status.{Status}
+use Rattle.field_values.specs.declared.numbers.UserNo.{UserNo}
+use Rattle.field_values.specs.declared.numbers.ChoiceNo.{ChoiceNo}
+use Rattle.field_values.specs.declared.numbers.FieldNo.{FieldNo}
+use Rattle.field_values.specs.declared.value.Value.{Value}
+use Rattle.field_values.specs.declared.value.Value.TheVariants as value
+use Rattle.field_values.specs.declared.rules.PostFunction.{PostFunction}
+use Rattle.field_values.specs.declared.rules.PostFunction.TheVariants.{Set, Clear, AssignCaller, AssignReporter, AssignLead, Resolution}
+use Rattle.field_values.specs.declared.parts.Project.{Project}
+use Rattle.field_values.specs.declared.parts.Transition.{Transition}
+use Rattle.field_values.specs.declared.status.Status.{Status}
 use Rattle.fields.specs.declared.setup.Setup.{Setup}
-use Rattle.fields.specs.Known.{Names, form_of, choices_of, fits}
+use Rattle.field_forms.specs.Known.{Names, form_of, choices_of, fits}
 use Rattle.fields.specs.SetupParts.{names}
 use Rattle.change_history.specs.declared.change.Change.{Change}
 use Rattle.change_history.specs.History.{History, present}

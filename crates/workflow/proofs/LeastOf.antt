@@ -3,7 +3,7 @@ use Rattle.std.proofs.Common.{◌≡◌, ◌⊎◌, ℕ, suc, min, ◌≤◌, Li
 use Rattle.std.specs.List.{AllByRecursion, Contains}
 use Rattle.std.proofs.lemmas.Bool.{cases_lt}
 use Rattle.std.proofs.lemmas.List.Elements.{All-from_recursion}
-use Rattle.fields.specs.Known.{Names}
+use Rattle.field_forms.specs.Known.{Names}
 use Rattle.change_history.specs.declared.change.Change.{Change}
 use Rattle.workflow.specs.Inputs.{least_with, refused_numbers, refused_input}
 use Rattle.workflow.specs.Laws.{IsLeastOf}

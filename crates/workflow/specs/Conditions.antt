@@ -1,17 +1,17 @@
 -- Who may make a transition, and from where.
 use Rattle.std.specs.Prelude.{ℕ, ◌+◌, ◌==◌, Bool, false, not, List, map, position, Option, Some, option_map, option_and_then, if◌then◌else◌}
 use Rattle.std.specs.List.{list_any}
-use Rattle.fields.specs.declared.numbers.UserNo.{UserNo}
-use Rattle.fields.specs.declared.numbers.ChoiceNo.{ChoiceNo}
-use Rattle.fields.specs.declared.value.Value.{Value}
-use Rattle.fields.specs.declared.value.Value.TheVariants.{User, Choice}
-use Rattle.fields.specs.declared.rules.CallerTest.{CallerTest}
-use Rattle.fields.specs.declared.rules.CallerTest.TheVariants.{IsAssignee, IsReporter, InGroup, HasPermission}
-use Rattle.fields.specs.declared.rules.Condition.{Condition}
-use Rattle.fields.specs.declared.parts.Transition.{Transition}
+use Rattle.field_values.specs.declared.numbers.UserNo.{UserNo}
+use Rattle.field_values.specs.declared.numbers.ChoiceNo.{ChoiceNo}
+use Rattle.field_values.specs.declared.value.Value.{Value}
+use Rattle.field_values.specs.declared.value.Value.TheVariants.{User, Choice}
+use Rattle.field_values.specs.declared.rules.CallerTest.{CallerTest}
+use Rattle.field_values.specs.declared.rules.CallerTest.TheVariants.{IsAssignee, IsReporter, InGroup, HasPermission}
+use Rattle.field_values.specs.declared.rules.Condition.{Condition}
+use Rattle.field_values.specs.declared.parts.Transition.{Transition}
 use Rattle.fields.specs.declared.setup.Setup.{Setup}
-use Rattle.fields.specs.Cuts.{cut_at}
-use Rattle.fields.specs.Names.{place_named}
+use Rattle.field_forms.specs.Cuts.{cut_at}
+use Rattle.field_forms.specs.Names.{place_named}
 use Rattle.fields.specs.SetupParts.{has_member, may}
 use Rattle.change_history.specs.History.{History, present}
 use Rattle.workflow.specs.FieldNumbers.{status, assignee, reporter}

@@ -1,8 +1,8 @@
 -- The difference between what an issue's fields hold before and after.
 use Rattle.std.specs.Prelude.{◌≡◌, ◌≢◌, ℕ, ◌+◌, ◌≤◌, List, [], ◌∷◌, map}
-use Rattle.fields.specs.declared.numbers.UserNo.{UserNo}
-use Rattle.fields.specs.declared.numbers.FieldNo.{FieldNo}
-use Rattle.fields.specs.declared.value.Value.{Value}
+use Rattle.field_values.specs.declared.numbers.UserNo.{UserNo}
+use Rattle.field_values.specs.declared.numbers.FieldNo.{FieldNo}
+use Rattle.field_values.specs.declared.value.Value.{Value}
 use Rattle.change_history.specs.declared.change.Change.{Change}
 use Rattle.change_history.specs.declared.entry.Entry.{Entry}
 use Rattle.workflow.specs.Net.{with_changes}

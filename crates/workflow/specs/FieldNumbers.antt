@@ -1,5 +1,5 @@
 -- The fields, by number, that transitions speak of.
-use Rattle.fields.specs.declared.numbers.FieldNo.{FieldNo}
+use Rattle.field_values.specs.declared.numbers.FieldNo.{FieldNo}
 
 abbrev pub status : FieldNo
 status = record { 0 = 4 }

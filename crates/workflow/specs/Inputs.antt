@@ -1,7 +1,7 @@
 -- The inputs of an edit or a transition.
 use Rattle.std.specs.Prelude.{ℕ, ◌==◌, Bool, not, ◌||◌, min, List, [], ◌∷◌, map, filter, Option, Some, None}
 use Rattle.change_history.specs.declared.change.Change.{Change}
-use Rattle.fields.specs.Known.{Names, fits}
+use Rattle.field_forms.specs.Known.{Names, fits}
 
 -- an input is refused where it is of the status, or its value doesn't fit its field
 abbrev pub is_refused : Names → Change → Bool

@@ -1,16 +1,16 @@
 -- What holds of all changes and of all plans.
 use Rattle.std.specs.Prelude.{◌≡◌, ◌≢◌, ℕ, ◌<◌, ◌≤◌, true, List, [], ◌∷◌, ◌++◌, length, Some, None}
 use Rattle.std.specs.List.{All, Contains}
-use Rattle.fields.specs.declared.numbers.UserNo.{UserNo}
-use Rattle.fields.specs.declared.numbers.FieldNo.{FieldNo}
-use Rattle.fields.specs.declared.value.Value.{Value}
-use Rattle.fields.specs.declared.value.Value.TheVariants.{Empty, Choice}
-use Rattle.fields.specs.declared.rules.PostFunction.{PostFunction}
-use Rattle.fields.specs.declared.rules.PostFunction.TheVariants.{Set, Clear, Resolution}
-use Rattle.fields.specs.declared.parts.Project.{Project}
-use Rattle.fields.specs.declared.parts.Transition.{Transition}
+use Rattle.field_values.specs.declared.numbers.UserNo.{UserNo}
+use Rattle.field_values.specs.declared.numbers.FieldNo.{FieldNo}
+use Rattle.field_values.specs.declared.value.Value.{Value}
+use Rattle.field_values.specs.declared.value.Value.TheVariants.{Empty, Choice}
+use Rattle.field_values.specs.declared.rules.PostFunction.{PostFunction}
+use Rattle.field_values.specs.declared.rules.PostFunction.TheVariants.{Set, Clear, Resolution}
+use Rattle.field_values.specs.declared.parts.Project.{Project}
+use Rattle.field_values.specs.declared.parts.Transition.{Transition}
 use Rattle.fields.specs.declared.setup.Setup.{Setup}
-use Rattle.fields.specs.Known.{Names, fits}
+use Rattle.field_forms.specs.Known.{Names, fits}
 use Rattle.fields.specs.SetupParts.{names}
 use Rattle.change_history.specs.declared.change.Change.{Change}
 use Rattle.change_history.specs.History.{History, present, updated, last_change, MayAdd}

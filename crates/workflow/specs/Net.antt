@@ -1,8 +1,8 @@
 -- What changes come to.
 use Rattle.std.specs.Prelude.{ℕ, suc, ◌==◌, Bool, false, not, nat_lt, List, [], ◌∷◌, filter, slice_get, if◌then◌else◌}
 use Rattle.std.specs.Option.{option_map_or}
-use Rattle.fields.specs.declared.numbers.FieldNo.{FieldNo}
-use Rattle.fields.specs.declared.value.Value.{Value}
+use Rattle.field_values.specs.declared.numbers.FieldNo.{FieldNo}
+use Rattle.field_values.specs.declared.value.Value.{Value}
 use Rattle.change_history.specs.declared.change.Change.{Change}
 use Rattle.workflow.specs.Same.{same_value}
 

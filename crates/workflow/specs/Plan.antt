@@ -1,9 +1,9 @@
 -- The plan of a transition.
 use Rattle.std.specs.Prelude.{◌≡◌, ◌≢◌, ℕ, List, [], ◌∷◌, ◌++◌, Option, None, Some, option_map, Result, Ok, Err}
 use Rattle.std.specs.Option.{option_or}
-use Rattle.fields.specs.declared.numbers.UserNo.{UserNo}
-use Rattle.fields.specs.declared.value.Value.TheVariants.{Choice}
-use Rattle.fields.specs.declared.parts.Transition.{Transition}
+use Rattle.field_values.specs.declared.numbers.UserNo.{UserNo}
+use Rattle.field_values.specs.declared.value.Value.TheVariants.{Choice}
+use Rattle.field_values.specs.declared.parts.Transition.{Transition}
 use Rattle.fields.specs.declared.setup.Setup.{Setup}
 use Rattle.fields.specs.SetupParts.{names}
 use Rattle.change_history.specs.declared.change.Change.{Change}

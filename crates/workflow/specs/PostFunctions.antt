@@ -1,12 +1,12 @@
 -- What a transition changes after its status.
 use Rattle.std.specs.Prelude.{List, [], ◌∷◌, ◌++◌, slice_get, option_and_then}
 use Rattle.std.specs.Option.{option_map_or}
-use Rattle.fields.specs.declared.numbers.UserNo.{UserNo}
-use Rattle.fields.specs.declared.numbers.FieldNo.{FieldNo}
-use Rattle.fields.specs.declared.value.Value.{Value}
-use Rattle.fields.specs.declared.value.Value.TheVariants.{Empty, User, Choice}
-use Rattle.fields.specs.declared.rules.PostFunction.{PostFunction}
-use Rattle.fields.specs.declared.rules.PostFunction.TheVariants.{Set, Clear, AssignCaller, AssignReporter, AssignLead, Resolution}
+use Rattle.field_values.specs.declared.numbers.UserNo.{UserNo}
+use Rattle.field_values.specs.declared.numbers.FieldNo.{FieldNo}
+use Rattle.field_values.specs.declared.value.Value.{Value}
+use Rattle.field_values.specs.declared.value.Value.TheVariants.{Empty, User, Choice}
+use Rattle.field_values.specs.declared.rules.PostFunction.{PostFunction}
+use Rattle.field_values.specs.declared.rules.PostFunction.TheVariants.{Set, Clear, AssignCaller, AssignReporter, AssignLead, Resolution}
 use Rattle.fields.specs.declared.setup.Setup.{Setup}
 use Rattle.change_history.specs.declared.change.Change.{Change}
 use Rattle.change_history.specs.History.{History, present}

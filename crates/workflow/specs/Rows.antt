@@ -1,11 +1,11 @@
 -- Worked values, computed from the definitions.
 use Rattle.std.specs.Prelude.{◌≡◌, true, false, [], ◌∷◌, pos, refl}
-use Rattle.fields.specs.declared.numbers.UserNo.{UserNo}
-use Rattle.fields.specs.declared.numbers.FieldNo.{FieldNo}
-use Rattle.fields.specs.declared.value.Value.TheVariants.{Empty, Number, User, Choice, Date}
-use Rattle.fields.specs.declared.rules.CallerTest.TheVariants.{IsAssignee, IsReporter}
-use Rattle.fields.specs.declared.rules.PostFunction.TheVariants.{AssignCaller, AssignReporter}
-use Rattle.fields.specs.declared.rules.Validator.TheVariants.{Required, Changed}
+use Rattle.field_values.specs.declared.numbers.UserNo.{UserNo}
+use Rattle.field_values.specs.declared.numbers.FieldNo.{FieldNo}
+use Rattle.field_values.specs.declared.value.Value.TheVariants.{Empty, Number, User, Choice, Date}
+use Rattle.field_values.specs.declared.rules.CallerTest.TheVariants.{IsAssignee, IsReporter}
+use Rattle.field_values.specs.declared.rules.PostFunction.TheVariants.{AssignCaller, AssignReporter}
+use Rattle.field_values.specs.declared.rules.Validator.TheVariants.{Required, Changed}
 use Rattle.fields.specs.declared.setup.Setup.{Setup}
 use Rattle.change_history.specs.History.{History, present}
 use Rattle.workflow.specs.FieldNumbers.{status, assignee}

@@ -3,8 +3,8 @@ use Rattle.std.specs.Prelude.{◌==◌, Bool, true, false}
 use Rattle.std.specs.Str.{bytes_eq}
 use Rattle.std.specs.Cmp.Lexicographic.{pointwise}
 use Rattle.std.specs.Ordering.{int_eq}
-use Rattle.fields.specs.declared.value.Value.{Value}
-use Rattle.fields.specs.declared.value.Value.TheVariants.{Empty, Text, Number, Choice, User, Date, Set, Labels, Sprint}
+use Rattle.field_values.specs.declared.value.Value.{Value}
+use Rattle.field_values.specs.declared.value.Value.TheVariants.{Empty, Text, Number, Choice, User, Date, Set, Labels, Sprint}
 
 abbrev pub same_value : Value → Value → Bool
 same_value Empty Empty = true

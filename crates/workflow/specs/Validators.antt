@@ -1,13 +1,13 @@
 -- What is asked of the issue after the inputs.
 use Rattle.std.specs.Prelude.{ℕ, ◌+◌, Bool, true, false, not, List, position, Option, option_map, ℤ, pos, int_le}
-use Rattle.fields.specs.declared.numbers.UserNo.{UserNo}
-use Rattle.fields.specs.declared.value.Value.{Value}
-use Rattle.fields.specs.declared.value.Value.TheVariants.{Empty, Date}
-use Rattle.fields.specs.declared.rules.Validator.{Validator}
-use Rattle.fields.specs.declared.rules.Validator.TheVariants.{Required, Changed, Due, Permission}
-use Rattle.fields.specs.declared.parts.Transition.{Transition}
+use Rattle.field_values.specs.declared.numbers.UserNo.{UserNo}
+use Rattle.field_values.specs.declared.value.Value.{Value}
+use Rattle.field_values.specs.declared.value.Value.TheVariants.{Empty, Date}
+use Rattle.field_values.specs.declared.rules.Validator.{Validator}
+use Rattle.field_values.specs.declared.rules.Validator.TheVariants.{Required, Changed, Due, Permission}
+use Rattle.field_values.specs.declared.parts.Transition.{Transition}
 use Rattle.fields.specs.declared.setup.Setup.{Setup}
-use Rattle.fields.specs.Offsets.{zone_of}
+use Rattle.setup_drafts.specs.Offsets.{zone_of}
 use Rattle.fields.specs.SetupParts.{may}
 use Rattle.relative_dates.specs.Calendar.{local_day}
 use Rattle.change_history.specs.declared.change.Change.{Change}

@@ -1,7 +1,7 @@
 use Rattle.std.proofs.Common.{◌≡◌, ◌++◌, ◌∷◌, [], List, Option, Some, None, is_some, true, false, refl, sym, ◌∙◌, ap, append_assoc, arith}
 use Rattle.std.specs.Vec.Iter.{into_iter_items}
 use Rattle.std.proofs.lemmas.Bool.{false≢true}
-use Rattle.fields.specs.declared.numbers.IssueNo.{IssueNo}
+use Rattle.field_values.specs.declared.numbers.IssueNo.{IssueNo}
 use Rattle.board.specs.Order.{Pair, Ranking}
 use Rattle.board.proofs.Gaps.{places_before_none}
 use Rattle.rank_balancer.specs.Step.{Move, after_move, after_moves}

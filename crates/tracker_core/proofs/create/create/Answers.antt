@@ -1,9 +1,9 @@
 use Rattle.std.proofs.Common.{◌≡◌, length, Some, None, Ok, Err, true, find, not, nat_lt, option_map, subst, sym, ap, ◌∙◌, arith, rules}
 use Rattle.std.proofs.lemmas.Grind.{common_steps}
-use Rattle.fields.specs.Reading.{Parts}
+use Rattle.field_values.specs.Parts.{Parts}
 use Rattle.fields.specs.SetupParts.{parts}
-use Rattle.fields.specs.Names.{place_named}
-use Rattle.fields.specs.declared.numbers.FieldNo.{FieldNo}
+use Rattle.field_forms.specs.Names.{place_named}
+use Rattle.field_values.specs.declared.numbers.FieldNo.{FieldNo}
 use Rattle.tracker_calls.specs.declared.reply.Refusal.TheVariants as refusal
 use Rattle.tracker_calls.specs.declared.reply.Thing.TheVariants as thing
 use Rattle.tracker_machine.specs.Known.{names_in, is_field, project_keys, field_name}

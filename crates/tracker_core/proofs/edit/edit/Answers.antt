@@ -1,6 +1,6 @@
 use Rattle.std.proofs.Common.{◌≡◌, ◌<◌, length, Some, None, Ok, true, find, not, nat_le, option_map, slice_get, subst, sym, ap, ◌∙◌, arith, rules}
 use Rattle.std.proofs.lemmas.Grind.{common_steps}
-use Rattle.fields.specs.Reading.{Parts}
+use Rattle.field_values.specs.Parts.{Parts}
 use Rattle.change_history.specs.History.{present}
 use Rattle.workflow.specs.Net.{net_changes}
 use Rattle.tracker_calls.specs.declared.reply.Answer.TheVariants as answer

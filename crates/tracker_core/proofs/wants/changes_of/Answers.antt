@@ -1,7 +1,7 @@
 use Rattle.std.proofs.Common.{◌≡◌, ◌<◌, ℕ, suc, List, ◌∷◌, length, drop, get_or, Result, subst, sym, ap, ◌∙◌, arith}
 use Rattle.std.proofs.Math.Seq.{drop-cons}
 use Rattle.std.proofs.lemmas.Grind.{common_steps}
-use Rattle.fields.specs.declared.numbers.FieldNo.{FieldNo}
+use Rattle.field_values.specs.declared.numbers.FieldNo.{FieldNo}
 use Rattle.fields.specs.SetupParts.{parts}
 use Rattle.change_history.specs.declared.change.Change.{Change}
 use Rattle.tracker_machine.specs.Known.{names_in}

@@ -1,7 +1,7 @@
 use Rattle.std.proofs.Common.{◌≡◌, ◌∙◌, List, length, Result, Ok, Err, OnErr, vec_len, sym, subst, ap, refl, rules, arith}
 use Rattle.std.specs.Prelude.{ℤ, pos}
 use Rattle.std.specs.List.{insert}
-use Rattle.fields.specs.declared.numbers.SprintNo.{SprintNo}
+use Rattle.field_values.specs.declared.numbers.SprintNo.{SprintNo}
 use Rattle.burndown.specs.declared.progress.Progress.{Progress}
 use Rattle.burndown.specs.Line.{lines}
 use Rattle.burndown.specs.Burndown.{IsAt, IsGapFor, HasRoom}

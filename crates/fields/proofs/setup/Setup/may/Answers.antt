@@ -1,5 +1,5 @@
 use Rattle.std.proofs.Common.{subst, sym, length}
-use Rattle.fields.specs.GroupMembers.{HaveRising}
+use Rattle.field_values.specs.GroupMembers.{HaveRising}
 use Rattle.fields.proofs.Rising.{members_rise}
 use Rattle.fields.proofs.setup.Setup.may.Goals as goal
 

@@ -1,11 +1,11 @@
 use Rattle.std.proofs.Common.{◌∙◌, ap, map}
 use Rattle.fields.proofs.setup.Setup.of.Goals as goal
 use Rattle.fields.proofs.Sound.{sound_setup, at_offset}
-use Rattle.fields.specs.Reading.{parts_of}
-use Rattle.fields.specs.declared.status.Status.{Status}
-use Rattle.fields.specs.declared.parts.Group.{Group}
-use Rattle.fields.specs.declared.parts.Project.{Project}
-use Rattle.fields.specs.declared.parts.Transition.{Transition}
+use Rattle.setup_reading.specs.Reading.{parts_of}
+use Rattle.field_values.specs.declared.status.Status.{Status}
+use Rattle.field_values.specs.declared.parts.Group.{Group}
+use Rattle.field_values.specs.declared.parts.Project.{Project}
+use Rattle.field_values.specs.declared.parts.Transition.{Transition}
 
 pub invariant_of-result-clause-sound : goal.invariant_of-result-clause-sound
 invariant_of-result-clause-sound c = at_offset (parts_of c.args.reading.draft c.args.reading.numbers) _ (sound_setup _ (parts_of c.args.reading.draft c.args.reading.numbers) c.requires.reads)

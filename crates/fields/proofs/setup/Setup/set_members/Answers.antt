@@ -1,11 +1,11 @@
 use Rattle.std.proofs.Common.{◌≡◌, subst, sym, ◌∙◌, ap, map, List, [], Ok}
 use Rattle.fields.proofs.setup.Setup.set_members.Goals as goal
-use Rattle.fields.specs.declared.parts.Group.{Group}
+use Rattle.field_values.specs.declared.parts.Group.{Group}
 use Rattle.fields.specs.SetupParts.{parts}
-use Rattle.fields.specs.Reading.{memberless, kept_in}
+use Rattle.setup_reading.specs.Reading.{memberless, kept_in}
 use Rattle.fields.specs.Sound.{IsSound}
 use Rattle.fields.proofs.Sound.{still_sound}
-use Rattle.fields.proofs.Members.{same_names, same_but_members}
+use Rattle.field_values.proofs.Members.{same_names, same_but_members}
 
 pub invariant_of-self-clause-sound : goal.invariant_of-self-clause-sound
 invariant_of-self-clause-sound c =

@@ -1,5 +1,5 @@
 use Rattle.std.proofs.Common.{◌≡◌, Some, None, subst, sym, ◌∙◌, rules}
-use Rattle.fields.specs.Names.{place_named}
+use Rattle.field_forms.specs.Names.{place_named}
 use Rattle.tracker_calls.specs.declared.call.Call.TheVariants as call
 use Rattle.tracker_machine.specs.Refusal.{form_refusal, call_refusal}
 use Rattle.tracker_machine.specs.Answer.{answer_of}

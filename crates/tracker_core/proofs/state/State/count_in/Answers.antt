@@ -1,6 +1,6 @@
 use Rattle.std.proofs.Common.{◌≡◌, ◌≤◌, ◌<◌, ℕ, List, length, slice_get, subst, sym, ◌∙◌, ap}
 use Rattle.std.proofs.lemmas.List.{length-map}
-use Rattle.fields.specs.declared.parts.Project.{Project}
+use Rattle.field_values.specs.declared.parts.Project.{Project}
 use Rattle.tracker_machine.specs.Known.{name_at, project_keys, issues_of}
 use Rattle.tracker_core.specs.State.{Held, counts_of}
 use Rattle.tracker_core.specs.contracts.state.State.{the_view}

@@ -1,0 +1,5 @@
+pub mod Digits
+pub mod Cutting
+pub mod Finding
+pub mod Fitting
+pub mod Floats

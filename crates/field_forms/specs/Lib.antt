@@ -1,0 +1,11 @@
+pub mod Names
+pub mod BuiltIn
+pub mod NameForms
+pub mod Cuts
+pub mod Numbers
+pub mod Dates
+pub mod TextLists
+pub mod Values
+pub mod Known
+pub mod Rules
+pub mod ValueTexts

@@ -1,0 +1,155 @@
+// The names that a text of the setup, or a value, may name.
+ghost use Rattle.std.specs.Prelude.{◌≡◌, ◌≤◌, ◌==◌, true, length, IfOk, IfSome, option_map};
+ghost use Rattle.std.specs.List.{find, list_all};
+ghost use Rattle.std.specs.Str.{str_eq_ignore_ascii_case};
+ghost use Rattle.field_forms.specs.Known.{has_few_options};
+ghost use Rattle.field_forms.specs.Known.{names_of, AreFew, own_field, own_field_named, field_named, form_of, form_by, own_choices, choices_of, value_of};
+
+use crate::built_in::built_in_no;
+use crate::form::{Form, value_in};
+use crate::name_form::is_same_name;
+use field_values::field::Field;
+use field_values::memory::Memory;
+use field_values::numbers::FieldNo;
+use field_values::text::Text;
+use field_values::value::Value;
+use field_values::words::FieldKind;
+use std::alloc::Global;
+
+/// The lists of names of the setup, lent.
+#[derive(Clone, Copy, Debug)]
+pub struct Known<'a> {
+    pub users: &'a [Text],
+    pub types: &'a [Text],
+    pub statuses: &'a [Text],
+    pub priorities: &'a [Text],
+    pub resolutions: &'a [Text],
+    pub versions: &'a [Text],
+    pub groups: &'a [Text],
+    pub fields: &'a [Field],
+}
+
+fn field_numbered(fields: &[Field], no: u16) -> Option<&Field>
+    ensures { option_map (λ f. f.now) result ≡ own_field fields.now no }
+{
+    fields.iter().find(|field| field.number.0 == no)
+}
+
+/// The setup's own field of that number.
+fn own_field(fields: &[Field], no: u16) -> Option<&Field>
+    requires { list_all has_few_options fields.now ≡ true }
+    ensures found { option_map (λ f. f.now) result ≡ own_field fields.now no }
+    ensures few { IfSome result (λ f. length f.now.options ≤ 200) }
+{
+    field_numbered(fields, no)
+}
+
+fn own_field_named<'a>(fields: &'a [Field], name: &str) -> Option<&'a Field>
+    ensures { option_map (λ f. f.now) result ≡ own_field_named fields.now name.now }
+{
+    fields
+        .iter()
+        .find(|field| is_same_name(field.name.as_str(), name))
+}
+
+/// The number of the field of that name, ASCII case ignored.
+#[tactic(auto, unfolding(crate::specs::Known::field_named))]
+pub fn field_named(fields: &[Field], name: &str) -> Option<FieldNo>
+    ensures { option_map (λ no. no.0) result ≡ field_named fields.now name.now }
+{
+    if let Some(no) = built_in_no(name) {
+        return Some(FieldNo(no));
+    }
+    match own_field_named(fields, name) {
+        Some(field) => Some(field.number),
+        None => None,
+    }
+}
+
+fn form_by(kind: FieldKind) -> Form
+    ensures { result ≡ form_by kind }
+{
+    match kind {
+        FieldKind::Text => Form::Prose(1024),
+        FieldKind::Number => Form::Number,
+        FieldKind::Choice => Form::Choice,
+        FieldKind::User => Form::User,
+        FieldKind::Date => Form::Date,
+    }
+}
+
+/// The form of what the field holds, if there is such a field.
+#[tactic(auto, unfolding(crate::specs::Known::form_of))]
+pub fn form_of(fields: &[Field], field: FieldNo) -> Option<Form>
+    requires { list_all has_few_options fields.now ≡ true }
+    ensures { result ≡ form_of fields.now field.0 }
+{
+    match field.0 {
+        1 | 4 | 7 | 8 => Some(Form::Choice),
+        2 => Some(Form::Line(255)),
+        3 => Some(Form::Prose(4096)),
+        5 | 6 => Some(Form::User),
+        9 => Some(Form::Set),
+        10 => Some(Form::Labels),
+        11 => Some(Form::Date),
+        12 => Some(Form::Points),
+        13 => Some(Form::Sprint),
+        no => match own_field(fields, no) {
+            Some(field) => Some(form_by(field.kind)),
+            None => None,
+        },
+    }
+}
+
+/// The names that a value of a field of the setup's own may name.
+fn own_choices<'a>(known: &Known<'a>, field: &'a Field) -> &'a [Text]
+    requires few { AreFew (names_of known.now) }
+    requires options { length field.now.options ≤ 200 }
+    ensures names { result.now ≡ own_choices (names_of known.now) field.now }
+    ensures few { length result.now ≤ 500 }
+{
+    match field.kind {
+        FieldKind::User => known.users,
+        FieldKind::Text | FieldKind::Number | FieldKind::Choice | FieldKind::Date => {
+            field.options.as_slice()
+        }
+    }
+}
+
+/// The names that a value of the field may name.
+#[tactic(auto, unfolding(crate::specs::Known::choices_of))]
+pub fn choices_of<'a>(known: &Known<'a>, field: FieldNo) -> &'a [Text]
+    requires { AreFew (names_of known.now) }
+    ensures names { result.now ≡ choices_of (names_of known.now) field.0 }
+    ensures few { length result.now ≤ 500 }
+{
+    match field.0 {
+        1 => known.types,
+        4 => known.statuses,
+        5 | 6 => known.users,
+        7 => known.priorities,
+        8 => known.resolutions,
+        9 => known.versions,
+        no => match own_field(known.fields, no) {
+            Some(field) => own_choices(known, field),
+            None => &[],
+        },
+    }
+}
+
+/// The value that a text stands for in the field; `None` where it is none of the field's.
+#[tactic(auto, unfolding(crate::specs::Known::value_of))]
+pub fn value_of(
+    alloc: Global,
+    known: &Known<'_>,
+    field: FieldNo,
+    text: &str,
+) -> Result<Option<Value>, Memory>
+    requires { AreFew (names_of known.now) }
+    ensures { IfOk result (λ value. value ≡ value_of (names_of known.now) field.0 text.now) }
+{
+    match form_of(known.fields, field) {
+        Some(form) => value_in(alloc, form, choices_of(known, field), text),
+        None => Ok(None),
+    }
+}

@@ -1,0 +1,3 @@
+pub mod Words
+pub mod GroupMembers
+pub mod Parts

@@ -1,8 +1,0 @@
-use Rattle.std.proofs.Common.{◌≡◌, ◌++◌, drop, map, option_map}
-use Rattle.toml.specs.View.{items_view, table_view}
-use Rattle.fields.specs.Written.{all_tables}
-use Rattle.fields.proofs.cell.tables_in.Given as goal
-
-abbrev pub invariant-loop-item : goal.invariant-loop-item
-invariant-loop-item l =
-    all_tables (items_view l.item-items) ≡ option_map (λ rest. map (λ t. table_view t.now) l.tables.items ++ rest) (all_tables (items_view (drop l.item-index l.item-items)))

@@ -1,5 +1,0 @@
-use Rattle.fields.proofs.Finding.{few_options}
-use Rattle.fields.proofs.known.own_field.Goals as goal
-
-pub returns-clause-few : goal.returns-clause-few
-returns-clause-few c = few_options c.args.fields.now c.args.no c.field_numbered.result c.requires c.field_numbered.ensures

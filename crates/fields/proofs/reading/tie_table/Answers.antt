@@ -1,9 +1,0 @@
-use Rattle.std.proofs.Common.{subst}
-use Rattle.fields.specs.declared.draft.Draft.{Draft}
-use Rattle.fields.specs.Faults.{Answers}
-use Rattle.fields.specs.Ties.{tie_fault, tied}
-use Rattle.fields.proofs.reading.tie_table.Goals as goal
-
-pub returns-clause-told : goal.returns-clause-told
-returns-clause-told c =
-    subst (λ (d : Draft). Answers (tie_fault d) (tied d) c.tie.result) c.requires.draft c.tie.ensures.told

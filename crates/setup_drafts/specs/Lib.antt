@@ -1,0 +1,12 @@
+pub mod Faults
+pub mod Written
+pub mod Cells
+pub mod Entries
+pub mod Groups
+pub mod Projects
+pub mod Statuses
+pub mod Transitions
+pub mod Fields
+pub mod Offsets
+pub mod Drafts
+pub mod Keys

@@ -1,0 +1,63 @@
+//! The setup as its text writes it, with names where the setup has numbers.
+
+pub mod field;
+pub mod group;
+pub mod head;
+pub mod lists;
+pub mod offset;
+pub mod project;
+pub mod status;
+pub mod tables;
+pub mod transition;
+
+ghost use Rattle.std.specs.Prelude.{◌≡◌, IfOk};
+ghost use Rattle.toml.specs.View.{table_view};
+ghost use Rattle.setup_drafts.specs.Faults.{Answers};
+ghost use Rattle.setup_drafts.specs.Offsets.{steps_of};
+ghost use Rattle.field_values.specs.Words.{day_number};
+ghost use Rattle.setup_drafts.specs.Drafts.{draft_fault, draft_of, IsSmall};
+
+use crate::draft::head::{Head, Rights, read_head, read_rights};
+use crate::draft::lists::{Lists, read_lists};
+use crate::draft::offset::{OffsetSteps, offsets_at};
+use crate::draft::tables::{Tables, read_tables};
+use crate::fault::SetupFault;
+use std::alloc::Global;
+use toml::Table;
+
+/// The setup as its text writes it.
+#[derive(Debug, Drop)]
+pub struct Draft {
+    pub head: Head,
+    pub lists: Lists,
+    pub rights: Rights,
+    pub tables: Tables,
+    pub steps: OffsetSteps,
+}
+
+/// What the keys of the top table say, or the first fault among them in their order.
+#[tactic(auto, unfolding(crate::specs::Drafts::draft_fault, crate::specs::Drafts::draft_of))]
+pub fn read_draft(alloc: Global, table: &Table) -> Result<Draft, SetupFault>
+    ensures told { Answers (draft_fault (table_view table.now)) (draft_of (table_view table.now)) result }
+    ensures small { IfOk result IsSmall }
+    ensures clock { IfOk result (λ draft. draft.steps ≡ steps_of draft.head.utc_offset_minutes
+        (day_number draft.head.week_starts) draft.steps.offsets) }
+{
+    let head = read_head(alloc, table)?;
+    let lists = read_lists(alloc, table)?;
+    let rights = read_rights(alloc, table)?;
+    let tables = read_tables(alloc, table)?;
+    let steps = offsets_at(
+        alloc,
+        table,
+        head.utc_offset_minutes,
+        head.week_starts.number(),
+    )?;
+    Ok(Draft {
+        head,
+        lists,
+        rights,
+        tables,
+        steps,
+    })
+}

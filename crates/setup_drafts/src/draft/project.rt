@@ -1,0 +1,69 @@
+ghost use Rattle.std.specs.Prelude.{◌≡◌, [], length, map, IfOk};
+ghost use Rattle.toml.specs.View.{table_view};
+ghost use Rattle.setup_drafts.specs.Faults.{Answers};
+ghost use Rattle.setup_drafts.specs.Entries.{entries_fault, with_name};
+ghost use Rattle.setup_drafts.specs.Projects.{project_fault, project_draft};
+
+use crate::cell::{names_at, new_name_at, text_at};
+use crate::fault::SetupFault;
+use field_forms::name_form::NameForm;
+use field_values::names::Names;
+use field_values::sequence::Sequence;
+use field_values::text::Text;
+use std::alloc::Global;
+use toml::Table;
+
+/// A project with the names of its lead and of the groups of each permission as they are written.
+#[derive(Debug, Drop)]
+pub struct ProjectDraft {
+    pub key: Text,
+    pub lead: Text,
+    pub browse: Names,
+    pub create: Names,
+    pub edit: Names,
+    pub transition: Names,
+    pub rank: Names,
+}
+
+#[tactic(auto, unfolding(crate::specs::Projects::project_fault, crate::specs::Projects::project_draft))]
+fn read_project(alloc: Global, entry: &Table, earlier: &[Text]) -> Result<ProjectDraft, SetupFault>
+    ensures { Answers (project_fault earlier.now (table_view entry.now))
+        (project_draft (table_view entry.now)) result }
+{
+    let key = new_name_at(alloc, entry, "key", NameForm::ProjectKey, earlier)?;
+    let lead = text_at(alloc, entry, "lead")?;
+    let browse = names_at(alloc, entry, "browse", NameForm::AnyText, 0, None)?;
+    let create = names_at(alloc, entry, "create", NameForm::AnyText, 0, None)?;
+    let edit = names_at(alloc, entry, "edit", NameForm::AnyText, 0, None)?;
+    let transition = names_at(alloc, entry, "transition", NameForm::AnyText, 0, None)?;
+    let rank = names_at(alloc, entry, "rank", NameForm::AnyText, 0, None)?;
+    Ok(ProjectDraft {
+        key,
+        lead,
+        browse,
+        create,
+        edit,
+        transition,
+        rank,
+    })
+}
+
+/// The projects of these tables.
+pub(crate) fn read_projects(
+    alloc: Global,
+    entries: &[&Table],
+) -> Result<Sequence<ProjectDraft>, SetupFault>
+    ensures told { let tables = map (λ t. table_view t.now) entries.now in
+        Answers (entries_fault project_fault (with_name (λ e. (project_draft e).key)) [] tables)
+        (map project_draft tables) result }
+    ensures all { IfOk result (λ projects. length projects ≡ length entries.now) }
+{
+    let mut names = Names::new(alloc);
+    let mut projects = Sequence::new(alloc);
+    for entry in entries {
+        let project = read_project(alloc, entry, names.as_slice())?;
+        names.push(project.key.copy(alloc)?)?;
+        projects.push(project)?;
+    }
+    Ok(projects)
+}

@@ -1,0 +1,183 @@
+// Names of the setup, tied to what they name.
+ghost use Rattle.std.specs.Prelude.{◌≡◌, ◌≤◌, length, map, IfOk};
+ghost use Rattle.setup_drafts.specs.Faults.{Answers, Tells};
+ghost use Rattle.setup_reading.specs.Ties.{first_over, unknown, user_in, choice_in, group_in, members_in, group_unknown, group_tied, project_unknown, project_tied};
+
+use field_forms::name_form::{is_among, place_of};
+use field_values::memory::Memory;
+use field_values::numbers::{ChoiceNo, GroupNo, UserNo};
+use field_values::parts::{Group, Project};
+use field_values::sequence::Sequence;
+use field_values::text::Text;
+use setup_drafts::draft::group::GroupDraft;
+use setup_drafts::draft::project::ProjectDraft;
+use setup_drafts::fault::SetupFault;
+use std::alloc::Global;
+
+/// The user of that name.
+pub(crate) fn user_in(alloc: Global, names: &[Text], name: &str) -> Result<UserNo, SetupFault>
+    requires { length names.now ≤ 65_534 }
+    ensures { Answers (unknown names.now name.now) (user_in names.now name.now) result }
+{
+    match place_of(names, name) {
+        Some(place) => Ok(UserNo(place as u16)),
+        None => Err(SetupFault::unknown(alloc, name)),
+    }
+}
+
+/// The choice of that name.
+pub(crate) fn choice_in(alloc: Global, names: &[Text], name: &str) -> Result<ChoiceNo, SetupFault>
+    requires { length names.now ≤ 65_534 }
+    ensures { Answers (unknown names.now name.now) (choice_in names.now name.now) result }
+{
+    match place_of(names, name) {
+        Some(place) => Ok(ChoiceNo(place as u16)),
+        None => Err(SetupFault::unknown(alloc, name)),
+    }
+}
+
+fn group_in(alloc: Global, names: &[Text], name: &str) -> Result<GroupNo, SetupFault>
+    requires { length names.now ≤ 65_534 }
+    ensures { Answers (unknown names.now name.now) (group_in names.now name.now) result }
+{
+    match place_of(names, name) {
+        Some(place) => Ok(GroupNo(place as u16 + 1)),
+        None => Err(SetupFault::unknown(alloc, name)),
+    }
+}
+
+/// The groups of these names.
+pub(crate) fn groups_in(
+    alloc: Global,
+    names: &[Text],
+    list: &[Text],
+) -> Result<Sequence<GroupNo>, SetupFault>
+    requires { length names.now ≤ 65_534 }
+    ensures { Answers (first_over (unknown names.now) list.now) (map (group_in names.now) list.now) result }
+{
+    let mut tied = Sequence::new(alloc);
+    for name in list {
+        tied.push(group_in(alloc, names, name.as_str())?)?;
+    }
+    Ok(tied)
+}
+
+/// The statuses of these names.
+pub(crate) fn choices_in(
+    alloc: Global,
+    names: &[Text],
+    list: &[Text],
+) -> Result<Sequence<ChoiceNo>, SetupFault>
+    requires { length names.now ≤ 65_534 }
+    ensures { Answers (first_over (unknown names.now) list.now) (map (choice_in names.now) list.now) result }
+{
+    let mut tied = Sequence::new(alloc);
+    for name in list {
+        tied.push(choice_in(alloc, names, name.as_str())?)?;
+    }
+    Ok(tied)
+}
+
+fn all_known(alloc: Global, names: &[Text], list: &[Text]) -> Result<(), SetupFault>
+    ensures { Tells (first_over (unknown names.now) list.now) result }
+{
+    for name in list {
+        if place_of(names, name.as_str()).is_none() {
+            return Err(SetupFault::unknown(alloc, name.as_str()));
+        }
+    }
+    Ok(())
+}
+
+fn members_in(alloc: Global, users: &[Text], texts: &[Text]) -> Result<Sequence<UserNo>, Memory>
+    requires { length users.now ≤ 65_534 }
+    ensures { IfOk result (λ members. members ≡ members_in 0 users.now texts.now) }
+{
+    let mut members = Sequence::new(alloc);
+    for (place, user) in users.iter().enumerate() {
+        if is_among(texts, user.as_str()) {
+            members.push(UserNo(place as u16))?;
+        }
+    }
+    Ok(members)
+}
+
+#[tactic(auto, unfolding(crate::specs::Ties::group_unknown, crate::specs::Ties::group_tied))]
+fn tie_group(alloc: Global, users: &[Text], draft: &GroupDraft) -> Result<Group, SetupFault>
+    requires { length users.now ≤ 65_534 }
+    ensures { Answers (group_unknown users.now draft.now) (group_tied users.now draft.now) result }
+{
+    all_known(alloc, users, draft.members.as_slice())?;
+    let members = members_in(alloc, users, draft.members.as_slice())?;
+    Ok(Group {
+        name: draft.name.copy(alloc)?,
+        members,
+    })
+}
+
+/// The groups with the numbers of their members.
+pub(crate) fn tie_groups(
+    alloc: Global,
+    users: &[Text],
+    drafts: &[GroupDraft],
+) -> Result<Sequence<Group>, SetupFault>
+    requires { length users.now ≤ 65_534 }
+    ensures told { Answers (first_over (group_unknown users.now) drafts.now)
+        (map (group_tied users.now) drafts.now) result }
+    ensures all { IfOk result (λ groups. length groups ≡ length drafts.now) }
+{
+    let mut groups = Sequence::new(alloc);
+    for draft in drafts {
+        groups.push(tie_group(alloc, users, draft)?)?;
+    }
+    Ok(groups)
+}
+
+#[tactic(auto, unfolding(crate::specs::Ties::project_unknown, crate::specs::Ties::project_tied))]
+fn tie_project(
+    alloc: Global,
+    users: &[Text],
+    groups: &[Text],
+    draft: &ProjectDraft,
+) -> Result<Project, SetupFault>
+    requires users { length users.now ≤ 65_534 }
+    requires groups { length groups.now ≤ 65_534 }
+    ensures { Answers (project_unknown users.now groups.now draft.now)
+        (project_tied users.now groups.now draft.now) result }
+{
+    let lead = user_in(alloc, users, draft.lead.as_str())?;
+    let browse = groups_in(alloc, groups, draft.browse.as_slice())?;
+    let create = groups_in(alloc, groups, draft.create.as_slice())?;
+    let edit = groups_in(alloc, groups, draft.edit.as_slice())?;
+    let transition = groups_in(alloc, groups, draft.transition.as_slice())?;
+    let rank = groups_in(alloc, groups, draft.rank.as_slice())?;
+    Ok(Project {
+        key: draft.key.copy(alloc)?,
+        lead,
+        browse,
+        create,
+        edit,
+        transition,
+        rank,
+    })
+}
+
+/// The projects with the numbers of their leads and groups.
+pub(crate) fn tie_projects(
+    alloc: Global,
+    users: &[Text],
+    groups: &[Text],
+    drafts: &[ProjectDraft],
+) -> Result<Sequence<Project>, SetupFault>
+    requires users { length users.now ≤ 65_534 }
+    requires groups { length groups.now ≤ 65_534 }
+    ensures told { Answers (first_over (project_unknown users.now groups.now) drafts.now)
+        (map (project_tied users.now groups.now) drafts.now) result }
+    ensures all { IfOk result (λ projects. length projects ≡ length drafts.now) }
+{
+    let mut projects = Sequence::new(alloc);
+    for draft in drafts {
+        projects.push(tie_project(alloc, users, groups, draft)?)?;
+    }
+    Ok(projects)
+}

@@ -1,0 +1,117 @@
+// Transitions of the setup with their rules.
+ghost use Rattle.std.specs.Prelude.{◌≡◌, ◌≤◌, length, map, IfOk};
+ghost use Rattle.std.specs.List.{filter_map};
+ghost use Rattle.setup_drafts.specs.Faults.{Answers};
+ghost use Rattle.field_forms.specs.Known.{names_of, AreFew};
+ghost use Rattle.field_forms.specs.Rules.{condition_of, validator_of, post_of};
+ghost use Rattle.setup_reading.specs.Ties.{first_over, no_rule, transition_unknown, transition_tied};
+
+use crate::tie::{choice_in, choices_in};
+use field_forms::known::Known;
+use field_forms::rule_text::{condition_of, post_of, validator_of};
+use field_values::parts::Transition;
+use field_values::rules::{Condition, PostFunction, Validator};
+use field_values::sequence::Sequence;
+use field_values::text::Text;
+use setup_drafts::draft::transition::TransitionDraft;
+use setup_drafts::fault::SetupFault;
+use std::alloc::Global;
+
+fn conditions_of(
+    alloc: Global,
+    known: &Known<'_>,
+    texts: &[Text],
+) -> Result<Sequence<Condition>, SetupFault>
+    requires { AreFew (names_of known.now) }
+    ensures { Answers (first_over (no_rule (condition_of (names_of known.now))) texts.now)
+        (filter_map (condition_of (names_of known.now)) texts.now) result }
+{
+    let mut rules = Sequence::new(alloc);
+    for text in texts {
+        let Some(rule) = condition_of(alloc, known, text.as_str())? else {
+            return Err(SetupFault::bad_value(alloc, text.as_str()));
+        };
+        rules.push(rule)?;
+    }
+    Ok(rules)
+}
+
+fn validators_of(
+    alloc: Global,
+    known: &Known<'_>,
+    texts: &[Text],
+) -> Result<Sequence<Validator>, SetupFault>
+    requires { AreFew (names_of known.now) }
+    ensures { Answers (first_over (no_rule (validator_of (names_of known.now))) texts.now)
+        (filter_map (validator_of (names_of known.now)) texts.now) result }
+{
+    let mut rules = Sequence::new(alloc);
+    for text in texts {
+        let Some(rule) = validator_of(known, text.as_str()) else {
+            return Err(SetupFault::bad_value(alloc, text.as_str()));
+        };
+        rules.push(rule)?;
+    }
+    Ok(rules)
+}
+
+fn post_functions_of(
+    alloc: Global,
+    known: &Known<'_>,
+    texts: &[Text],
+) -> Result<Sequence<PostFunction>, SetupFault>
+    requires { AreFew (names_of known.now) }
+    ensures { Answers (first_over (no_rule (post_of (names_of known.now))) texts.now)
+        (filter_map (post_of (names_of known.now)) texts.now) result }
+{
+    let mut rules = Sequence::new(alloc);
+    for text in texts {
+        let Some(rule) = post_of(alloc, known, text.as_str())? else {
+            return Err(SetupFault::bad_value(alloc, text.as_str()));
+        };
+        rules.push(rule)?;
+    }
+    Ok(rules)
+}
+
+#[tactic(auto, unfolding(crate::specs::Ties::transition_unknown, crate::specs::Ties::transition_tied))]
+fn tie_transition(
+    alloc: Global,
+    known: &Known<'_>,
+    draft: &TransitionDraft,
+) -> Result<Transition, SetupFault>
+    requires { AreFew (names_of known.now) }
+    ensures { Answers (transition_unknown (names_of known.now) draft.now)
+        (transition_tied (names_of known.now) draft.now) result }
+{
+    let from = choices_in(alloc, known.statuses, draft.from.as_slice())?;
+    let to = choice_in(alloc, known.statuses, draft.to.as_str())?;
+    let conditions = conditions_of(alloc, known, draft.conditions.as_slice())?;
+    let validators = validators_of(alloc, known, draft.validators.as_slice())?;
+    let post = post_functions_of(alloc, known, draft.post.as_slice())?;
+    Ok(Transition {
+        name: draft.name.copy(alloc)?,
+        from,
+        to,
+        conditions,
+        validators,
+        post,
+    })
+}
+
+/// The transitions with the numbers of their statuses and with their rules.
+pub(crate) fn tie_transitions(
+    alloc: Global,
+    known: &Known<'_>,
+    drafts: &[TransitionDraft],
+) -> Result<Sequence<Transition>, SetupFault>
+    requires { AreFew (names_of known.now) }
+    ensures { Answers (first_over (transition_unknown (names_of known.now)) drafts.now)
+        (map (transition_tied (names_of known.now)) drafts.now) result }
+{
+    let mut transitions = Sequence::new(alloc);
+    for draft in drafts {
+        transitions.push(tie_transition(alloc, known, draft)?)?;
+    }
+    Ok(transitions)
+}
