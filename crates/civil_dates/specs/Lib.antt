@@ -1,0 +1,5 @@
+pub mod Days
+pub mod DateText
+pub mod Reading
+pub mod Laws
+pub mod Rows

@@ -1,0 +1,11 @@
+//! Dates of the years 1970 to 2099 by number of days since 1970-01-01, and their texts as yyyy-MM-dd.
+#![tactic(auto)]
+
+pub mod laws;
+mod read;
+#[cfg(test)]
+mod tests;
+mod write;
+
+pub use read::day_of;
+pub use write::date_text;
