@@ -1,0 +1,10 @@
+pub mod Spells
+pub mod Words
+pub mod Pieces
+pub mod Lexes
+pub mod Good
+pub mod Round
+pub mod Parts
+pub mod Trees
+pub mod Query
+pub mod Writes

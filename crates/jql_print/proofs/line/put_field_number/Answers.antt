@@ -1,0 +1,14 @@
+use Rattle.std.proofs.Common.{◌≡◌, ◌∷◌, ◌++◌, [], ◌∙◌, ap, refl, true, false, string_bytes, arith}
+use Rattle.std.specs.Prelude.{encode_utf8_all, chars}
+use Rattle.jql_syntax.specs.declared.token.Token.TheVariants.{Word, Name, Quoted, Custom}
+use Rattle.jql_print.specs.Spelling.{escaped}
+use Rattle.jql_print.proofs.Writes.{token_writes, text_bytes, number_bytes}
+use Rattle.jql_print.proofs.line.put_field_number.Goals as goal
+
+pub returns : goal.returns
+returns c =
+    token_writes (string_bytes c.args.line.now.text) (string_bytes c.push_str.new.self) (string_bytes c.space.new.line.text) (c.as_str.result.now) c.args.line.now.is_tight false (Custom c.args.number)
+    c.in_ok-space.ensures
+    c.in_ok-push_str.ensures.bytes
+    (c.as_str.ensures.value ∙ c.in_ok-text.ensures.ok ∙ number_bytes c.args.number (omega arith))
+    refl

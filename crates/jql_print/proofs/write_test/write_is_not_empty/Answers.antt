@@ -1,0 +1,9 @@
+use Rattle.std.proofs.Common.{◌≡◌, ◌∷◌, ◌∙◌}
+use Rattle.jql_syntax.specs.declared.token.Token.TheVariants.{Marked}
+use Rattle.jql_syntax.specs.declared.token.Mark.TheVariants.{Not, Empty}
+use Rattle.jql_print.specs.Print.{argument_text, value_text}
+use Rattle.jql_print.proofs.Writes.{OnOk-map}
+use Rattle.jql_print.proofs.write_test.write_is_not_empty.Goals as goal
+
+pub returns : goal.returns
+returns c = OnOk-map c.put-3.result (λ h rest. h rest ∙ c.in_ok-put-2.ensures (Marked Empty ∷ rest) ∙ c.in_ok-put.ensures (Marked Not ∷ Marked Empty ∷ rest)) c.put-3.ensures

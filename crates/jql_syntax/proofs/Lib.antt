@@ -1,0 +1,12 @@
+pub mod Apart
+pub mod Steps
+pub mod Plain
+pub mod Sure
+pub mod Scanning
+pub mod Reading
+pub mod Strict
+pub mod Views
+pub mod Causes
+pub mod Whole
+pub mod Fronts
+pub mod Total

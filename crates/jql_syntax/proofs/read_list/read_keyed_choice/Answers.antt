@@ -1,0 +1,14 @@
+use Rattle.std.proofs.Common.{refl}
+use Rattle.std.proofs.lemmas.Result.{IfOk-weaker}
+use Rattle.jql_syntax.specs.Grammar.{some, item_or_author}
+use Rattle.jql_syntax.proofs.Reading.{stuck, no_key, goes_both, stop_latter, IfErr-weaker}
+use Rattle.jql_syntax.proofs.read_list.read_keyed_choice.Goals as goal
+
+pub returns-in_default-clause-err : goal.returns-in_default-clause-err
+returns-in_default-clause-err c = rw c.fault.ensures (stuck c.args.ts.now refl (no_key c.args.mark (some (item_or_author c.args.author)) c.args.ts.now c.in_default.ensures.none))
+
+pub returns-clause-ok : goal.returns-clause-ok
+returns-clause-ok c = IfOk-weaker c.read_choice.result _ _ (λ x h. goes_both c.in-Some.ensures.some h) c.read_choice.ensures.ok
+
+pub returns-clause-err : goal.returns-clause-err
+returns-clause-err c = IfErr-weaker c.read_choice.result _ _ (λ s h. stop_latter c.in-Some.ensures.some h) c.read_choice.ensures.err

@@ -1,0 +1,18 @@
+use Rattle.std.proofs.Common.{refl}
+use Rattle.std.proofs.lemmas.Result.{err_from_is_err_and}
+use Rattle.jql_syntax.proofs.Reading.{stuck, goes_both, stop_latter, stop_former, off}
+use Rattle.jql_syntax.proofs.read_test.read_past_members.Goals as goal
+
+pub returns-in_default-clause-err : goal.returns-in_default-clause-err
+returns-in_default-clause-err c = rw c.fault.ensures (stuck c.args.ts.now refl (off c.in_default.ensures.none))
+
+pub returns-in_err-members-clause-err : goal.returns-in_err-members-clause-err
+returns-in_err-members-clause-err c = let p = err_from_is_err_and c.from_residual.result c.from_residual.ensures.1 in
+    rw (p.1, p.2) (stop_latter c.in-Some.ensures.some (stop_former c.in_err-members.ensures.err))
+
+pub returns-in_err-predicates-clause-err : goal.returns-in_err-predicates-clause-err
+returns-in_err-predicates-clause-err c = let p = err_from_is_err_and c.from_residual-in_err-predicates.result c.from_residual-in_err-predicates.ensures.1 in
+    rw (p.1, p.2) (stop_latter c.in-Some.ensures.some (stop_latter c.in_ok-members.ensures.ok c.in_err-predicates.ensures.err))
+
+pub returns-clause-ok : goal.returns-clause-ok
+returns-clause-ok c = goes_both c.in-Some.ensures.some (goes_both c.in_ok-members.ensures.ok c.in_ok-predicates.ensures.ok)

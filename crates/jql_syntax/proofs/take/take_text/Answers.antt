@@ -1,0 +1,5 @@
+use Rattle.jql_syntax.proofs.Reading.{taken}
+use Rattle.jql_syntax.proofs.take.take_text.Goals as goal
+
+pub returns-in-Some-any_of-clause-some : goal.returns-in-Some-any_of-clause-some
+returns-in-Some-any_of-clause-some c = taken c.args.ts.now c.in-Some.rest.now c.in-Some.ensures.some c.in-Some-any_of.ensures.some

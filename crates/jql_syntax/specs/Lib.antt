@@ -1,0 +1,11 @@
+pub mod Tree
+pub mod Node
+pub mod Form
+pub mod Grammar
+pub mod Reads
+pub mod Machine
+pub mod Tokens
+pub mod View
+pub mod Fault
+pub mod Reader
+pub mod Either

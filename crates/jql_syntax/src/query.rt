@@ -1,0 +1,180 @@
+// What a query says. The parts are plain data, which anyone may build; a whole query is made by `parse` alone.
+ghost use Rattle.std.specs.Prelude.{◌≡◌, option_map};
+ghost use Rattle.jql_syntax.specs.View.{view as expr_view};
+ghost use Rattle.jql_syntax.specs.Fault.{IsWritten};
+
+use field_values::{Sequence, Text};
+use std::marker::Model;
+
+/// A field, as a query names it.
+#[derive(Debug, Drop)]
+pub enum Field {
+    Named(Text),
+    /// The number of an own field, in a query from 10000 to 19999.
+    Custom(u32),
+}
+
+/// A function's name, and its argument.
+#[derive(Debug, Drop)]
+pub struct Call {
+    pub name: Text,
+    pub argument: Option<Text>,
+}
+
+/// A text or a call. A date is one too, and in a query its text is a date literal or a period.
+#[derive(Debug, Drop)]
+pub enum Value {
+    Text(Text),
+    Call(Call),
+}
+
+/// What a field is compared with.
+#[derive(Debug, Drop)]
+pub enum Item {
+    Value(Value),
+    Empty,
+}
+
+/// What stands behind IN: a list of items, in a query at least one, or a call.
+#[derive(Debug, Drop)]
+pub enum Members {
+    Items(Sequence<Item>),
+    Call(Call),
+}
+
+/// What stands behind BY, FROM and TO: one item, or a list in parentheses, in a query of at least one. In a query BY has no `Empty`.
+#[derive(Debug, Drop)]
+pub enum Choice {
+    One(Item),
+    Several(Sequence<Item>),
+}
+
+/// What is asked of a change's moment or its author.
+#[derive(Debug, Drop)]
+pub enum Predicate {
+    After(Value),
+    Before(Value),
+    On(Value),
+    During(Value, Value),
+    By(Choice),
+}
+
+/// What is asked of a change.
+#[derive(Debug, Drop)]
+pub enum Aspect {
+    Predicate(Predicate),
+    From(Choice),
+    To(Choice),
+}
+
+/// The signs of comparisons that EMPTY has no place in.
+#[derive(Clone, Copy, Debug, PartialEq, Eq)]
+pub enum Comparison {
+    Greater,
+    GreaterOrEqual,
+    Less,
+    LessOrEqual,
+    Contains,
+    Lacks,
+}
+
+/// What is asked of a field.
+#[derive(Debug, Drop)]
+pub enum Test {
+    Equals(Item),
+    NotEquals(Item),
+    Compares(Comparison, Value),
+    In(Members),
+    NotIn(Members),
+    IsEmpty,
+    IsNotEmpty,
+    Was(Item, Sequence<Predicate>),
+    WasNot(Item, Sequence<Predicate>),
+    WasIn(Members, Sequence<Predicate>),
+    WasNotIn(Members, Sequence<Predicate>),
+    Changed(Sequence<Aspect>),
+}
+
+/// A test of one field.
+#[derive(Debug, Drop)]
+pub struct Leaf {
+    pub field: Field,
+    pub test: Test,
+}
+
+/// A condition. In a query `All` and `Any` hold two or more, in the text's order.
+#[derive(Drop)]
+pub enum Expr {
+    Leaf(Leaf),
+    Not(Box<Expr>),
+    All(Vec<Expr>),
+    Any(Vec<Expr>),
+}
+
+/// The way of a sort key; `Ascending` where the text names none.
+#[derive(Clone, Copy, Debug, PartialEq, Eq)]
+pub enum Direction {
+    Ascending,
+    Descending,
+}
+
+/// A field that issues are sorted by.
+#[derive(Debug, Drop)]
+pub struct SortKey {
+    pub field: Field,
+    pub direction: Direction,
+}
+
+/// A query: its condition, where it has one, and its sort keys. Only `parse` makes one, and it is what some text says.
+#[derive(Drop)]
+pub struct Query {
+    condition: Option<Expr>,
+    order: Sequence<SortKey>,
+}
+
+impl Model for Query {
+    ghost use Rattle.std.specs.Prelude.{Option, List};
+    ghost use Rattle.jql_syntax.specs.declared.query.Expr.{Expr as TheExpr};
+    ghost use Rattle.jql_syntax.specs.declared.query.SortKey.{SortKey as TheSortKey};
+    ghost use Rattle.jql_syntax.specs.contracts.query.Expr as e;
+    ghost use Rattle.jql_syntax.specs.contracts.query.SortKey as k;
+    ghost use Rattle.std.specs.Coded.{codes};
+
+    ghost Value = { Option TheExpr × List TheSortKey };
+
+    ghost coded = { Prim.hlevel (codes, e.the_row.coded, k.the_row.coded) };
+
+    ghost view = { λ q. (q.condition, q.order) };
+
+    ghost use Rattle.std.specs.Prelude.{option_map};
+    ghost use Rattle.jql_syntax.specs.View.{view as expr_view};
+    ghost use Rattle.jql_syntax.specs.Fault.{IsWritten};
+
+    ghost invariant = { λ q. IsWritten (option_map expr_view q.condition) q.order };
+}
+
+impl Query {
+    /// The query of this condition and these sort keys.
+    pub(crate) fn new(condition: Option<Expr>, order: Sequence<SortKey>) -> Query
+        requires { IsWritten (option_map expr_view condition) order }
+        ensures { result ≡ (condition, order) }
+    {
+        Query { condition, order }
+    }
+
+    /// The condition.
+    pub fn condition(&self) -> Option<&Expr>
+        ensures seen { option_map (λ x. x.now) result ≡ self.now.0 }
+        // Some text is the query.
+        ensures written { IsWritten (option_map expr_view self.now.0) self.now.1 }
+    {
+        self.condition.as_ref()
+    }
+
+    /// The sort keys.
+    pub fn order(&self) -> &[SortKey]
+        ensures { result.now ≡ self.now.1 }
+    {
+        self.order.as_slice()
+    }
+}
