@@ -1,0 +1,29 @@
+use crate::context::Phase;
+use field_values::{ChoiceNo, GroupNo, Sequence, SprintNo, Text, UserNo};
+use relative_dates::Term;
+
+/// What a field is compared with. It stands for one value, or for several that it names together.
+#[derive(Debug, Drop)]
+pub enum Operand {
+    /// That there is no value.
+    Empty,
+    /// A choice of the field.
+    Choice(ChoiceNo),
+    /// The statuses of one category.
+    Statuses(Sequence<ChoiceNo>),
+    User(UserNo),
+    /// The users that a group has at the time.
+    MembersOf(GroupNo),
+    Label(Text),
+    /// Thousandths.
+    Number(i64),
+    /// The second that a date means at the time.
+    Date(Term),
+    Sprint(SprintNo),
+    /// The sprints that are in a phase at the time.
+    SprintsIn(Phase),
+    /// A project's key.
+    Project(Text),
+    /// An issue's key.
+    Issue(Text),
+}

@@ -1,0 +1,5 @@
+pub mod Spans
+pub mod Opposites
+pub mod OwnSprint
+pub mod Meetings
+pub mod Differing

@@ -1,0 +1,4 @@
+pub mod Staying
+pub mod Firsts
+pub mod Runs
+pub mod Rising

@@ -1,0 +1,14 @@
+//! Present comparisons: whether one holds of an issue as it is, and when that may change although nothing happens to the issue.
+#![tactic(auto)]
+
+mod compare;
+mod end;
+mod holds;
+mod mark;
+mod naming;
+#[cfg(test)]
+mod tests;
+mod words;
+
+pub use end::next_present;
+pub use holds::holds_present;

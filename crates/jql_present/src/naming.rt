@@ -1,0 +1,144 @@
+// Which values an operand names.
+ghost use Rattle.std.specs.Prelude.{◌≡◌, ◌==◌};
+ghost use Rattle.std.specs.List.{list_any};
+ghost use Rattle.field_values.specs.GroupMembers.{AreRising};
+ghost use Rattle.jql_meaning.specs.Surroundings.{surroundings_of, members_of, phase_of, is_phase, is_in_phase};
+ghost use Rattle.jql_meaning.specs.Naming.{names, names_nothing, names_text, names_number, names_choice, names_user, names_sprint, some_value};
+
+use field_values::{ChoiceNo, GroupNo, SprintNo, Text, UserNo, Value};
+use jql_bound::{Context, Operand, Phase};
+
+/// Whether the operand names one of the values that the field's value has.
+pub fn has_value(context: &Context, operand: &Operand, value: &Value) -> bool
+    ensures { result ≡ some_value (names (surroundings_of context.now) operand.now) value.now }
+{
+    match value {
+        Value::Set(choices) => names_one_choice(operand, choices.as_slice()),
+        Value::Labels(labels) => names_one_text(operand, labels.as_slice()),
+        _ => is_named(context, operand, value),
+    }
+}
+
+/// Whether a sprint is in that phase.
+pub fn is_in_phase(context: &Context, phase: Phase, sprint: SprintNo) -> bool
+    ensures { result ≡ is_in_phase phase (phase_of (surroundings_of context.now) sprint) }
+{
+    if sprint.0 == 0 {
+        return false;
+    }
+    match context.sprints.get(sprint.0 as usize - 1) {
+        Some(other) => is_phase(phase, *other),
+        None => false,
+    }
+}
+
+fn is_phase(phase: Phase, other: Phase) -> bool
+    ensures { result ≡ is_phase phase other }
+{
+    match (phase, other) {
+        (Phase::Future, Phase::Future) => true,
+        (Phase::Active, Phase::Active) => true,
+        (Phase::Closed, Phase::Closed) => true,
+        _ => false,
+    }
+}
+
+// Whether the operand names the value itself.
+fn is_named(context: &Context, operand: &Operand, value: &Value) -> bool
+    ensures { result ≡ names (surroundings_of context.now) operand.now value.now }
+{
+    match value {
+        Value::Empty => matches!(operand, Operand::Empty),
+        Value::Text(text) => names_text(operand, text),
+        Value::Number(number) => names_number(operand, *number),
+        Value::Choice(choice) => names_choice(operand, *choice),
+        Value::User(user) => names_user(context, operand, *user),
+        Value::Sprint(sprint) => names_sprint(operand, *sprint),
+        Value::Date(_) | Value::Set(_) | Value::Labels(_) => false,
+    }
+}
+
+fn names_text(operand: &Operand, text: &Text) -> bool
+    ensures { result ≡ names_text operand.now text.now }
+{
+    match operand {
+        Operand::Label(label) => text.as_str() == label.as_str(),
+        _ => false,
+    }
+}
+
+fn names_number(operand: &Operand, number: i64) -> bool
+    ensures { result ≡ names_number operand.now number }
+{
+    match operand {
+        Operand::Number(other) => number == *other,
+        _ => false,
+    }
+}
+
+fn names_choice(operand: &Operand, choice: ChoiceNo) -> bool
+    ensures { result ≡ names_choice operand.now choice }
+{
+    match operand {
+        Operand::Choice(other) => choice.0 == other.0,
+        Operand::Statuses(statuses) => has_choice(statuses.as_slice(), choice),
+        _ => false,
+    }
+}
+
+fn names_user(context: &Context, operand: &Operand, user: UserNo) -> bool
+    ensures { result ≡ names_user (surroundings_of context.now) operand.now user }
+{
+    match operand {
+        Operand::User(other) => user.0 == other.0,
+        Operand::MembersOf(group) => has_user(members_of(context, *group), user),
+        _ => false,
+    }
+}
+
+fn names_sprint(operand: &Operand, sprint: SprintNo) -> bool
+    ensures { result ≡ names_sprint operand.now sprint }
+{
+    match operand {
+        Operand::Sprint(other) => sprint.0 == other.0,
+        _ => false,
+    }
+}
+
+fn names_one_choice(operand: &Operand, choices: &[ChoiceNo]) -> bool
+    ensures { result ≡ list_any (λ choice. names_choice operand.now choice) choices.now }
+{
+    choices.iter().any(|choice| names_choice(operand, *choice))
+}
+
+fn names_one_text(operand: &Operand, texts: &[Text]) -> bool
+    ensures { result ≡ list_any (λ text. names_text operand.now text) texts.now }
+{
+    texts.iter().any(|text| names_text(operand, text))
+}
+
+fn has_choice(choices: &[ChoiceNo], choice: ChoiceNo) -> bool
+    ensures { result ≡ list_any (λ other. other.0 == choice.0) choices.now }
+{
+    choices.iter().any(|other| other.0 == choice.0)
+}
+
+fn has_user(users: &[UserNo], user: UserNo) -> bool
+    requires { AreRising users.now }
+    ensures { result ≡ list_any (λ other. other.0 == user.0) users.now }
+{
+    users.binary_search_by_key(&user.0, |other| other.0).is_ok()
+}
+
+// The users of a group.
+fn members_of(context: &Context, group: GroupNo) -> &[UserNo]
+    ensures { result.now ≡ members_of (surroundings_of context.now) group }
+{
+    if group.0 == 0 {
+        return &[];
+    }
+    match context.members.get(usize::from(group.0) - 1) {
+        Some(members) => members.as_slice(),
+        None => &[],
+    }
+}
