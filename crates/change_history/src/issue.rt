@@ -1,4 +1,4 @@
-ghost use Rattle.std.specs.Prelude.{◌≡◌, ◌≤◌, ◌+◌, ◌-◌, ◌^◌, ◌<◌, ◌++◌, ◌∷◌, length, vec_len, vec_capacity, IfOk, OnOk, OnErr, option_copied, option_map, unwrap_or, slice_get, []};
+ghost use Rattle.std.specs.Prelude.{◌≡◌, ◌≤◌, ◌+◌, ◌-◌, ◌^◌, ◌<◌, ◌++◌, ◌∷◌, length, vec_len, vec_capacity, IfOk, OnOk, OnErr, option_copied, option_map, unwrap_or, slice_get, [], take, drop};
 ghost use Rattle.change_history.specs.History.{History, present, opening_value, updated, MayAdd};
 ghost use Rattle.change_history.specs.Span.{entries_of, span_of};
 ghost use Rattle.change_history.specs.Places.{place_of, set_place, places_after, value_at};
@@ -124,6 +124,13 @@ impl Issue {
         self.entries.get(k)
     }
 
+    /// At most `count` of the entries, behind the first `from`, lent.
+    pub fn part(&self, from: usize, count: usize) -> &[Entry]
+        ensures { result.now ≡ take count (drop from self.now.history.entries) }
+    {
+        front(behind(&self.entries, from), count)
+    }
+
     /// How many entries the issue has.
     pub fn entries(&self) -> usize
         ensures { result ≡ length self.now.history.entries }
@@ -181,6 +188,28 @@ impl Issue {
         set_places(&mut self.places, first, &entries);
         append_all(&mut self.entries, entries);
     }
+}
+
+// The entries behind the first `from`.
+fn behind(entries: &[Entry], from: usize) -> &[Entry]
+    ensures { result.now ≡ drop from entries.now }
+{
+    if entries.len() <= from {
+        return &[];
+    }
+    let (_, rest) = entries.split_at(from);
+    rest
+}
+
+// The first entries, at most `count` of them.
+fn front(entries: &[Entry], count: usize) -> &[Entry]
+    ensures { result.now ≡ take count entries.now }
+{
+    if entries.len() <= count {
+        return entries;
+    }
+    let (first, _) = entries.split_at(count);
+    first
 }
 
 // The value at a place.
