@@ -3,3 +3,10 @@ pub mod Cutting
 pub mod Finding
 pub mod Fitting
 pub mod Floats
+pub mod Labels
+pub mod Days
+pub mod Sizes
+pub mod Fits
+pub mod SoundRules
+pub mod NumbersBack
+pub mod RoundTrip

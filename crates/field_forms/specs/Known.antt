@@ -12,7 +12,7 @@ use Rattle.field_forms.specs.declared.known.Known.{Known}
 use Rattle.field_values.specs.declared.value.Value.{Value}
 use Rattle.field_values.specs.declared.value.Value.TheVariants.{Empty}
 use Rattle.field_forms.specs.BuiltIn.{built_in_no}
-use Rattle.field_forms.specs.Values.{value_in, has_form}
+use Rattle.field_forms.specs.Values.{value_in, listed_in, has_form}
 
 pub record Names : Type 0 where
   pub users : List (List ℕ)
@@ -106,6 +106,10 @@ choices_of names n =
 -- the value that a text stands for in the field
 unfoldable pub value_of : Names → ℕ → List ℕ → Option Value
 value_of names n text = option_and_then (λ form. value_in form (choices_of names n) text) (form_of names.fields n)
+
+-- the value that a list of texts stands for in the field
+unfoldable pub listed_value_of : Names → ℕ → List (List ℕ) → Option Value
+listed_value_of names n texts = option_and_then (λ form. listed_in form (choices_of names n) texts) (form_of names.fields n)
 
 -- type, summary and status are never empty
 abbrev pub may_be_empty : ℕ → Bool

@@ -8,4 +8,5 @@ pub mod TextLists
 pub mod Values
 pub mod Known
 pub mod Rules
+pub mod SoundRules
 pub mod ValueTexts

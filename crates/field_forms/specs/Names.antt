@@ -1,6 +1,6 @@
 -- The forms of names, and names in a list. Two names are the same where they differ at most in the case of ASCII letters.
-use Rattle.std.specs.Prelude.{ℕ, List, [], ◌∷◌, ◌++◌, Bool, not, ◌&&◌, ◌||◌, ◌==◌, nat_le, length, Option, Some, None, position, if◌then◌else◌}
-use Rattle.std.specs.List.{list_all, list_any}
+use Rattle.std.specs.Prelude.{◌≡◌, ℕ, List, [], ◌∷◌, ◌++◌, Bool, false, not, ◌&&◌, ◌||◌, ◌==◌, nat_le, length, Option, Some, None, position, if◌then◌else◌}
+use Rattle.std.specs.List.{list_all, list_any, AllPairs}
 use Rattle.std.specs.Char.{is_control}
 use Rattle.std.specs.Int.{is_in_range}
 use Rattle.std.specs.Str.{chars, str_eq_ignore_ascii_case}
@@ -42,3 +42,7 @@ abbrev pub first_double : List (List ℕ) → List (List ℕ) → Option (List �
 first_double seen [] = None
 first_double seen (name ∷ names) =
     if is_among seen name then Some name else first_double (seen ++ name ∷ []) names
+
+-- no two of the names are the same
+abbrev pub AreDistinct : List (List ℕ) → Type 0
+AreDistinct names = AllPairs (λ one other. str_eq_ignore_ascii_case one other ≡ false) names

@@ -30,3 +30,12 @@ IsInside names (Choice choice) = choice.0 < length names
 IsInside names (User user) = user.0 < length names
 IsInside names (Date day) = is_day day.0 ≡ true
 IsInside names _ = Unit {0}
+
+-- a value whose text is read as it: a text, a number, a choice, a user or a date
+abbrev pub IsReadBack : Value → Type 0
+IsReadBack (Text t) = Unit {0}
+IsReadBack (Number z) = Unit {0}
+IsReadBack (Choice choice) = Unit {0}
+IsReadBack (User user) = Unit {0}
+IsReadBack (Date day) = Unit {0}
+IsReadBack _ = ⊥

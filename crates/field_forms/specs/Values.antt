@@ -72,11 +72,25 @@ sprint_of text =
 abbrev pub points_of : List ℕ → Option Value
 points_of text = option_and_then (λ z. if int_le (pos 0) z then Some (NumberValue z) else None) (number_of text)
 
+-- the set of the choices that the texts name
+abbrev pub listed_set : List (List ℕ) → List (List ℕ) → Option Value
+listed_set names texts = if list_all (is_among names) texts then Some (set_value (chosen 0 names texts)) else None
+
+-- the labels that the texts are
+abbrev pub listed_labels : List (List ℕ) → Option Value
+listed_labels texts = if are_labels texts then Some (labels_value (with_labels [] texts)) else None
+
+-- the value that a list of texts stands for in a field of this form
+abbrev pub listed_in : Form → List (List ℕ) → List (List ℕ) → Option Value
+listed_in Set names texts = listed_set names texts
+listed_in Labels names texts = listed_labels texts
+listed_in _ names texts = None
+
 abbrev pub set_of : List (List ℕ) → List ℕ → Option Value
-set_of names text = option_and_then (λ texts. if list_all (is_among names) texts then Some (set_value (chosen 0 names texts)) else None) (texts_in text)
+set_of names text = option_and_then (listed_set names) (texts_in text)
 
 abbrev pub label_list_of : List ℕ → Option Value
-label_list_of text = option_and_then (λ texts. if are_labels texts then Some (labels_value (with_labels [] texts)) else None) (texts_in text)
+label_list_of text = option_and_then listed_labels (texts_in text)
 
 -- the value that a text stands for in a field of this form; the names are those that it may name
 unfoldable pub value_in : Form → List (List ℕ) → List ℕ → Option Value

@@ -3,7 +3,7 @@ ghost use Rattle.std.specs.Prelude.{◌≡◌, ◌≤◌, ◌<◌, ◌||◌, ◌
 ghost use Rattle.std.specs.List.{list_all, list_any};
 ghost use Rattle.std.specs.Str.{bytes_eq};
 ghost use Rattle.field_forms.specs.Names.{is_among};
-ghost use Rattle.field_forms.specs.Values.{is_line, is_prose, is_label, is_before, place_for, with_label, with_labels, are_labels, labels_value, chosen, set_value, sprint_of, points_of, set_of, label_list_of, value_in};
+ghost use Rattle.field_forms.specs.Values.{is_line, is_prose, is_label, is_before, place_for, with_label, with_labels, are_labels, labels_value, chosen, set_value, sprint_of, points_of, set_of, label_list_of, value_in, listed_set, listed_labels, listed_in};
 
 use crate::date_text::day_of;
 use crate::name_form::{has_controls, is_among, place_of};
@@ -218,10 +218,18 @@ fn set_of(alloc: Global, names: &[Text], text: &str) -> Result<Option<Value>, Me
     let Some(texts) = texts_in(alloc, text)? else {
         return Ok(None);
     };
-    if !are_known(names, texts.as_slice()) {
+    listed_set(alloc, names, texts.as_slice())
+}
+
+/// The set of the choices that the texts name.
+fn listed_set(alloc: Global, names: &[Text], texts: &[Text]) -> Result<Option<Value>, Memory>
+    requires { length names.now ≤ 65_535 }
+    ensures { IfOk result (λ value. value ≡ listed_set names.now texts.now) }
+{
+    if !are_known(names, texts) {
         return Ok(None);
     }
-    Ok(Some(set_value(chosen(alloc, names, texts.as_slice())?)))
+    Ok(Some(set_value(chosen(alloc, names, texts)?)))
 }
 
 fn label_list_of(alloc: Global, text: &str) -> Result<Option<Value>, Memory>
@@ -230,10 +238,34 @@ fn label_list_of(alloc: Global, text: &str) -> Result<Option<Value>, Memory>
     let Some(texts) = texts_in(alloc, text)? else {
         return Ok(None);
     };
-    if !are_labels(texts.as_slice()) {
+    listed_labels(alloc, texts.as_slice())
+}
+
+/// The labels that the texts are.
+fn listed_labels(alloc: Global, texts: &[Text]) -> Result<Option<Value>, Memory>
+    ensures { IfOk result (λ value. value ≡ listed_labels texts.now) }
+{
+    if !are_labels(texts) {
         return Ok(None);
     }
-    Ok(Some(labels_value(labels_of(alloc, texts.as_slice())?)))
+    Ok(Some(labels_value(labels_of(alloc, texts)?)))
+}
+
+/// The value that a list of texts stands for in a field of this form.
+pub(crate) fn listed_in(
+    alloc: Global,
+    form: Form,
+    names: &[Text],
+    texts: &[Text],
+) -> Result<Option<Value>, Memory>
+    requires { length names.now ≤ 65_535 }
+    ensures { IfOk result (λ value. value ≡ listed_in form names.now texts.now) }
+{
+    match form {
+        Form::Set => listed_set(alloc, names, texts),
+        Form::Labels => listed_labels(alloc, texts),
+        _ => Ok(None),
+    }
 }
 
 /// The value that a text stands for in a field of this form; the names are those that it may name.

@@ -1,13 +1,16 @@
 // The names that a text of the setup, or a value, may name.
-ghost use Rattle.std.specs.Prelude.{◌≡◌, ◌≤◌, ◌==◌, true, length, IfOk, IfSome, option_map};
+ghost use Rattle.std.specs.Prelude.{◌≡◌, ◌≢◌, ◌≤◌, ◌==◌, true, length, IfOk, IfSome, option_map, Some};
 ghost use Rattle.std.specs.List.{find, list_all};
 ghost use Rattle.std.specs.Str.{str_eq_ignore_ascii_case};
 ghost use Rattle.field_forms.specs.Known.{has_few_options};
-ghost use Rattle.field_forms.specs.Known.{names_of, AreFew, own_field, own_field_named, field_named, form_of, form_by, own_choices, choices_of, value_of};
+ghost use Rattle.field_forms.specs.Known.{names_of, AreFew, own_field, own_field_named, field_named, form_of, form_by, own_choices, choices_of, value_of, fits, listed_value_of};
+ghost use Rattle.field_forms.specs.Names.{AreDistinct};
+ghost use Rattle.field_forms.specs.ValueTexts.{IsTextOf, IsReadBack};
 
 use crate::built_in::built_in_no;
-use crate::form::{Form, value_in};
+use crate::form::{Form, listed_in, value_in};
 use crate::name_form::is_same_name;
+use crate::value_text::value_text;
 use field_values::field::Field;
 use field_values::memory::Memory;
 use field_values::numbers::FieldNo;
@@ -137,9 +140,8 @@ pub fn choices_of<'a>(known: &Known<'a>, field: FieldNo) -> &'a [Text]
     }
 }
 
-/// The value that a text stands for in the field; `None` where it is none of the field's.
 #[tactic(auto, unfolding(crate::specs::Known::value_of))]
-pub fn value_of(
+fn read_value(
     alloc: Global,
     known: &Known<'_>,
     field: FieldNo,
@@ -150,6 +152,56 @@ pub fn value_of(
 {
     match form_of(known.fields, field) {
         Some(form) => value_in(alloc, form, choices_of(known, field), text),
+        None => Ok(None),
+    }
+}
+
+/// The value that a text stands for in the field; `None` where it is none of the field's.
+pub fn value_of(
+    alloc: Global,
+    known: &Known<'_>,
+    field: FieldNo,
+    text: &str,
+) -> Result<Option<Value>, Memory>
+    requires { AreFew (names_of known.now) }
+    ensures value { IfOk result (λ value. value ≡ value_of (names_of known.now) field.0 text.now) }
+    ensures fits { IfOk result (λ value. IfSome value (λ v. fits (names_of known.now) field.0 v ≡ true)) }
+{
+    read_value(alloc, known, field, text)
+}
+
+/// The text of a value that the field may hold and that isn't empty. Where no two of the names that a value there may name
+/// are the same, a text, a number, a choice, a user or a date is read back from it.
+#[tactic(auto, using(crate::proofs::Fitting::fits_says))]
+pub fn text_of(
+    alloc: Global,
+    known: &Known<'_>,
+    field: FieldNo,
+    value: &Value,
+) -> Result<Text, Memory>
+    requires few { AreFew (names_of known.now) }
+    requires fits { fits (names_of known.now) field.0 value.now ≡ true }
+    requires some { value.now ≢ Value.Empty }
+    ensures text { IfOk result (IsTextOf (choices_of (names_of known.now) field.0) value.now) }
+    ensures read { AreDistinct (choices_of (names_of known.now) field.0) → IsReadBack value.now
+        → IfOk result (λ text. value_of (names_of known.now) field.0 text ≡ Some value.now) }
+{
+    value_text(alloc, choices_of(known, field), value)
+}
+
+/// The value that a list of texts stands for in the field; `None` where it is none of the field's.
+#[tactic(auto, unfolding(crate::specs::Known::listed_value_of))]
+pub fn listed_value_of(
+    alloc: Global,
+    known: &Known<'_>,
+    field: FieldNo,
+    texts: &[Text],
+) -> Result<Option<Value>, Memory>
+    requires { AreFew (names_of known.now) }
+    ensures { IfOk result (λ value. value ≡ listed_value_of (names_of known.now) field.0 texts.now) }
+{
+    match form_of(known.fields, field) {
+        Some(form) => listed_in(alloc, form, choices_of(known, field), texts),
         None => Ok(None),
     }
 }

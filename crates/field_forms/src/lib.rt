@@ -7,6 +7,7 @@ pub mod date_text;
 pub mod fit;
 pub mod form;
 pub mod known;
+pub mod laws;
 pub mod name_form;
 pub mod number_text;
 pub mod rule_text;

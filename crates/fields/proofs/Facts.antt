@@ -17,7 +17,7 @@ use Rattle.field_forms.specs.Names.{is_among, first_double}
 use Rattle.field_forms.specs.NameForms.{has_form}
 use Rattle.setup_drafts.specs.Cells.{new_name_fault, text_in, names_in, list_fault, names_fault, optional_names_fault, crowd_fault}
 use Rattle.setup_drafts.specs.Written.{texts_of, has_fewer_than}
-use Rattle.fields.specs.Sound.{AreDistinct}
+use Rattle.field_forms.specs.Names.{AreDistinct}
 use Rattle.setup_drafts.specs.Entries.{entries_fault, with_name}
 
 pub none_first : {X : Type 0} (a b : Option X) → option_or a b ≡ None → a ≡ None
@@ -109,3 +109,15 @@ optional_distinct key form least most (Some d) h = list_distinct key form least 
 pub map_map : {A B C : Type 0} (f : B → C) (g : A → B) (xs : List A) → map f (map g xs) ≡ map (λ x. f (g x)) xs
 map_map f g [] = refl
 map_map f g (x ∷ xs) = ap (λ ys. f (g x) ∷ ys) (map_map f g xs)
+
+-- what holds of each entry without a fault holds of every one
+pub each_entry_is : {S : Type 0} (fault : S → Members → Option SetupFault) (after : S → Members → S) (P : Members → Type 0) → ((before : S) (e : Members) → fault before e ≡ None → P e) → (before : S) (es : List Members) → entries_fault fault after before es ≡ None → All P es
+each_entry_is fault after P holds before [] none k d inside = absurd (omega arith)
+each_entry_is fault after P holds before (e ∷ es) none zero d inside = holds before e (none_first _ _ none)
+each_entry_is fault after P holds before (e ∷ es) none (suc k) d inside = each_entry_is fault after P holds (after before e) es (none_second (fault before e) (entries_fault fault after (after before e) es) none) k d (omega arith)
+
+-- what holds of what each is mapped to holds of all that are mapped
+pub all_mapped : {A B : Type 0} (f : A → B) (P : B → Type 0) (xs : List A) → All (λ x. P (f x)) xs → All P (map f xs)
+all_mapped f P [] h k d inside = absurd (omega arith)
+all_mapped f P (x ∷ xs) h zero d inside = h zero x (omega arith)
+all_mapped f P (x ∷ xs) h (suc k) d inside = all_mapped f P xs (λ j e within. h (suc j) e (omega arith)) k d (omega arith)

@@ -11,6 +11,7 @@ use Rattle.field_values.specs.declared.rules.Permission.TheVariants.{Browse, Cre
 use Rattle.field_values.specs.declared.parts.Group.{Group}
 use Rattle.field_values.specs.declared.parts.Project.{Project}
 use Rattle.field_forms.specs.Names.{place_named}
+use Rattle.fields.specs.Sound.{part_names}
 use Rattle.field_forms.specs.Known.{Names, form_of, choices_of}
 use Rattle.field_values.specs.Parts.{Parts}
 
@@ -36,17 +37,11 @@ parts setup = record {
 }
 
 -- the names that a value may name
+abbrev pub names_in : Parts → Names
+names_in setup = part_names setup
+
 abbrev pub names : Setup → Names
-names setup = record {
-  users = setup.users;
-  types = setup.types;
-  statuses = map (λ s. s.name) setup.status;
-  priorities = setup.priorities;
-  resolutions = setup.resolutions;
-  versions = setup.versions;
-  groups = map (λ g. g.name) setup.group;
-  fields = setup.field;
-}
+names setup = names_in (parts setup)
 
 -- the choice of that name in a field that holds choices
 abbrev pub choice_named : Names → ℕ → List ℕ → Option ℕ
@@ -67,7 +62,7 @@ groups_in Rank (Some project) = project.rank
 groups_in _ (Some project) = []
 
 -- the groups that have a permission: of the whole tracker, or in the project
-abbrev pub groups_with : Setup → Permission → Option ℕ → List GroupNo
+abbrev pub groups_with : Parts → Permission → Option ℕ → List GroupNo
 groups_with setup Plan place = setup.plan
 groups_with setup Administer place = setup.administer
 groups_with setup permission place = groups_in permission (option_and_then (slice_get setup.project) place)
@@ -78,5 +73,5 @@ has_member groups user group =
     option_map_or (λ g. list_any (λ member. member.0 == user) g.members) (slice_get groups (group.0 - 1)) false
 
 -- one of the permission's groups has the user
-abbrev pub may : Setup → ℕ → Permission → Option ℕ → Bool
+abbrev pub may : Parts → ℕ → Permission → Option ℕ → Bool
 may setup user permission place = list_any (has_member setup.group user) (groups_with setup permission place)

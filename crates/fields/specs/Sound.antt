@@ -1,17 +1,15 @@
 -- What holds of every setup that is read.
-use Rattle.std.specs.Prelude.{◌≡◌, ◌≢◌, ◌<◌, ℕ, Bool, true, false, ◌&&◌, nat_lt, List, length, map}
-use Rattle.std.specs.List.{list_all, AllPairs}
-use Rattle.std.specs.Str.{str_eq_ignore_ascii_case}
+use Rattle.std.specs.Prelude.{◌≡◌, ◌≢◌, ◌<◌, ℕ, Bool, true, ◌&&◌, nat_lt, List, length, map}
+use Rattle.std.specs.List.{list_all, AllPairs, All}
 use Rattle.field_values.specs.declared.field.Field.{Field}
 use Rattle.field_values.specs.declared.parts.Group.{Group}
 use Rattle.field_values.specs.declared.parts.Transition.{Transition}
-use Rattle.field_forms.specs.Names.{is_from_to, is_project_key}
+use Rattle.field_values.specs.declared.parts.Project.{Project}
+use Rattle.field_forms.specs.Names.{is_from_to, is_project_key, AreDistinct}
+use Rattle.field_forms.specs.Known.{Names}
+use Rattle.field_forms.specs.SoundRules.{is_group, rules_are_sound}
 use Rattle.field_values.specs.GroupMembers.{is_user_list}
 use Rattle.field_values.specs.Parts.{Parts}
-
--- no two of the names are the same
-abbrev pub AreDistinct : List (List ℕ) → Type 0
-AreDistinct names = AllPairs (λ one other. str_eq_ignore_ascii_case one other ≡ false) names
 
 -- a field of the setup's own has a number from 10000 to 19999
 abbrev pub has_own_number : Field → Bool
@@ -24,6 +22,25 @@ goes_inside count transition = nat_lt transition.to.0 count && list_all (λ stat
 -- its members are some of so many users, in their order
 abbrev pub has_members_in : ℕ → Group → Bool
 has_members_in count group = is_user_list count group.members
+
+-- its lead is one of so many users, and the groups with its permissions are there
+abbrev pub project_is_sound : ℕ → ℕ → Project → Bool
+project_is_sound users groups p =
+    nat_lt p.lead.0 users && (list_all (is_group groups) p.browse && (list_all (is_group groups) p.create
+    && (list_all (is_group groups) p.edit && (list_all (is_group groups) p.transition && list_all (is_group groups) p.rank))))
+
+-- the names that a value or a rule may name
+abbrev pub part_names : Parts → Names
+part_names parts = record {
+  users = parts.users;
+  types = parts.types;
+  statuses = map (λ s. s.name) parts.status;
+  priorities = parts.priorities;
+  resolutions = parts.resolutions;
+  versions = parts.versions;
+  groups = map (λ g. g.name) parts.group;
+  fields = parts.field;
+}
 
 pub record IsSound (parts : Parts) : Type 0 where
   pub users : AreDistinct parts.users
@@ -38,3 +55,10 @@ pub record IsSound (parts : Parts) : Type 0 where
   pub first_status : parts.first_status.0 < length parts.status
   pub transitions : list_all (goes_inside (length parts.status)) parts.transition ≡ true
   pub members : list_all (has_members_in (length parts.users)) parts.group ≡ true
+  pub statuses : AreDistinct (map (λ s. s.name) parts.status)
+  pub options : All (λ f. AreDistinct f.options) parts.field
+  pub rebalancer : parts.rebalancer.0 < length parts.users
+  pub plan : list_all (is_group (length parts.group)) parts.plan ≡ true
+  pub administer : list_all (is_group (length parts.group)) parts.administer ≡ true
+  pub projects : list_all (project_is_sound (length parts.users) (length parts.group)) parts.project ≡ true
+  pub rules : list_all (rules_are_sound (part_names parts)) parts.transition ≡ true

@@ -2,19 +2,18 @@
 ghost use Rattle.std.specs.Prelude.{◌≡◌, ◌≢◌, ◌≤◌, true, pos, ◌==◌, ◌+◌, ◌-◌, length, map, option_map, IfOk, slice_get, slice_set};
 ghost use Rattle.std.specs.List.{list_any};
 ghost use Rattle.field_forms.specs.Names.{place_named};
-ghost use Rattle.field_forms.specs.Known.{names_of, AreFew, field_named, choices_of, value_of, fits};
+ghost use Rattle.field_forms.specs.Known.{names_of, AreFew, field_named, choices_of, value_of, fits, listed_value_of};
 ghost use Rattle.relative_dates.specs.Calendar.{local_day};
 ghost use Rattle.setup_drafts.specs.Offsets.{zone_of};
 ghost use Rattle.field_values.specs.GroupMembers.{with_members, is_user_list, AreRising, HaveRising};
-ghost use Rattle.field_forms.specs.ValueTexts.{IsTextOf};
+ghost use Rattle.field_forms.specs.ValueTexts.{IsTextOf, IsReadBack};
 ghost use Rattle.fields.specs.SetupParts.{parts, names, choice_named, groups_in, groups_with, has_member, may};
 
 use crate::setup::Setup;
 use field_forms::fit;
 use field_forms::form::Form;
-use field_forms::known::{Known, choices_of, field_named, form_of, value_of};
+use field_forms::known::{Known, choices_of, field_named, form_of, listed_value_of, text_of, value_of};
 use field_forms::name_form::place_of;
-use field_forms::value_text::value_text;
 use field_values::memory::Memory;
 use field_values::moment::Moment;
 use field_values::numbers::{ChoiceNo, Day, FieldNo, GroupNo, ProjectNo, UserNo};
@@ -157,10 +156,22 @@ impl Setup {
         value_of(alloc, &self.known(), field, text)
     }
 
+    /// The value that a list of texts stands for in the field, a set or labels; `None` exactly where it is none of the field's.
+    pub fn listed_value_of(
+        &self,
+        alloc: Global,
+        field: FieldNo,
+        texts: &[Text],
+    ) -> Result<Option<Value>, Memory>
+        ensures { IfOk result (λ value. value ≡ listed_value_of (names self.now) field.0 texts.now) }
+    {
+        listed_value_of(alloc, &self.known(), field, texts)
+    }
+
     /// Whether one of the groups that have the permission has the user. The permissions of a project are asked of it; those
     /// of the whole tracker need none.
     pub fn may(&self, user: UserNo, permission: Permission, project: Option<ProjectNo>) -> bool
-        ensures { result ≡ may self.now user.0 permission (option_map (λ no. no.0) project) }
+        ensures { result ≡ may (parts self.now) user.0 permission (option_map (λ no. no.0) project) }
     {
         has_member_in(
             self.group.as_slice(),
@@ -171,7 +182,7 @@ impl Setup {
 
     /// The groups that have a permission: of the whole tracker, or in the project.
     fn groups_with(&self, permission: Permission, project: Option<ProjectNo>) -> &[GroupNo]
-        ensures { result.now ≡ groups_with self.now permission (option_map (λ no. no.0) project) }
+        ensures { result.now ≡ groups_with (parts self.now) permission (option_map (λ no. no.0) project) }
     {
         match permission {
             Permission::Plan => self.plan.as_slice(),
@@ -211,14 +222,15 @@ impl Setup {
     }
 
     /// The text of a value that the field may hold and that isn't empty: what a choice or a user is called, a day as
-    /// yyyy-MM-dd, the shortest spelling of a number, and a JSON array without spaces for a set or labels.
-    #[tactic(auto, using(field_forms::proofs::Fitting::fits_says))]
+    /// yyyy-MM-dd, the shortest spelling of a number, and a JSON array without spaces for a set or labels. Of a text, a number, a choice,
+    /// a user or a date, it is read as the value.
     pub fn text_of(&self, alloc: Global, field: FieldNo, value: &Value) -> Result<Text, Memory>
         requires fits { fits (names self.now) field.0 value.now ≡ true }
         requires some { value.now ≢ Value.Empty }
-        ensures { IfOk result (IsTextOf (choices_of (names self.now) field.0) value.now) }
+        ensures text { IfOk result (IsTextOf (choices_of (names self.now) field.0) value.now) }
+        ensures read { IsReadBack value.now → IfOk result (λ text. value_of (names self.now) field.0 text ≡ Some value.now) }
     {
-        value_text(alloc, choices_of(&self.known(), field), value)
+        text_of(alloc, &self.known(), field, value)
     }
 
     /// Gives a group other members, in the setup's order of users and each once. All else stays, the text too.

@@ -72,6 +72,7 @@ pub struct Setup {
     ghost few_groups: { length group ≤ 100 },
     ghost few_projects: { length project ≤ 50 },
     ghost few_statuses: { length status ≤ 50 },
+    pub ghost few_fields: { length field ≤ 30 },
     ghost few_options: { list_all has_few_options field ≡ true },
     ghost named_statuses: { status_names ≡ map (λ s. s.name) status },
     ghost named_groups: { group_names ≡ map (λ g. g.name) group },
@@ -79,7 +80,7 @@ pub struct Setup {
     ghost named_transitions: { transition_names ≡ map (λ t. t.name) transition },
     ghost clock: { calendar ≡ record { zone = zone_of utc_offset_minutes offset; first_day = day_number week_starts } },
     ghost reads: { kept_in text ≡ Ok (memberless (record { utc_offset_minutes = utc_offset_minutes; week_starts = week_starts; rebalancer = rebalancer; users = users; types = types; priorities = priorities; resolutions = resolutions; versions = versions; first_status = first_status; plan = plan; administer = administer; group = group; project = project; status = status; transition = transition; field = field; offset = offset })) },
-    ghost sound: { IsSound (record { utc_offset_minutes = utc_offset_minutes; week_starts = week_starts; rebalancer = rebalancer; users = users; types = types; priorities = priorities; resolutions = resolutions; versions = versions; first_status = first_status; plan = plan; administer = administer; group = group; project = project; status = status; transition = transition; field = field; offset = offset }) },
+    pub ghost sound: { IsSound (record { utc_offset_minutes = utc_offset_minutes; week_starts = week_starts; rebalancer = rebalancer; users = users; types = types; priorities = priorities; resolutions = resolutions; versions = versions; first_status = first_status; plan = plan; administer = administer; group = group; project = project; status = status; transition = transition; field = field; offset = offset }) },
 }
 
 impl Setup {

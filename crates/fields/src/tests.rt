@@ -156,21 +156,58 @@ fn values_of_texts(rt: HostRuntime) -> Result<(), Fail> {
     Ok(())
 }
 
+/// Each line has a field's number, a kind of value, its number, and whether the field may hold it.
+const FITTING: &str = r#"
+11 | date | 47481 | yes
+11 | date | 47482 | no
+11 | date | -1 | no
+12 | number | 999999999999 | yes
+12 | number | 1000000000000 | no
+12 | number | -1 | no
+4 | choice | 3 | yes
+4 | choice | 4 | no
+5 | choice | 0 | no
+4 | empty | 0 | no
+3 | empty | 0 | yes
+14 | empty | 0 | no
+"#;
+
+fn value(kind: &str, number: i64) -> Value {
+    match kind {
+        "date" => Value::Date(Day(i32::try_from(number).unwrap_or(0))),
+        "number" => Value::Number(number),
+        "choice" => Value::Choice(ChoiceNo(u16::try_from(number).unwrap_or(0))),
+        _ => Value::Empty,
+    }
+}
+
+fn check_fit(rt: &impl Abort, setup: &Setup, case: &str) -> Result<(), Fail> {
+    let (field, rest) = case.split_once(" | ").ok_or("no case")?;
+    let (kind, rest) = rest.split_once(" | ").ok_or("no case")?;
+    let (number, wanted) = rest.split_once(" | ").ok_or("no case")?;
+    let field = FieldNo(field.parse::<u16>().unwrap_or(0));
+    let value = value(kind, number.parse::<i64>().unwrap_or(0));
+    let fits = setup.fits(field, &value);
+    assert!(rt; fits == (wanted == "yes"), "{case}");
+    Ok(())
+}
+
+fn check_fits(rt: &impl Abort, setup: &Setup, cases: &str) -> Result<usize, Fail> {
+    let mut count = 0usize;
+    for case in cases.lines() {
+        if case.is_empty() {
+            continue;
+        }
+        check_fit(rt, setup, case)?;
+        count = count.checked_add(1).ok_or("many")?;
+    }
+    Ok(count)
+}
+
 #[test]
 fn values_that_fit(rt: HostRuntime) -> Result<(), Fail> {
     let setup = Setup::built_in(rt.alloc())?;
-    assert!(rt; setup.fits(FieldNo(11), &Value::Date(Day(47_481))));
-    assert!(rt; !setup.fits(FieldNo(11), &Value::Date(Day(47_482))));
-    assert!(rt; !setup.fits(FieldNo(11), &Value::Date(Day(-1))));
-    assert!(rt; setup.fits(FieldNo(12), &Value::Number(999_999_999_999)));
-    assert!(rt; !setup.fits(FieldNo(12), &Value::Number(1_000_000_000_000)));
-    assert!(rt; !setup.fits(FieldNo(12), &Value::Number(-1)));
-    assert!(rt; setup.fits(FieldNo(4), &Value::Choice(ChoiceNo(3))));
-    assert!(rt; !setup.fits(FieldNo(4), &Value::Choice(ChoiceNo(4))));
-    assert!(rt; !setup.fits(FieldNo(5), &Value::Choice(ChoiceNo(0))));
-    assert!(rt; !setup.fits(FieldNo(4), &Value::Empty));
-    assert!(rt; setup.fits(FieldNo(3), &Value::Empty));
-    assert!(rt; !setup.fits(FieldNo(14), &Value::Empty));
+    assert_eq!(rt; check_fits(&rt, &setup, FITTING)?, 12);
     Ok(())
 }
 
@@ -201,18 +238,32 @@ version | 1.1 | 1
 assignee | anna | none
 "#;
 
+fn choice_named(setup: &Setup, field: u16, name: &str) -> Option<u16> {
+    match setup.choice_named(FieldNo(field), name) {
+        Some(choice) => Some(choice.0),
+        None => None,
+    }
+}
+
+fn transition_named(setup: &Setup, name: &str) -> Option<u16> {
+    match setup.transition_named(name) {
+        Some(place) => u16::try_from(place).ok(),
+        None => None,
+    }
+}
+
 /// The number of the thing of that name.
 fn number_named(setup: &Setup, kind: &str, name: &str) -> Option<u16> {
     match kind {
-        "user" => Some(setup.user_named(name)?.0),
-        "project" => Some(setup.project_named(name)?.0),
-        "transition" => u16::try_from(setup.transition_named(name)?).ok(),
-        "group" => Some(setup.group_named(name)?.0),
-        "field" => Some(setup.field_named(name)?.0),
-        "status" => Some(setup.choice_named(FieldNo(4), name)?.0),
-        "version" => Some(setup.choice_named(FieldNo(9), name)?.0),
-        "size" => Some(setup.choice_named(FieldNo(10_030), name)?.0),
-        _ => Some(setup.choice_named(FieldNo(5), name)?.0),
+        "user" => setup.user_named(name).map(|no| no.0),
+        "project" => setup.project_named(name).map(|no| no.0),
+        "transition" => transition_named(setup, name),
+        "group" => setup.group_named(name).map(|no| no.0),
+        "field" => setup.field_named(name).map(|no| no.0),
+        "status" => choice_named(setup, 4, name),
+        "version" => choice_named(setup, 9, name),
+        "size" => choice_named(setup, 10_030, name),
+        _ => choice_named(setup, 5, name),
     }
 }
 
@@ -330,17 +381,26 @@ version | V500 | 499
 size | U196 | 195
 "#;
 
-#[test]
-fn a_large_setup(rt: HostRuntime) -> Result<(), Fail> {
-    let text = large_text(rt.alloc())?;
-    let Ok(setup) = Setup::read(rt.alloc(), text.as_str().as_bytes()) else {
-        return Err("refused".into());
-    };
-    assert_eq!(rt; check_names(&rt, &setup, LARGE_NAMES)?, 9);
+fn check_steps(rt: &impl Abort, setup: &Setup) -> Result<(), Fail> {
     assert_eq!(rt; setup.steps(), 400);
     let last = setup.step(399).ok_or("no step")?;
     assert_eq!(rt; last.0.seconds(), 1_400_000_000);
     assert!(rt; setup.step(400).is_none());
     assert_eq!(rt; setup.day_of(last.0).0, 16_203);
     Ok(())
+}
+
+fn large_setup(alloc: Global) -> Result<Setup, Fail> {
+    let text = large_text(alloc)?;
+    match Setup::read(alloc, text.as_str().as_bytes()) {
+        Ok(setup) => Ok(setup),
+        Err(_) => Err("refused".into()),
+    }
+}
+
+#[test]
+fn a_large_setup(rt: HostRuntime) -> Result<(), Fail> {
+    let setup = large_setup(rt.alloc())?;
+    assert_eq!(rt; check_names(&rt, &setup, LARGE_NAMES)?, 9);
+    check_steps(&rt, &setup)
 }

@@ -81,7 +81,7 @@ span_of-within h field k span is =
           omega (arith, slice_get_within (entries_of h.entries field) (k - 1) entry.0 entry.1)
     ]
 
-was-which : (s : Surroundings) (h : History) (now : ℕ) (field : FieldNo) (operands : List Operand) (predicates : List PastPredicate) → was s h now field operands predicates ≡ true → Was s h now field operands predicates
+pub was-which : (s : Surroundings) (h : History) (now : ℕ) (field : FieldNo) (operands : List Operand) (predicates : List PastPredicate) → was s h now field operands predicates ≡ true → Was s h now field operands predicates
 unfolding was
 was-which s h now field operands predicates is =
     let found = some_from-which (λ k. option_map_or (span_answers s now operands predicates) (span_of h field k) false) (length (entries_of h.entries field) + 1) 0 is in
@@ -91,7 +91,7 @@ was-which s h now field operands predicates is =
     let moment = some_moment-which (λ m. is_in_windows s now predicates m) span.0 now parts.1 in
     record { k = found.at; span = span.0; moment = moment.0; is_span = span.1; value = first.0; author = first.1; lasts = moment.1; within = moment.2 }
 
-was-found : (s : Surroundings) (h : History) (now : ℕ) (field : FieldNo) (operands : List Operand) (predicates : List PastPredicate) → Was s h now field operands predicates → was s h now field operands predicates ≡ true
+pub was-found : (s : Surroundings) (h : History) (now : ℕ) (field : FieldNo) (operands : List Operand) (predicates : List PastPredicate) → Was s h now field operands predicates → was s h now field operands predicates ≡ true
 unfolding was
 was-found s h now field operands predicates w =
     let answers : span_answers s now operands predicates w.span ≡ true =

@@ -43,7 +43,7 @@ unfoldable pub IsCriticalNow : Surroundings → History → Leaf → ℕ → Typ
 IsCriticalNow s h leaf t = MeetsMark s h (edges_now leaf) t
 
 unfoldable pub IsCriticalPast : Surroundings → History → PastLeaf → ℕ → Type 0
-IsCriticalPast s h leaf t = MeetsMark s h (edges_past leaf) t ⊎ MeetsEdge s (edges_past leaf) t ⊎ Leaps s (edges_past leaf) t
+IsCriticalPast s h leaf t = MeetsMark s h (edges_past leaf) t ⊎ (MeetsEdge s (edges_past leaf) t ⊎ Leaps s (edges_past leaf) t)
 
 -- a moment is critical for a condition where it is for one of its comparisons
 unfoldable mutual

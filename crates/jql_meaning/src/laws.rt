@@ -1,5 +1,5 @@
 //! What is proved of all queries. These functions do nothing: each clause is a law.
-ghost use Rattle.jql_meaning.specs.Laws.{OnlyOwnSprintMatters, PushedIsTheNegation, NeverBothHold, WasIsOfSomeSpan, ChangesAreCritical, ChangesComeFromComparisons, NotOfNotIsItself};
+ghost use Rattle.jql_meaning.specs.Laws.{OnlyOwnSprintMatters, PushedIsTheNegation, NeverBothHold, WasIsOfSomeSpan, PresentChangesAreCritical, PastChangesAreCritical, ChangesAreCritical, ChangesComeFromComparisons, NotOfNotIsItself};
 
 /// How far sprints are that the issue isn't in doesn't matter.
 pub fn only_the_own_sprint_matters()
@@ -22,8 +22,11 @@ pub fn past_of_some_span()
     ensures { WasIsOfSomeSpan }
 {}
 
-/// The truth of a present comparison changes at critical moments alone, and that of a condition where one of its comparisons does.
+/// The truth of a comparison, and of a whole query, changes at critical moments alone, and that of a condition only where one of
+/// its comparisons' does.
 pub fn truth_changes_at_critical_moments()
-    ensures present { ChangesAreCritical }
+    ensures present { PresentChangesAreCritical }
+    ensures past { PastChangesAreCritical }
+    ensures query { ChangesAreCritical }
     ensures condition { ChangesComeFromComparisons }
 {}

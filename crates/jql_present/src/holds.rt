@@ -10,7 +10,7 @@ ghost use Rattle.jql_meaning.specs.Comparison.{equals, order, stands};
 use crate::compare::{equals, order};
 use crate::words;
 use change_history::Issue;
-use field_values::{Moment, Sequence, Value};
+use field_values::{Moment, Value};
 use jql_bound::{Context, Inequality, Leaf, Operand, Operator, Subject, Word};
 use std::cmp::Ordering;
 

@@ -1,20 +1,18 @@
 -- The tokens of a text are spelled as texts may be.
-use Rattle.std.proofs.Common.{◌≡◌, ℕ, zero, suc, ◌≤◌, ◌==◌, Bool, true, false, not, ◌&&◌, ◌||◌, if◌then◌else◌, List, [], ◌∷◌, Option, Some, None, refl, ap, sym, ◌∙◌, inl, inr, arith, subst}
+use Rattle.std.proofs.Common.{◌≡◌, ℕ, zero, suc, ◌≤◌, ◌==◌, Bool, true, false, not, ◌&&◌, if◌then◌else◌, List, [], ◌∷◌, Option, Some, None, refl, sym, inl, inr, arith, subst}
 use Rattle.std.proofs.lemmas.Bool.Decides.{nat_tests}
 use Rattle.std.proofs.lemmas.Str.{scalars-chars}
-use Rattle.std.specs.Prelude.{encode_utf8_all, nat_le, chars, option_and_then, option_map}
+use Rattle.std.specs.Prelude.{nat_le, chars, option_and_then, option_map}
 use Rattle.std.specs.Char.{is_ascii_digit}
 use Rattle.std.specs.List.{list_all}
 use Rattle.std.specs.Str.{IsUtf8, all_scalars}
 use Rattle.relative_dates.specs.Reading.{number_of}
 use Rattle.jql_syntax.specs.Tokens.{is_white, is_quote, is_sign, is_banned, is_word_char, is_escaped, front, past, after_char, begins_with, Piece, longer_or, or_longer, or_lacks, sign_at, Quote, closed, refused, onto, quote_at, quoted, numbered, bracketed, field_number_at, keyword_of, opens_next, word_or, run_of, word_at, number_or_word, signed_or, piece_at, rest_of, tokens_of, tokens, words}
 use Rattle.jql_syntax.specs.declared.token.Mark.{Mark}
-use Rattle.jql_syntax.specs.declared.token.Mark.TheVariants.{Equals, NotEquals, Greater, GreaterOrEqual, Less, LessOrEqual, Contains, Lacks, Open, Close, Comma, And, Or, Not}
-use Rattle.jql_syntax.specs.declared.token.Kind.{Kind}
+use Rattle.jql_syntax.specs.declared.token.Mark.TheVariants.{Greater, GreaterOrEqual, Less, LessOrEqual, Lacks, Comma, And, Or, Not}
 use Rattle.jql_syntax.specs.declared.token.Kind.TheVariants.{Character, Unclosed, BadNumber}
-use Rattle.jql_syntax.specs.declared.token.Token.{Token}
 use Rattle.jql_syntax.specs.declared.token.Token.TheVariants.{Marked, Word, Name, Quoted, Custom, Bad}
-use Rattle.jql_syntax.proofs.Apart.{differ, true_or_false, not_left, not_right, and_cases, and_both, or_left, or_right}
+use Rattle.jql_syntax.proofs.Apart.{true_or_false, and_cases, and_both}
 use Rattle.jql_print.proofs.Spells.{IsName, IsGood, AreGood}
 
 abbrev Good : List ℕ → Type 0

@@ -1,36 +1,29 @@
 -- Each part below a condition reads again as it is spelled.
-use Rattle.std.proofs.Common.{◌≡◌, ℕ, ◌<◌, true, false, not, ◌&&◌, List, [], ◌∷◌, ◌++◌, map, Option, Some, None, refl, ap, sym, ◌∙◌, append-nil, arith, inl, inr}
-use Rattle.std.specs.Prelude.{encode_utf8_all}
+use Rattle.std.proofs.Common.{◌≡◌, ℕ, true, not, List, [], ◌∷◌, ◌++◌, map, Option, Some, None, refl, ap, sym, ◌∙◌, append-nil, inl, inr}
 use Rattle.std.specs.List.{list_all}
 use Rattle.std.specs.Option.{is_some}
-use Rattle.std.specs.Str.{IsUtf8, all_scalars}
-use Rattle.std.proofs.lemmas.Bool.Decides.{nat_tests}
-use Rattle.std.proofs.lemmas.Str.{encode_ascii}
-use Rattle.jql_syntax.specs.Tokens.{is_word_char, keyword_of}
+use Rattle.std.specs.Str.{IsUtf8}
+use Rattle.jql_syntax.specs.Tokens.{keyword_of}
 use Rattle.std.specs.Char.{is_ascii_alphabetic, is_ascii_alphanumeric}
 use Rattle.jql_syntax.specs.Tree.{single}
-use Rattle.jql_syntax.specs.Node.{Node, text, number, a_field, a_call, a_value, an_item, members, a_choice, a_predicate, an_aspect, a_test, condition, a_direction, a_key, made, named_field, numbered_field, called, text_value, call_value, empty_item, value_item, list_of_items, list_of_call, one_item, several_items, after, before, on_day, during, by_author, predicate_aspect, from_choice, to_choice, equals, not_equals, among, not_among, is_empty, is_not_empty, was, was_not, was_among, was_not_among, changed, compares, field_test, ascending, descending, sort_key}
-use Rattle.jql_syntax.specs.Form.{Class, function_name, bare_word, any_text, IsOf, of_sign, of_word, of_quoted, of_date_word, of_date_quoted, of_name, of_bare_word, of_bare_name, of_any_word, of_any_name, of_any_quoted, of_number, Form, one, nothing, both, either, many, rule}
-use Rattle.jql_syntax.specs.Grammar.{key, field, argument, call_of, call, value, date, item, author, call_as_list, list, some, listed as listed_form, two_dates, on_dates, later_predicate, predicate, aspect, compared, comparison, emptiness, is_test, past_among, past_item, past, was_test, changed_test, test, leaf, direction, sorting}
-use Rattle.jql_syntax.specs.Reads.{Is, is_one, is_nothing, is_both, is_first, is_second, is_none, is_more, is_rule, is_unit}
-use Rattle.jql_syntax.specs.declared.token.Mark.{Mark}
-use Rattle.jql_syntax.specs.declared.token.Mark.TheVariants.{Equals, NotEquals, Greater, GreaterOrEqual, Less, LessOrEqual, Contains, Lacks, Open, Close, Comma, Not, Empty, In, Is as IsMark, Was, Changed, By, Ascending, Descending, After, Before, On, During, From, To}
+use Rattle.jql_syntax.specs.Node.{Node, text, a_field, a_call, a_value, an_item, members, a_choice, a_predicate, an_aspect, a_test, condition, a_direction, a_key, made, named_field, called, call_value, empty_item, value_item, list_of_items, list_of_call, one_item, several_items, after, before, on_day, during, by_author, predicate_aspect, from_choice, to_choice, equals, not_equals, among, not_among, is_empty, is_not_empty, was, was_not, was_among, was_not_among, changed, compares, field_test, ascending, descending, sort_key}
+use Rattle.jql_syntax.specs.Form.{Class, function_name, bare_word, any_text, IsOf, of_sign, of_word, of_quoted, of_date_word, of_date_quoted, of_name, of_bare_word, of_bare_name, of_any_word, of_any_name, of_any_quoted, of_number, Form, one, nothing, both, either, rule}
+use Rattle.jql_syntax.specs.Grammar.{key, field, argument, call_of, call, value, date, item, author, call_as_list, list, some, listed as listed_form, on_dates, predicate, aspect, compared, comparison, is_test, past_among, past_item, was_test, changed_test, test, leaf, direction, sorting}
+use Rattle.jql_syntax.specs.Reads.{Is, is_one, is_nothing, is_both, is_first, is_second, is_rule}
+use Rattle.jql_syntax.specs.declared.token.Mark.TheVariants.{Equals, NotEquals, Open, Close, Comma, Not, Empty, In, Is as IsMark, Was, Changed, By, After, Before, On, During, From, To}
 use Rattle.jql_syntax.specs.declared.token.Token.{Token}
-use Rattle.jql_syntax.specs.declared.token.Token.TheVariants.{Marked, Word, Name, Quoted, Custom}
+use Rattle.jql_syntax.specs.declared.token.Token.TheVariants.{Marked, Name, Quoted}
 use Rattle.jql_syntax.specs.declared.query.Field.{Field}
 use Rattle.jql_syntax.specs.declared.query.Field.TheVariants.{Named, Custom as CustomField}
 use Rattle.jql_syntax.specs.declared.query.Call.{Call}
-use Rattle.jql_syntax.specs.declared.query.Value.{Value}
 use Rattle.jql_syntax.specs.declared.query.Value.TheVariants.{Text, Call as CallValue}
 use Rattle.jql_syntax.specs.declared.query.Item.{Item}
 use Rattle.jql_syntax.specs.declared.query.Item.TheVariants.{Value as ValueItem, Empty as EmptyItem}
 use Rattle.jql_syntax.specs.declared.query.Members.{Members}
 use Rattle.jql_syntax.specs.declared.query.Members.TheVariants.{Items, Call as CallMembers}
-use Rattle.jql_syntax.specs.declared.query.Choice.{Choice}
 use Rattle.jql_syntax.specs.declared.query.Choice.TheVariants.{One, Several}
 use Rattle.jql_syntax.specs.declared.query.Predicate.{Predicate}
 use Rattle.jql_syntax.specs.declared.query.Predicate.TheVariants.{After as IsAfter, Before as IsBefore, On as IsOn, During as IsDuring, By as IsBy}
-use Rattle.jql_syntax.specs.declared.query.Aspect.{Aspect}
 use Rattle.jql_syntax.specs.declared.query.Aspect.TheVariants.{Predicate as PredicateAspect, From as IsFrom, To as IsTo}
 use Rattle.jql_syntax.specs.declared.query.Comparison.{Comparison}
 use Rattle.jql_syntax.specs.declared.query.Comparison.TheVariants.{Greater as IsGreater, GreaterOrEqual as IsGreaterOrEqual, Less as IsLess, LessOrEqual as IsLessOrEqual, Contains as DoesContain, Lacks as DoesLack}
@@ -39,14 +32,13 @@ use Rattle.jql_syntax.specs.declared.query.Test.TheVariants.{Equals as IsEqual, 
 use Rattle.jql_syntax.specs.declared.query.Leaf.{Leaf}
 use Rattle.jql_syntax.specs.declared.query.Direction.{Direction}
 use Rattle.jql_syntax.specs.declared.query.Direction.TheVariants.{Ascending as IsAscending, Descending as IsDescending}
-use Rattle.jql_syntax.specs.declared.query.SortKey.{SortKey}
 use Rattle.jql_syntax.specs.Reader.{argument_parts}
-use Rattle.jql_syntax.proofs.Apart.{differ, true_or_false, and_cases, and_both}
+use Rattle.jql_syntax.proofs.Apart.{differ, true_or_false, and_cases}
 use Rattle.jql_syntax.proofs.Reading.{items_back, predicates_back, aspects_back}
-use Rattle.jql_print.specs.Print.{is_bare, name_token, field_text, argument_text, call_text, value_text, item_text, each, keyed, separated, listed, members_text, choice_text, predicate_text, aspect_text, comparison_mark, test_text, leaf_text, direction_mark, key_text}
+use Rattle.jql_print.specs.Print.{is_bare, name_token, field_text, argument_text, call_text, value_text, item_text, each, keyed, listed, members_text, choice_text, predicate_text, aspect_text, comparison_mark, test_text, leaf_text, direction_mark, key_text}
 use Rattle.jql_print.proofs.Words.{scalars_from, words_from, bytes_from}
-use Rattle.jql_print.proofs.Spells.{IsName, OpensNext, Spells, IsGood, AreGood}
-use Rattle.jql_print.proofs.Round.{Again, again_key, again_nothing, again_both, again_first, again_second, again_rule, again_none, again_more, again_as, good_after, both_parts, rule_parts, key_parts, Back, BackMany, Returns, keyed_back, many_back, separated_back}
+use Rattle.jql_print.proofs.Spells.{IsName, OpensNext, Spells, AreGood}
+use Rattle.jql_print.proofs.Round.{Again, again_key, again_nothing, again_both, again_first, again_second, again_rule, again_as, good_after, both_parts, rule_parts, key_parts, Back, BackMany, Returns, keyed_back, many_back, separated_back}
 
 -- ---- texts
 

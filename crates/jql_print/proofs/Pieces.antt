@@ -1,24 +1,23 @@
 -- Each token is read as it is spelled.
-use Rattle.std.proofs.Common.{◌≡◌, ℕ, suc, ◌+◌, ◌-◌, ◌*◌, ◌%◌, ◌/◌, ◌^◌, ◌≤◌, ◌<◌, ◌==◌, Bool, true, false, not, ◌&&◌, ◌||◌, if◌then◌else◌, List, [], ◌∷◌, ◌++◌, length, fold, Option, Some, None, Result, Ok, Err, refl, ap, sym, ◌∙◌, inl, inr, arith, append_assoc, length-append}
+use Rattle.std.proofs.Common.{◌≡◌, ℕ, ◌+◌, ◌%◌, ◌/◌, ◌^◌, ◌≤◌, ◌<◌, ◌==◌, true, false, ◌||◌, if◌then◌else◌, List, [], ◌∷◌, ◌++◌, length, fold, Some, None, Ok, refl, ap, sym, ◌∙◌, inl, inr, arith, append_assoc, length-append}
 use Rattle.std.proofs.lemmas.Bool.Decides.{nat_tests}
 use Rattle.std.proofs.lemmas.List.Sums.{fold_push}
 use Rattle.std.proofs.lemmas.List.Folds.{list_all-append}
 use Rattle.std.proofs.lemmas.Fmt.{decimal_by_steps}
-use Rattle.std.proofs.lemmas.Str.{encodes-chars, scalars-chars, chars-encodes}
+use Rattle.std.proofs.lemmas.Str.{encodes-chars, chars-encodes}
 use Rattle.std.specs.Prelude.{encode_utf8_all, decimal, chars, codes}
 use Rattle.std.specs.Char.{is_ascii_digit, is_ascii_alphanumeric}
 use Rattle.std.specs.List.{list_all}
-use Rattle.std.specs.Str.{IsUtf8, all_scalars}
-use Rattle.relative_dates.specs.Reading.{number_of}
-use Rattle.jql_syntax.specs.Tokens.{is_white, is_quote, is_escaped, is_word_char, front, past, after_char, sign_at, numbered, bracketed, begins_with, field_number_at, keyword_of, later_keyword_of, predicate_keyword_of, word_or, piece_at, opens_next, Quote, closed, onto, quote_at, unescaped, quoted}
+use Rattle.std.specs.Str.{IsUtf8}
+use Rattle.jql_syntax.specs.Tokens.{is_white, is_escaped, is_word_char, sign_at, numbered, bracketed, begins_with, field_number_at, keyword_of, later_keyword_of, predicate_keyword_of, word_or, piece_at, opens_next, closed, onto, quote_at, unescaped, quoted}
 use Rattle.jql_syntax.specs.declared.token.Mark.{Mark}
 use Rattle.jql_syntax.specs.declared.token.Mark.TheVariants.{Equals, NotEquals, Greater, GreaterOrEqual, Less, LessOrEqual, Contains, Lacks, Open, Close, Comma, And, Or, Not, Empty, In, Is, Was, Changed, Order, By, Ascending, Descending, After, Before, On, During, From, To}
 use Rattle.jql_syntax.specs.declared.token.Token.{Token}
-use Rattle.jql_syntax.specs.declared.token.Token.TheVariants.{Marked, Word, Name, Quoted, Custom, Bad}
+use Rattle.jql_syntax.specs.declared.token.Token.TheVariants.{Marked, Word, Name, Quoted, Custom}
 use Rattle.jql_syntax.proofs.Apart.{differ, true_or_false, and_cases, and_both}
 use Rattle.jql_syntax.proofs.Scanning.{after_step, quote_step, number_is_fold, with_digit}
 use Rattle.jql_print.specs.Spelling.{mark_spelling, escaped, spelling, is_tight}
-use Rattle.jql_print.proofs.Spells.{IsName, OpensNext}
+use Rattle.jql_print.proofs.Spells.{IsName}
 use Rattle.jql_print.proofs.Words.{Ends, at_end, at_space, at_open, at_close, at_comma, front_all, past_all, word_piece, word_not_white, words_from, bytes_from}
 
 -- the token is read from its spelling, and what is behind is left

@@ -1,12 +1,11 @@
 -- The spelling of a query is that query.
-use Rattle.std.proofs.Common.{◌≡◌, ℕ, ◌≤◌, List, [], ◌∷◌, ◌++◌, length, map, Option, Some, None, Result, Ok, Err, refl, ap, sym, ◌∙◌, subst, IfOk}
+use Rattle.std.proofs.Common.{◌≡◌, ℕ, ◌≤◌, List, [], ◌∷◌, length, Option, Result, Ok, Err, refl, sym, ◌∙◌, subst, IfOk}
 use Rattle.std.specs.Str.{IsUtf8}
 use Rattle.jql_syntax.specs.Tree.{Tree}
-use Rattle.jql_syntax.specs.Node.{Node, condition, a_key, a_query, made, whole}
-use Rattle.jql_syntax.specs.Form.{Form, nothing, both, either, many, rule}
-use Rattle.jql_syntax.specs.Grammar.{limit, key, expression, sorting, order, query}
+use Rattle.jql_syntax.specs.Node.{Node, a_key, a_query, whole}
+use Rattle.jql_syntax.specs.Form.{nothing, either}
+use Rattle.jql_syntax.specs.Grammar.{order, query}
 use Rattle.jql_syntax.specs.Reads.{Is, is_nothing, is_both, is_first, is_second, is_rule, Reads}
-use Rattle.jql_syntax.specs.Reader.{condition_parts}
 use Rattle.jql_syntax.specs.Tokens.{tokens, words}
 use Rattle.jql_syntax.specs.Fault.{IsQuery, IsWritten, most_bytes}
 use Rattle.jql_syntax.specs.declared.token.Mark.TheVariants.{Order, By, Comma}
@@ -18,7 +17,7 @@ use Rattle.jql_print.specs.Spelling.{query_text}
 use Rattle.jql_print.proofs.Spells.{Spells, AreGood}
 use Rattle.jql_print.proofs.Round.{Again, again_key, again_nothing, again_both, again_first, again_second, again_rule, good_after, both_parts, rule_parts, key_parts, BackMany, keyed_back, many_back}
 use Rattle.jql_print.proofs.Parts.{sorting_back}
-use Rattle.jql_print.proofs.Trees.{condition_back, BackCondition}
+use Rattle.jql_print.proofs.Trees.{condition_back}
 use Rattle.jql_print.proofs.Good.{tokens_good}
 use Rattle.jql_print.proofs.Lexes.{tokens_back}
 

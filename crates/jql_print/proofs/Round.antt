@@ -1,11 +1,11 @@
 -- Forms of which each text has a spelling that reads again.
-use Rattle.std.proofs.Common.{◌≡◌, ℕ, List, [], ◌∷◌, ◌++◌, map, refl, ap, sym, ◌∙◌, subst}
+use Rattle.std.proofs.Common.{◌≡◌, List, [], ◌∷◌, ◌++◌, map, refl, ap, ◌∙◌, subst}
 use Rattle.jql_syntax.specs.Node.{Node, Label, made}
-use Rattle.jql_syntax.specs.Form.{IsOf, of_sign, Form, one, nothing, both, either, many, rule}
-use Rattle.jql_syntax.specs.Grammar.{key, separated as separated_form, listed as listed_form}
+use Rattle.jql_syntax.specs.Form.{of_sign, Form, nothing, both, either, many, rule}
+use Rattle.jql_syntax.specs.Grammar.{key, separated as separated_form}
 use Rattle.jql_syntax.specs.Reads.{Is, is_one, is_nothing, is_both, is_first, is_second, is_none, is_more, is_rule, is_unit}
 use Rattle.jql_syntax.specs.declared.token.Mark.{Mark}
-use Rattle.jql_syntax.specs.declared.token.Mark.TheVariants.{Comma, Open, Close}
+use Rattle.jql_syntax.specs.declared.token.Mark.TheVariants.{Comma}
 use Rattle.jql_syntax.specs.declared.token.Token.{Token}
 use Rattle.jql_syntax.specs.declared.token.Token.TheVariants.{Marked}
 use Rattle.jql_print.specs.Print.{each, keyed, separated}

@@ -1,19 +1,18 @@
 -- Conditions and queries read again as they are spelled.
-use Rattle.std.proofs.Common.{◌≡◌, ℕ, zero, suc, List, [], ◌∷◌, ◌++◌, map, Option, Some, None, refl, ap, sym, ◌∙◌, append-nil}
+use Rattle.std.proofs.Common.{◌≡◌, ℕ, zero, suc, List, [], ◌∷◌, Option, Some, None, refl, ap, sym, ◌∙◌}
 use Rattle.jql_syntax.specs.Tree.{Tree, single, negation, all_of, any_of, Trees, no_trees, tree}
-use Rattle.jql_syntax.specs.Node.{Node, condition, conditions_of, one_or, made, negated, all, any, whole, a_query, a_key, keys_of}
-use Rattle.jql_syntax.specs.Form.{of_sign, Form, nothing, both, either, many, rule, unit}
-use Rattle.jql_syntax.specs.Grammar.{key, leaf, unit_form, conjunction, expression, order, query}
-use Rattle.jql_syntax.specs.Reads.{Is, is_one, is_nothing, is_both, is_first, is_second, is_none, is_more, is_rule, is_unit}
-use Rattle.jql_syntax.specs.declared.token.Mark.TheVariants.{Open, Close, And, Or, Not, Order, By, Comma}
+use Rattle.jql_syntax.specs.Node.{Node, condition, conditions_of, one_or, made, negated, all, any}
+use Rattle.jql_syntax.specs.Form.{nothing, both, either, many, unit}
+use Rattle.jql_syntax.specs.Grammar.{key, leaf, unit_form, conjunction, expression}
+use Rattle.jql_syntax.specs.Reads.{Is, is_nothing, is_both, is_first, is_second, is_none, is_more, is_rule, is_unit}
+use Rattle.jql_syntax.specs.declared.token.Mark.TheVariants.{Open, Close, And, Or, Not}
 use Rattle.jql_syntax.specs.declared.token.Token.{Token}
 use Rattle.jql_syntax.specs.declared.token.Token.TheVariants.{Marked}
-use Rattle.jql_syntax.specs.declared.query.SortKey.{SortKey}
 use Rattle.jql_syntax.specs.Reader.{condition_parts}
-use Rattle.jql_print.specs.Print.{unit_text, conjunction_text, units_text, more_units_text, conjunctions_text, more_conjunctions_text, expression_text, condition_text, leaf_text, key_text, separated, order_text}
-use Rattle.jql_print.proofs.Spells.{Spells, AreGood}
-use Rattle.jql_print.proofs.Round.{Again, again_key, again_nothing, again_both, again_first, again_second, again_rule, again_none, again_more, again_as, good_after, both_parts, rule_parts, key_parts, BackMany, separated_back}
-use Rattle.jql_print.proofs.Parts.{leaf_back, sorting_back}
+use Rattle.jql_print.specs.Print.{unit_text, conjunction_text, units_text, more_units_text, conjunctions_text, more_conjunctions_text, expression_text, condition_text, leaf_text}
+use Rattle.jql_print.proofs.Spells.{AreGood}
+use Rattle.jql_print.proofs.Round.{Again, again_key, again_nothing, again_both, again_first, again_second, again_rule, again_none, again_more, good_after, both_parts, rule_parts, key_parts}
+use Rattle.jql_print.proofs.Parts.{leaf_back}
 
 -- ---- conditions whose spelling may stand at a place
 

@@ -1,5 +1,5 @@
 -- Words at the front of characters.
-use Rattle.std.proofs.Common.{◌≡◌, ℕ, ◌==◌, Bool, true, false, not, ◌&&◌, ◌||◌, if◌then◌else◌, List, [], ◌∷◌, ◌++◌, Option, Some, None, ◌<◌, refl, ap, sym, ◌∙◌, inl, inr, arith}
+use Rattle.std.proofs.Common.{◌≡◌, ℕ, ◌==◌, Bool, true, false, not, ◌||◌, List, [], ◌∷◌, ◌++◌, None, ◌<◌, refl, ap, sym, ◌∙◌, inl, inr, arith}
 use Rattle.std.proofs.lemmas.Bool.Decides.{nat_tests}
 use Rattle.std.specs.Prelude.{encode_utf8_all}
 use Rattle.std.specs.List.{list_all}
@@ -7,10 +7,7 @@ use Rattle.std.specs.Char.{is_ascii_alphabetic, is_ascii_alphanumeric}
 use Rattle.std.specs.Str.{all_scalars}
 use Rattle.std.proofs.lemmas.Str.{encode_ascii}
 use Rattle.std.specs.Prelude.{option_and_then}
-use Rattle.jql_syntax.specs.Tokens.{is_white, is_quote, is_sign, is_banned, is_word_char, front, past, after_char, sign_at, bracketed, field_number_at, keyword_of, word_or, word_at, run_of, number_or_word, signed_or, piece_at, opens_next}
-use Rattle.jql_syntax.specs.declared.token.Token.{Token}
-use Rattle.jql_syntax.specs.declared.token.Token.TheVariants.{Marked, Word, Name}
-use Rattle.jql_syntax.specs.declared.token.Mark.{Mark}
+use Rattle.jql_syntax.specs.Tokens.{is_white, is_quote, is_sign, is_banned, is_word_char, front, past, after_char, sign_at, bracketed, field_number_at, keyword_of, word_or, piece_at}
 use Rattle.jql_syntax.proofs.Apart.{differ, true_or_false, not_left, not_right, and_cases, and_both}
 
 -- what may stand behind a token, and ends it

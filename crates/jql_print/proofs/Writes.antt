@@ -1,5 +1,5 @@
 -- What was written, step by step.
-use Rattle.std.proofs.Common.{◌≡◌, ℕ, zero, suc, ◌≤◌, ◌||◌, Bool, true, false, if◌then◌else◌, List, [], ◌∷◌, ◌++◌, length, drop, Result, Ok, Err, refl, ap, sym, ◌∙◌, OnOk, append_assoc, append-nil, arith, ◌<◌, ◌^◌, ◌==◌, inl, inr}
+use Rattle.std.proofs.Common.{◌≡◌, ℕ, zero, suc, ◌||◌, Bool, true, false, if◌then◌else◌, List, [], ◌∷◌, ◌++◌, Result, Ok, Err, refl, ap, sym, ◌∙◌, OnOk, append_assoc, append-nil, arith, ◌<◌, ◌^◌, ◌==◌, inl, inr}
 use Rattle.std.specs.Prelude.{encode_utf8_all, decimal, chars, nat_lt}
 use Rattle.std.specs.List.{list_all}
 use Rattle.std.specs.Str.{IsUtf8}
@@ -14,10 +14,9 @@ use Rattle.std.proofs.lemmas.Str.{encodes-append, encode_ascii, encodes-chars}
 use Rattle.jql_syntax.specs.Tree.{Trees}
 use Rattle.jql_syntax.specs.declared.token.Token.{Token}
 use Rattle.jql_print.specs.Print.{units_text, more_units_text, conjunctions_text, more_conjunctions_text}
-use Rattle.jql_print.specs.Spelling.{mark_spelling, escaped, spelling, spellings, is_tight, closes, gap, Writes}
+use Rattle.jql_print.specs.Spelling.{mark_spelling, escaped, spelling, spellings, is_tight, closes, gap}
 use Rattle.jql_syntax.proofs.Apart.{true_or_false, and_cases, and_both}
 use Rattle.jql_print.proofs.Pieces.{decimal_digits}
-use Rattle.jql_print.specs.declared.line.Line.{Line}
 
 gap_bytes : (b : Bool) → encode_utf8_all (if b then [] else 32 ∷ []) ≡ (if b then [] else 32 ∷ [])
 gap_bytes true = refl

@@ -1,11 +1,12 @@
 -- No reply has a float in it.
-use Rattle.std.proofs.Common.{◌≡◌, ℕ, List, [], ◌∷◌, Some, None, Bool, true, false, refl, ◌||◌, Ordering, Less, Equal, Greater, map}
+use Rattle.std.proofs.Common.{◌≡◌, Option, ℕ, List, [], ◌∷◌, Some, None, Bool, true, false, refl, ◌||◌, Ordering, Less, Equal, Greater, map}
 use Rattle.std.specs.Ordering.{nat_cmp, match_ordering}
 use Rattle.std.specs.Cmp.Lexicographic.{slice_cmp}
 use Rattle.serde_json.specs.Data.{Data, string, Members, no_members, member, put}
 use Rattle.serde_json.specs.View.{items_of}
 use Rattle.serde_json.specs.Written.{has_float, items_have_float, members_have_float}
-use Rattle.tracker_calls.specs.Reply.{reply_data, shown_data, with_fields}
+use Rattle.tracker_calls.specs.Reply.{reply_data, shown_data, shown_or_null, with_fields, entry_data}
+use Rattle.tracker_calls.specs.declared.reply.ToldEntry.{ToldEntry}
 use Rattle.tracker_calls.specs.declared.reply.Shown.{Shown}
 use Rattle.tracker_calls.specs.declared.reply.Shown.TheVariants as shown
 use Rattle.tracker_calls.specs.declared.reply.ShownField.{ShownField}
@@ -51,15 +52,35 @@ fields_without : (ms : Members) (fs : List ShownField) → members_have_float ms
 fields_without ms [] none = none
 fields_without ms (f ∷ fs) none = fields_without (put f.name (shown_data f.value) ms) fs (put_without f.name (shown_data f.value) ms (shown_without f.value) none)
 
+maybe_without : (o : Option Shown) → has_float (shown_or_null o) ≡ false
+maybe_without None = refl
+maybe_without (Some s) = shown_without s
+
+entry_without : (e : ToldEntry) → has_float (entry_data e) ≡ false
+entry_without e =
+    either (has_float (shown_or_null e.from)) (has_float (shown_or_null e.to) || false) (maybe_without e.from) (either (has_float (shown_or_null e.to)) false (maybe_without e.to) refl)
+
+entries_without : (es : List ToldEntry) → items_have_float (items_of (map entry_data es)) ≡ false
+entries_without [] = refl
+entries_without (e ∷ es) = either (has_float (entry_data e)) (items_have_float (items_of (map entry_data es))) (entry_without e) (entries_without es)
+
 pub reply_has_no_float : (r : Reply) → has_float (reply_data r) ≡ false
 reply_has_no_float (reply.Ok (answer.Create already change issue)) = refl
 reply_has_no_float (reply.Ok (answer.Edit None issue)) = refl
 reply_has_no_float (reply.Ok (answer.Edit (Some change) issue)) = refl
+reply_has_no_float (reply.Ok (answer.Transition None issue)) = refl
+reply_has_no_float (reply.Ok (answer.Transition (Some change) issue)) = refl
 reply_has_no_float (reply.Ok (answer.Tick moment)) = refl
 reply_has_no_float (reply.Ok (answer.Show created fields issue updated)) =
     either (members_have_float (with_fields no_members fields) || false) false (either (members_have_float (with_fields no_members fields)) false (fields_without no_members fields refl) refl) refl
+reply_has_no_float (reply.Ok (answer.History entries total)) =
+    either (items_have_float (items_of (map entry_data entries)) || false) false (either (items_have_float (items_of (map entry_data entries))) false (entries_without entries) refl) refl
 reply_has_no_float (reply.Refused (refusal.Form name)) = refl
 reply_has_no_float (reply.Refused (refusal.Unknown kind name)) = refl
+reply_has_no_float (reply.Refused (refusal.Forbidden p None)) = refl
+reply_has_no_float (reply.Refused (refusal.Forbidden p (Some project))) = refl
+reply_has_no_float (reply.Refused (refusal.Condition index)) = refl
+reply_has_no_float (reply.Refused (refusal.Validator index)) = refl
 reply_has_no_float (reply.Refused (refusal.Unfit field)) = refl
 reply_has_no_float (reply.Refused (refusal.Limit l)) = refl
 reply_has_no_float (reply.Refused (refusal.Earlier kept)) = refl

@@ -1,3 +1,4 @@
 pub mod Given
+pub mod Part
 pub mod Line
 pub mod Reply

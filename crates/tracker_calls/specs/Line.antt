@@ -6,7 +6,8 @@ use Rattle.serde_json.specs.Find.{get, as_str, as_number, as_u64, as_object}
 use Rattle.serde_json.specs.Read.{read}
 use Rattle.tracker_calls.specs.Given.{set_at, set_if_there}
 use Rattle.tracker_calls.specs.declared.call.Call.{Call}
-use Rattle.tracker_calls.specs.declared.call.Call.TheVariants.{Create, Edit, Tick, Show}
+use Rattle.tracker_calls.specs.declared.call.Call.TheVariants.{Create, Edit, Transition, Tick, Show, History}
+use Rattle.tracker_calls.specs.Part.{from_if_there, count_if_there}
 use Rattle.tracker_calls.specs.declared.call.CallKind.{CallKind}
 use Rattle.tracker_calls.specs.declared.call.CallKind.TheVariants as kind
 use Rattle.tracker_calls.specs.declared.reply.Refusal.{Refusal}
@@ -56,14 +57,18 @@ abbrev pub kind_named : List ℕ → Option CallKind
 kind_named name =
     if bytes_eq name (codes "create") then Some kind.Create else
     (if bytes_eq name (codes "edit") then Some kind.Edit else
+    (if bytes_eq name (codes "transition") then Some kind.Transition else
     (if bytes_eq name (codes "tick") then Some kind.Tick else
-    (if bytes_eq name (codes "show") then Some kind.Show else None)))
+    (if bytes_eq name (codes "show") then Some kind.Show else
+    (if bytes_eq name (codes "history") then Some kind.History else None)))))
 
 abbrev pub is_member : CallKind → List ℕ → Bool
 is_member kind.Create name = is_among name (codes "call" ∷ codes "project" ∷ codes "set" ∷ codes "summary" ∷ codes "type" ∷ codes "user" ∷ [])
 is_member kind.Edit name = is_among name (codes "call" ∷ codes "issue" ∷ codes "set" ∷ codes "user" ∷ [])
+is_member kind.Transition name = is_among name (codes "call" ∷ codes "issue" ∷ codes "set" ∷ codes "transition" ∷ codes "user" ∷ [])
 is_member kind.Tick name = is_among name (codes "call" ∷ codes "to" ∷ codes "user" ∷ [])
 is_member kind.Show name = is_among name (codes "call" ∷ codes "issue" ∷ codes "user" ∷ [])
+is_member kind.History name = is_among name (codes "call" ∷ codes "count" ∷ codes "from" ∷ codes "issue" ∷ codes "user" ∷ [])
 
 -- the first name in byte order that is no member of the call
 abbrev pub first_other : CallKind → List (List ℕ) → Option (List ℕ)
@@ -87,6 +92,13 @@ edit_of d members user =
     need (set_at d) (codes "set") (λ set.
     no_other (first_other kind.Edit (names_of members)) (Ok (user, Edit issue set))))
 
+abbrev pub transition_of : Data → Members → List ℕ → Asked
+transition_of d members user =
+    need (text_at (codes "issue") d) (codes "issue") (λ issue.
+    need (text_at (codes "transition") d) (codes "transition") (λ transition.
+    need (set_if_there d) (codes "set") (λ set.
+    no_other (first_other kind.Transition (names_of members)) (Ok (user, Transition issue transition set)))))
+
 abbrev pub tick_of : Data → Members → List ℕ → Asked
 tick_of d members user =
     need (moment_at (codes "to") d) (codes "to") (λ to.
@@ -97,11 +109,20 @@ show_of d members user =
     need (text_at (codes "issue") d) (codes "issue") (λ issue.
     no_other (first_other kind.Show (names_of members)) (Ok (user, Show issue)))
 
+abbrev pub history_of : Data → Members → List ℕ → Asked
+history_of d members user =
+    need (text_at (codes "issue") d) (codes "issue") (λ issue.
+    need (from_if_there d) (codes "from") (λ from.
+    need (count_if_there 50 d) (codes "count") (λ count.
+    no_other (first_other kind.History (names_of members)) (Ok (user, History issue (record { from = from; count = count }))))))
+
 abbrev pub asked_by : CallKind → Data → Members → List ℕ → Asked
 asked_by kind.Create d members user = create_of d members user
 asked_by kind.Edit d members user = edit_of d members user
+asked_by kind.Transition d members user = transition_of d members user
 asked_by kind.Tick d members user = tick_of d members user
 asked_by kind.Show d members user = show_of d members user
+asked_by kind.History d members user = history_of d members user
 
 -- the user and the call, or the first fault in the order of the members
 abbrev pub call_of : Data → Asked

@@ -10,6 +10,9 @@ use Rattle.tracker_calls.specs.declared.reply.Answer.TheVariants as answer
 use Rattle.tracker_calls.specs.declared.reply.Shown.{Shown}
 use Rattle.tracker_calls.specs.declared.reply.Shown.TheVariants as shown
 use Rattle.tracker_calls.specs.declared.reply.ShownField.{ShownField}
+use Rattle.tracker_calls.specs.declared.reply.ToldEntry.{ToldEntry}
+use Rattle.field_values.specs.declared.rules.Permission.{Permission}
+use Rattle.field_values.specs.declared.rules.Permission.TheVariants as permission
 use Rattle.tracker_calls.specs.declared.reply.Refusal.{Refusal}
 use Rattle.tracker_calls.specs.declared.reply.Refusal.TheVariants as refusal
 use Rattle.tracker_calls.specs.declared.reply.Thing.{Thing}
@@ -21,16 +24,29 @@ abbrev pub thing_name : Thing → List ℕ
 thing_name thing.User = codes "user"
 thing_name thing.Project = codes "project"
 thing_name thing.Issue = codes "issue"
+thing_name thing.Transition = codes "transition"
+thing_name thing.Sprint = codes "sprint"
 thing_name thing.Field = codes "field"
 
 abbrev pub limit_name : Limit → List ℕ
 limit_name limit.Issues = codes "issues"
 limit_name limit.Entries = codes "entries"
+limit_name limit.TextBytes = codes "text_bytes"
 
 -- how many are kept at most
 abbrev pub limit_number : Limit → ℕ
 limit_number limit.Issues = 50_000
 limit_number limit.Entries = 2_000_000
+limit_number limit.TextBytes = 500_000_000
+
+abbrev pub permission_name : Permission → List ℕ
+permission_name permission.Browse = codes "browse"
+permission_name permission.Create = codes "create"
+permission_name permission.Edit = codes "edit"
+permission_name permission.Transition = codes "transition"
+permission_name permission.Rank = codes "rank"
+permission_name permission.Plan = codes "plan"
+permission_name permission.Administer = codes "administer"
 
 abbrev pub natural : ℕ → Data
 natural n = number (unsigned n)
@@ -39,6 +55,10 @@ abbrev pub natural_or_null : Option ℕ → Data
 natural_or_null None = null
 natural_or_null (Some n) = natural n
 
+abbrev pub text_or_null : Option (List ℕ) → Data
+text_or_null None = null
+text_or_null (Some text) = string text
+
 abbrev pub texts_data : List (List ℕ) → Data
 texts_data texts = array (items_of (map string texts))
 
@@ -46,6 +66,11 @@ abbrev pub shown_data : Shown → Data
 shown_data (shown.Text text) = string text
 shown_data (shown.List texts) = texts_data texts
 shown_data (shown.Number n) = natural n
+
+-- a value, which may be empty
+abbrev pub shown_or_null : Option Shown → Data
+shown_or_null None = null
+shown_or_null (Some s) = shown_data s
 
 -- each field is a member of its name, among these
 abbrev pub with_fields : Members → List ShownField → Members
@@ -70,11 +95,26 @@ show_data created fields issue updated = object
     (member (codes "issue") (string issue)
     (member (codes "updated") (natural updated) no_members))))
 
+abbrev pub entry_data : ToldEntry → Data
+entry_data e = object
+    (member (codes "at") (natural e.at)
+    (member (codes "by") (string e.by)
+    (member (codes "change") (natural e.change)
+    (member (codes "field") (string e.field)
+    (member (codes "from") (shown_or_null e.from)
+    (member (codes "to") (shown_or_null e.to) no_members))))))
+
+abbrev pub history_data : List ToldEntry → ℕ → Data
+history_data entries total = object
+    (member (codes "entries") (array (items_of (map entry_data entries))) (member (codes "total") (natural total) no_members))
+
 abbrev pub answer_data : Answer → Data
 answer_data (answer.Create already change issue) = create_data already change issue
 answer_data (answer.Edit change issue) = edit_data change issue
+answer_data (answer.Transition change issue) = edit_data change issue
 answer_data (answer.Tick moment) = tick_data moment
 answer_data (answer.Show created fields issue updated) = show_data created fields issue updated
+answer_data (answer.History entries total) = history_data entries total
 
 -- the members under `refused`
 abbrev pub form_data : List ℕ → Data
@@ -82,6 +122,14 @@ form_data name = object (member (codes "member") (string name) (member (codes "n
 
 abbrev pub unknown_data : Thing → List ℕ → Data
 unknown_data kind name = object (member (codes "kind") (string (thing_name kind)) (member (codes "name") (string name) (member (codes "no") (natural 2) no_members)))
+
+abbrev pub forbidden_data : Permission → Option (List ℕ) → Data
+forbidden_data p project = object
+    (member (codes "no") (natural 3) (member (codes "permission") (string (permission_name p)) (member (codes "project") (text_or_null project) no_members)))
+
+-- refusals that tell a check by its number
+abbrev pub index_data : ℕ → ℕ → Data
+index_data refusal_number index = object (member (codes "index") (natural index) (member (codes "no") (natural refusal_number) no_members))
 
 abbrev pub unfit_data : List ℕ → Data
 unfit_data field = object (member (codes "field") (string field) (member (codes "no") (natural 6) no_members))
@@ -98,6 +146,9 @@ number_data n = object (member (codes "no") (natural n) no_members)
 abbrev pub refusal_data : Refusal → Data
 refusal_data (refusal.Form name) = form_data name
 refusal_data (refusal.Unknown kind name) = unknown_data kind name
+refusal_data (refusal.Forbidden p project) = forbidden_data p project
+refusal_data (refusal.Condition index) = index_data 4 index
+refusal_data (refusal.Validator index) = index_data 5 index
 refusal_data (refusal.Unfit field) = unfit_data field
 refusal_data (refusal.Limit l) = limit_data l
 refusal_data (refusal.Earlier kept) = earlier_data kept

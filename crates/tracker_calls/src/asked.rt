@@ -1,11 +1,11 @@
 // Each call with its members, in the order in which a fault is told.
 ghost use Rattle.std.specs.Prelude.{◌≡◌};
 ghost use Rattle.serde_json.specs.View.{view, members_view};
-ghost use Rattle.tracker_calls.specs.Line.{create_of, edit_of, tick_of, show_of, UnlessMemory};
+ghost use Rattle.tracker_calls.specs.Line.{create_of, edit_of, transition_of, tick_of, show_of, history_of, UnlessMemory};
 
-use crate::call::{Call, CallKind};
+use crate::call::{Call, CallKind, MOST_ENTRIES, Part};
 use crate::given::{set_at, set_if_there};
-use crate::members::{first_other, misses, moment_at, text_at};
+use crate::members::{count_if_there, first_other, from_if_there, misses, moment_at, text_at};
 use crate::reply::Refusal;
 use crate::user_name::UserName;
 use field_values::Text;
@@ -88,6 +88,47 @@ pub fn edit_of(
     Ok((user, Call::Edit { issue, set }))
 }
 
+pub fn transition_of(
+    alloc: Global,
+    value: &Value,
+    members: &Map<String, Value>,
+    user: &str,
+) -> Result<(UserName, Call), Refusal>
+    ensures { UnlessMemory result (transition_of (view value.now) (members_view members.now.entries) user.now) }
+{
+    let Some(issue) = text_at(value, "issue") else {
+        return misses(alloc, "issue");
+    };
+    let Some(transition) = text_at(value, "transition") else {
+        return misses(alloc, "transition");
+    };
+    let set = match set_if_there(alloc, value) {
+        Ok(Some(set)) => set,
+        Ok(None) => return misses(alloc, "set"),
+        Err(_) => return Err(Refusal::Memory),
+    };
+    if let Some(other) = first_other(CallKind::Transition, members) {
+        return misses(alloc, other);
+    }
+    let Ok(user) = UserName::copy_of(alloc, user) else {
+        return Err(Refusal::Memory);
+    };
+    let Ok(issue) = Text::copy_of(alloc, issue) else {
+        return Err(Refusal::Memory);
+    };
+    let Ok(transition) = Text::copy_of(alloc, transition) else {
+        return Err(Refusal::Memory);
+    };
+    Ok((
+        user,
+        Call::Transition {
+            issue,
+            transition,
+            set,
+        },
+    ))
+}
+
 pub fn tick_of(
     alloc: Global,
     value: &Value,
@@ -129,4 +170,39 @@ pub fn show_of(
         return Err(Refusal::Memory);
     };
     Ok((user, Call::Show { issue }))
+}
+
+pub fn history_of(
+    alloc: Global,
+    value: &Value,
+    members: &Map<String, Value>,
+    user: &str,
+) -> Result<(UserName, Call), Refusal>
+    ensures { UnlessMemory result (history_of (view value.now) (members_view members.now.entries) user.now) }
+{
+    let Some(issue) = text_at(value, "issue") else {
+        return misses(alloc, "issue");
+    };
+    let Some(from) = from_if_there(value) else {
+        return misses(alloc, "from");
+    };
+    let Some(count) = count_if_there(value, MOST_ENTRIES) else {
+        return misses(alloc, "count");
+    };
+    if let Some(other) = first_other(CallKind::History, members) {
+        return misses(alloc, other);
+    }
+    let Ok(user) = UserName::copy_of(alloc, user) else {
+        return Err(Refusal::Memory);
+    };
+    let Ok(issue) = Text::copy_of(alloc, issue) else {
+        return Err(Refusal::Memory);
+    };
+    Ok((
+        user,
+        Call::History {
+            issue,
+            part: Part { from, count },
+        },
+    ))
 }

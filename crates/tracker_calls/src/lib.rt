@@ -5,6 +5,7 @@
 mod asked;
 mod call;
 mod given;
+mod history_json;
 mod line;
 mod members;
 mod reply;
@@ -12,10 +13,12 @@ mod reply_json;
 mod show_json;
 mod user_name;
 
-pub use call::{Call, CallKind};
+pub use call::{Call, CallKind, MOST_ENTRIES, MOST_FROM, Part};
 pub use given::{Given, GivenField, GivenFields, has_twins};
 pub use line::read_line;
-pub use reply::{Answer, Limit, Refusal, Reply, Shown, ShownField, ShownFields, Thing};
+pub use reply::{
+    Answer, Limit, Refusal, Reply, Shown, ShownField, ShownFields, Thing, ToldEntries, ToldEntry,
+};
 pub use reply_json::{KEEPER_TEXT, MEMORY_TEXT, reply_text};
 pub use request_lines::{
     Clock, Failed, ListClock, MemorySink, MemorySource, Sink, Source, write_all,

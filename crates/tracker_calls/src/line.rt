@@ -3,7 +3,7 @@ ghost use Rattle.std.specs.Prelude.{◌≡◌};
 ghost use Rattle.serde_json.specs.View.{view};
 ghost use Rattle.tracker_calls.specs.Line.{line_of, call_of, kind_named, UnlessMemory};
 
-use crate::asked::{create_of, edit_of, show_of, tick_of};
+use crate::asked::{create_of, edit_of, history_of, show_of, tick_of, transition_of};
 use crate::call::{Call, CallKind};
 use crate::members::{misses, text_at};
 use crate::reply::Refusal;
@@ -53,8 +53,10 @@ fn call_of(alloc: Global, value: &Value) -> Result<(UserName, Call), Refusal>
     match kind {
         CallKind::Create => create_of(alloc, value, members, user),
         CallKind::Edit => edit_of(alloc, value, members, user),
+        CallKind::Transition => transition_of(alloc, value, members, user),
         CallKind::Tick => tick_of(alloc, value, members, user),
         CallKind::Show => show_of(alloc, value, members, user),
+        CallKind::History => history_of(alloc, value, members, user),
     }
 }
 
@@ -64,8 +66,10 @@ fn kind_named(name: &str) -> Option<CallKind>
     match name {
         "create" => Some(CallKind::Create),
         "edit" => Some(CallKind::Edit),
+        "transition" => Some(CallKind::Transition),
         "tick" => Some(CallKind::Tick),
         "show" => Some(CallKind::Show),
+        "history" => Some(CallKind::History),
         _ => None,
     }
 }

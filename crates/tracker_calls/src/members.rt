@@ -2,8 +2,9 @@
 ghost use Rattle.std.specs.Prelude.{◌≡◌, option_map, Err};
 ghost use Rattle.serde_json.specs.View.{view, members_view};
 ghost use Rattle.tracker_calls.specs.Line.{text_at, moment_at, first_other, is_member, names_of, UnlessMemory};
+ghost use Rattle.tracker_calls.specs.Part.{whole_within, whole_or, from_if_there, count_if_there};
 
-use crate::call::CallKind;
+use crate::call::{CallKind, MOST_FROM};
 use crate::reply::Refusal;
 use field_values::{Moment, Text};
 use serde_json::{Map, Value};
@@ -34,6 +35,41 @@ pub fn moment_at(value: &Value, name: &str) -> Option<Moment>
         .and_then(Moment::new)
 }
 
+// A whole number between bounds.
+fn whole_within(value: &Value, least: u32, most: u32) -> Option<u32>
+    ensures { result ≡ whole_within least most (view value.now) }
+{
+    let number = value.as_u64()?;
+    if u64::from(least) <= number && number <= u64::from(most) {
+        return Some(number as u32);
+    }
+    None
+}
+
+// The same of a member that may be absent, and then is that number.
+fn whole_or(value: Option<&Value>, absent: u32, least: u32, most: u32) -> Option<u32>
+    ensures { result ≡ whole_or absent least most (option_map (λ v. view v.now) value.entry) }
+{
+    match value {
+        None => Some(absent),
+        Some(value) => whole_within(value, least, most),
+    }
+}
+
+/// Where a part begins, which is at 0 where the member `from` is absent; `None` where it is out of range.
+pub fn from_if_there(value: &Value) -> Option<u32>
+    ensures { result ≡ from_if_there (view value.now) }
+{
+    whole_or(value.get("from"), 0, 0, MOST_FROM)
+}
+
+/// How many a part has at most, which is `most` where the member `count` is absent; `None` where it is out of range.
+pub fn count_if_there(value: &Value, most: u32) -> Option<u32>
+    ensures { result ≡ count_if_there most (view value.now) }
+{
+    whole_or(value.get("count"), most, 1, most)
+}
+
 /// The first name in byte order that is no member of the call.
 #[tactic(auto, using(crate::proofs::LineLemmas::names_of_members))]
 pub fn first_other<'v>(kind: CallKind, members: &'v Map<String, Value>) -> Option<&'v str>
@@ -56,7 +92,11 @@ fn is_member(kind: CallKind, name: &str) -> bool
             "call" | "project" | "set" | "summary" | "type" | "user"
         ),
         CallKind::Edit => matches!(name, "call" | "issue" | "set" | "user"),
+        CallKind::Transition => {
+            matches!(name, "call" | "issue" | "set" | "transition" | "user")
+        }
         CallKind::Tick => matches!(name, "call" | "to" | "user"),
         CallKind::Show => matches!(name, "call" | "issue" | "user"),
+        CallKind::History => matches!(name, "call" | "count" | "from" | "issue" | "user"),
     }
 }

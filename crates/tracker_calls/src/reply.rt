@@ -1,6 +1,6 @@
 ghost use Rattle.std.specs.Prelude.{◌≡◌, ◌∷◌, ◌++◌, [], OnOk, OnErr};
 
-use field_values::{Memory, Moment, Names, Text};
+use field_values::{Memory, Moment, Names, Permission, Sequence, Text};
 use std::alloc::Global;
 use std::marker::Model;
 
@@ -27,6 +27,12 @@ pub enum Answer {
         issue: Text,
     },
 
+    /// The number of the change group, where the transition changed anything.
+    Transition {
+        change: Option<u64>,
+        issue: Text,
+    },
+
     /// The present moment, as it is now.
     Tick {
         moment: Moment,
@@ -39,7 +45,27 @@ pub enum Answer {
         issue: Text,
         updated: Moment,
     },
+
+    /// Some of the issue's entries, and how many it has.
+    History {
+        entries: ToldEntries,
+        total: u64,
+    },
 }
+
+/// An entry of a history; `None` for a value that is empty.
+#[derive(Debug, Drop)]
+pub struct ToldEntry {
+    pub at: Moment,
+    pub by: Text,
+    pub change: u64,
+    pub field: Text,
+    pub from: Option<Shown>,
+    pub to: Option<Shown>,
+}
+
+/// The entries that an answer tells.
+pub type ToldEntries = Sequence<ToldEntry>;
 
 /// A field that isn't empty, by its name.
 #[derive(Debug, Drop)]
@@ -109,6 +135,19 @@ pub enum Refusal {
     /// Number 2: there is no such thing.
     Unknown { kind: Thing, name: Text },
 
+    /// Number 3: the caller hasn't this permission, in the project of this key where it is one of a project.
+    Forbidden {
+        permission: Permission,
+        project: Option<Text>,
+    },
+
+    /// Number 4: this condition of the transition fails. 0 is that it leaves the issue's status, and the setup's count
+    /// from 1.
+    Condition { index: usize },
+
+    /// Number 5: this validator of the transition fails, counted from 1.
+    Validator { index: usize },
+
     /// Number 6: this field is the first, by its number, whose value doesn't fit.
     Unfit { field: Text },
 
@@ -128,6 +167,8 @@ pub enum Thing {
     User,
     Project,
     Issue,
+    Transition,
+    Sprint,
     Field,
 }
 
@@ -136,4 +177,6 @@ pub enum Thing {
 pub enum Limit {
     Issues,
     Entries,
+    /// The bytes of texts and labels, and some for each version.
+    TextBytes,
 }

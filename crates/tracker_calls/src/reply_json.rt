@@ -1,11 +1,12 @@
 // The text of a reply: compact JSON, the members of each object in byte order of their names.
 ghost use Rattle.std.specs.Prelude.{◌≡◌, codes, IfOk, option_map};
 ghost use Rattle.serde_json.specs.View.{view};
-ghost use Rattle.tracker_calls.specs.Reply.{reply_text, reply_data, answer_data, create_data, edit_data, tick_data, refusal_data, form_data, unknown_data, unfit_data, limit_data, earlier_data, number_data, natural_or_null, thing_name, limit_name, limit_number};
+ghost use Rattle.tracker_calls.specs.Reply.{reply_text, reply_data, answer_data, create_data, edit_data, tick_data, refusal_data, form_data, unknown_data, forbidden_data, index_data, permission_name, text_or_null, unfit_data, limit_data, earlier_data, number_data, natural_or_null, thing_name, limit_name, limit_number};
 
+use crate::history_json::history_value;
 use crate::reply::{Answer, Limit, Refusal, Reply, Thing};
 use crate::show_json::show_value;
-use field_values::{Memory, Moment, Text};
+use field_values::{Memory, Moment, Permission, Text};
 use serde_json::{Value, json};
 use std::alloc::Global;
 
@@ -50,6 +51,7 @@ fn answer_value(alloc: Global, answer: &Answer) -> Result<Value, Memory>
             issue,
         } => create_value(alloc, *already, *change, issue),
         Answer::Edit { change, issue } => edit_value(alloc, *change, issue),
+        Answer::Transition { change, issue } => edit_value(alloc, *change, issue),
         Answer::Tick { moment } => tick_value(alloc, *moment),
         Answer::Show {
             created,
@@ -57,6 +59,7 @@ fn answer_value(alloc: Global, answer: &Answer) -> Result<Value, Memory>
             issue,
             updated,
         } => show_value(alloc, *created, fields, issue, *updated),
+        Answer::History { entries, total } => history_value(alloc, entries.as_slice(), *total),
     }
 }
 
@@ -97,6 +100,12 @@ fn refusal_value(alloc: Global, refusal: &Refusal) -> Result<Value, Memory>
     match refusal {
         Refusal::Form { member } => form_value(alloc, member),
         Refusal::Unknown { kind, name } => unknown_value(alloc, *kind, name),
+        Refusal::Forbidden {
+            permission,
+            project,
+        } => forbidden_value(alloc, *permission, project),
+        Refusal::Condition { index } => index_value(alloc, 4, *index),
+        Refusal::Validator { index } => index_value(alloc, 5, *index),
         Refusal::Unfit { field } => unfit_value(alloc, field),
         Refusal::Limit { limit } => limit_value(alloc, *limit),
         Refusal::Earlier { kept } => earlier_value(alloc, *kept),
@@ -117,6 +126,48 @@ fn unknown_value(alloc: Global, kind: Thing, name: &Text) -> Result<Value, Memor
     let kind = kind.name();
     let name = name.as_str();
     Ok(json!(in alloc; {"kind": kind, "name": name, "no": 2})?)
+}
+
+fn forbidden_value(
+    alloc: Global,
+    permission: Permission,
+    project: &Option<Text>,
+) -> Result<Value, Memory>
+    ensures { IfOk result (λ value. view value ≡ forbidden_data permission project.now) }
+{
+    let permission = permission_name(permission);
+    let project = text_or_null(alloc, project)?;
+    Ok(json!(in alloc; {"no": 3, "permission": permission, "project": &project})?)
+}
+
+/// The word by which the setup and a refusal name a permission.
+pub fn permission_name(permission: Permission) -> &'static str
+    ensures { result.now ≡ permission_name permission }
+{
+    match permission {
+        Permission::Browse => "browse",
+        Permission::Create => "create",
+        Permission::Edit => "edit",
+        Permission::Transition => "transition",
+        Permission::Rank => "rank",
+        Permission::Plan => "plan",
+        Permission::Administer => "administer",
+    }
+}
+
+fn text_or_null(alloc: Global, text: &Option<Text>) -> Result<Value, Memory>
+    ensures { IfOk result (λ value. view value ≡ text_or_null text.now) }
+{
+    match text {
+        None => Ok(Value::Null),
+        Some(text) => Ok(Value::try_from_str(alloc, text.as_str())?),
+    }
+}
+
+fn index_value(alloc: Global, number: u64, index: usize) -> Result<Value, Memory>
+    ensures { IfOk result (λ value. view value ≡ index_data number index) }
+{
+    Ok(json!(in alloc; {"index": index, "no": number})?)
 }
 
 fn unfit_value(alloc: Global, field: &Text) -> Result<Value, Memory>
@@ -156,6 +207,8 @@ impl Thing {
             Thing::User => "user",
             Thing::Project => "project",
             Thing::Issue => "issue",
+            Thing::Transition => "transition",
+            Thing::Sprint => "sprint",
             Thing::Field => "field",
         }
     }
@@ -169,6 +222,7 @@ impl Limit {
         match self {
             Limit::Issues => "issues",
             Limit::Entries => "entries",
+            Limit::TextBytes => "text_bytes",
         }
     }
 
@@ -179,6 +233,7 @@ impl Limit {
         match self {
             Limit::Issues => 50_000,
             Limit::Entries => 2_000_000,
+            Limit::TextBytes => 500_000_000,
         }
     }
 }

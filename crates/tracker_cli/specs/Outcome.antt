@@ -6,14 +6,22 @@ use Rattle.setup_reading.specs.Reading.{setup_in}
 use Rattle.request_lines.specs.Lines.{lines, whole_lines, AreWithinLimits, StopsAtLong, StopsAtMany}
 use Rattle.request_lines.specs.declared.run.End.{End}
 use Rattle.request_lines.specs.declared.run.End.TheVariants.{Done, ReadFault, WriteFault, Memory, LongLine, ManyLines}
+use Rattle.jql_check.specs.Check.{IsReply}
 use Rattle.tracker_machine.specs.Machine.{Machine, opening}
 use Rattle.tracker_machine.specs.Run.{IsRun, IsCutRun, requests}
 
 abbrev pub IsExec : List (List ℕ) → Type 0
 IsExec words = words ≡ codes "exec" ∷ []
 
+abbrev pub IsCheck : List (List ℕ) → Type 0
+IsCheck words = words ≡ codes "check" ∷ []
+
+-- the words are a command's
+abbrev pub IsCommand : List (List ℕ) → Type 0
+IsCommand words = IsExec words ⊎ IsCheck words
+
 abbrev pub usage : List ℕ
-usage = codes "usage: exec\n"
+usage = codes "usage: exec, check\n"
 
 abbrev pub limit_line : List ℕ
 limit_line = codes "limit line\n"
@@ -33,6 +41,36 @@ AreReplies setup_text all text = (start : Machine) × (last : Machine) × IsStar
 abbrev pub AreCutReplies : List ℕ → List ℕ → List ℕ → Type 0
 AreCutReplies setup_text bytes text = (text ≡ []) ⊎ ((start : Machine) × IsStart setup_text start × IsCutRun start (lines bytes) text)
 
+-- each line, taken as a query, has its reply, one behind another
+abbrev pub AreChecked : List (List ℕ) → List ℕ → Type 0
+AreChecked [] text = text ≡ []
+AreChecked (line ∷ more) text = (first : List ℕ) × (rest : List ℕ) × IsReply line first × (text ≡ first ++ rest) × AreChecked more rest
+
+-- nothing, or a front of the reply to the next line
+abbrev pub IsFrontOfCheck : List (List ℕ) → List ℕ → Type 0
+IsFrontOfCheck rest front =
+    (front ≡ [])
+    ⊎ ((line : List ℕ) × (more : List (List ℕ)) × (text : List ℕ) × (back : List ℕ) × (rest ≡ line ∷ more) × IsReply line text × (text ≡ front ++ back))
+
+-- the first lines of an input have their whole replies, and at most the next one has a front of its reply
+pub record AreCutChecks (bytes text : List ℕ) : Type 0 where
+  pub done : List (List ℕ)
+  pub rest : List (List ℕ)
+  pub all_is : lines bytes ≡ done ++ rest
+  pub whole : List ℕ
+  pub checked : AreChecked done whole
+  pub front : List ℕ
+  pub next : IsFrontOfCheck rest front
+  pub text_is : text ≡ whole ++ front
+
+-- this text is what the words' command replies to these lines
+abbrev pub AreRepliesOf : List ℕ → List (List ℕ) → List (List ℕ) → List ℕ → Type 0
+AreRepliesOf setup_text words all text = (IsExec words × AreReplies setup_text all text) ⊎ (IsCheck words × AreChecked all text)
+
+-- this text is what it has replied to an input when it is cut short
+abbrev pub AreCutRepliesOf : List ℕ → List (List ℕ) → List ℕ → List ℕ → Type 0
+AreCutRepliesOf setup_text words bytes text = (IsExec words × AreCutReplies setup_text bytes text) ⊎ (IsCheck words × AreCutChecks bytes text)
+
 -- the sink grew by a text that is as wanted
 abbrev pub GrewBy : Option (List ℕ) → Option (List ℕ) → (List ℕ → Type 0) → Type 0
 GrewBy old new P = (text : List ℕ) × P text × Appends old new text
@@ -42,16 +80,16 @@ abbrev pub GrewByFront : Option (List ℕ) → Option (List ℕ) → (List ℕ �
 GrewByFront old new P = (front : List ℕ) × (back : List ℕ) × P (front ++ back) × Appends old new front
 
 -- the replies to the lines before the first that passes a limit, and then the limit's text
-abbrev pub IsLimitText : List ℕ → List ℕ → List ℕ → Type 0
-IsLimitText setup_text bytes due =
-    ((done : List (List ℕ)) × (text : List ℕ) × StopsAtLong (lines bytes) done × AreReplies setup_text done text × (due ≡ text ++ limit_line))
-    ⊎ ((done : List (List ℕ)) × (text : List ℕ) × StopsAtMany (lines bytes) done × AreReplies setup_text done text × (due ≡ text ++ limit_lines))
+abbrev pub IsLimitText : (List (List ℕ) → List ℕ → Type 0) → List ℕ → List ℕ → Type 0
+IsLimitText Replies bytes due =
+    ((done : List (List ℕ)) × (text : List ℕ) × StopsAtLong (lines bytes) done × Replies done text × (due ≡ text ++ limit_line))
+    ⊎ ((done : List (List ℕ)) × (text : List ℕ) × StopsAtMany (lines bytes) done × Replies done text × (due ≡ text ++ limit_lines))
 
--- how the loop over request lines ends, told by the abstract tracker
-abbrev pub EndsRun : List ℕ → List ℕ → Option (List ℕ) → Option (List ℕ) → Option (List ℕ) → End → Type 0
-EndsRun setup_text bytes left old new Done = IsAtEnd left × AreWithinLimits (lines bytes) × GrewBy old new (AreReplies setup_text (lines bytes))
-EndsRun setup_text bytes left old new ReadFault = (read : List ℕ) × Consumes (Some bytes) left read × GrewBy old new (AreReplies setup_text (whole_lines read))
-EndsRun setup_text bytes left old new WriteFault = GrewBy old new (AreCutReplies setup_text bytes)
-EndsRun setup_text bytes left old new Memory = GrewBy old new (AreCutReplies setup_text bytes)
-EndsRun setup_text bytes left old new LongLine = (done : List (List ℕ)) × StopsAtLong (lines bytes) done × GrewBy old new (AreReplies setup_text done)
-EndsRun setup_text bytes left old new ManyLines = (done : List (List ℕ)) × StopsAtMany (lines bytes) done × GrewBy old new (AreReplies setup_text done)
+-- how the loop over lines ends, told by which texts are the replies to lines, and which are those to an input where it is cut short
+abbrev pub EndsRun : (List (List ℕ) → List ℕ → Type 0) → (List ℕ → List ℕ → Type 0) → List ℕ → Option (List ℕ) → Option (List ℕ) → Option (List ℕ) → End → Type 0
+EndsRun Replies Cut bytes left old new Done = IsAtEnd left × AreWithinLimits (lines bytes) × GrewBy old new (Replies (lines bytes))
+EndsRun Replies Cut bytes left old new ReadFault = (read : List ℕ) × Consumes (Some bytes) left read × GrewBy old new (Replies (whole_lines read))
+EndsRun Replies Cut bytes left old new WriteFault = GrewBy old new (Cut bytes)
+EndsRun Replies Cut bytes left old new Memory = GrewBy old new (Cut bytes)
+EndsRun Replies Cut bytes left old new LongLine = (done : List (List ℕ)) × StopsAtLong (lines bytes) done × GrewBy old new (Replies done)
+EndsRun Replies Cut bytes left old new ManyLines = (done : List (List ℕ)) × StopsAtMany (lines bytes) done × GrewBy old new (Replies done)

@@ -2,10 +2,13 @@
 #![tactic(auto)]
 
 mod adapters;
+mod check;
 mod command;
 mod exec;
 #[cfg(test)]
 mod tests;
 
 pub use adapters::{Reading, Writing};
+pub use check::Checks;
 pub use command::run;
+pub use exec::RequestLines;

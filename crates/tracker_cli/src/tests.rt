@@ -83,12 +83,12 @@ fn a_write_that_fails_leaves_a_front(rt: HostRuntime) -> Result<(), Fail> {
 #[test]
 fn words_that_are_no_command_are_a_usage_error(rt: HostRuntime) -> Result<(), Fail> {
     let alloc = rt.alloc();
-    for word in ["", "Exec", "exec ", "help", "-h"] {
+    for word in ["", "Exec", "exec ", "Check", "help", "-h"] {
         let mut source = MemorySource::new(Vec::new(alloc), Vec::new(alloc), Vec::new(alloc));
         let mut sink = MemorySink::new(alloc, 100, Vec::new(alloc))?;
         let status = run(alloc, &words(alloc, word)?, &mut source, &mut sink);
         assert_eq!(rt; status, 1);
-        assert_eq!(rt; sink.taken(), b"usage: exec\n".as_slice());
+        assert_eq!(rt; sink.taken(), b"usage: exec, check\n".as_slice());
     }
     Ok(())
 }
@@ -144,5 +144,51 @@ fn the_lines_pass_their_limit_by_one(rt: HostRuntime) -> Result<(), Fail> {
     let (status, out) = many_lines(alloc, 1_000_001)?;
     assert_eq!(rt; status, 7);
     assert_eq!(rt; out.as_slice(), b"limit lines\n".as_slice());
+    Ok(())
+}
+
+// The status and the output of `check` over the bytes, read in pieces of that length.
+fn checked(
+    alloc: Global,
+    bytes: &[u8],
+    piece: usize,
+    bad_reads: Vec<u64>,
+) -> Result<(u8, Vec<u8>), AllocError> {
+    let mut pieces = Vec::new(alloc);
+    for _ in 0..bytes.len() {
+        pieces.push(piece)?;
+    }
+    let mut source = MemorySource::new(bytes.to_vec(alloc)?, pieces, bad_reads);
+    let mut sink = MemorySink::new(alloc, 1_000, Vec::new(alloc))?;
+    let status = run(alloc, &words(alloc, "check")?, &mut source, &mut sink);
+    Ok((status, sink.taken().to_vec(alloc)?))
+}
+
+#[test]
+fn each_line_is_checked(rt: HostRuntime) -> Result<(), Fail> {
+    let alloc = rt.alloc();
+    let mut bytes = b"a=b\n\na = \xff\nstatus =\n".to_vec(alloc)?;
+    for _ in 0..4_097 {
+        bytes.push(b' ')?;
+    }
+    let replies = b"ok a = \"b\"\nok\nfault 4 1\nfault 8 3\nfault 4096 5\n";
+    for piece in [1, 7, 5_000] {
+        let (status, out) = checked(alloc, &bytes, piece, Vec::new(alloc))?;
+        assert_eq!(rt; status, 0);
+        assert_eq!(rt; out.as_slice(), replies.as_slice());
+    }
+    // The second read fails: the first line alone was whole.
+    let (status, out) = checked(alloc, &bytes, 4, [2].to_vec(alloc)?)?;
+    assert_eq!(rt; status, 2);
+    assert_eq!(rt; out.as_slice(), b"ok a = \"b\"\n".as_slice());
+    for _ in 0..65_536 {
+        bytes.push(b' ')?;
+    }
+    let (status, out) = checked(alloc, &bytes, 5_000, Vec::new(alloc))?;
+    assert_eq!(rt; status, 7);
+    assert_eq!(rt;
+        out.as_slice(),
+        b"ok a = \"b\"\nok\nfault 4 1\nfault 8 3\nlimit line\n".as_slice()
+    );
     Ok(())
 }

@@ -19,10 +19,13 @@ use Rattle.change_history.proofs.Adding.{last_moment-group}
 use Rattle.workflow.specs.Laws.{AllFit}
 use Rattle.tracker_machine.specs.Machine.{Machine}
 use Rattle.tracker_machine.specs.Create.{with_issue}
-use Rattle.tracker_machine.specs.Known.{names_in, name_at, issues_of, project_of}
-use Rattle.tracker_machine.specs.Checks.{entries_kept}
+use Rattle.tracker_machine.specs.Known.{name_at, issues_of, project_of}
+use Rattle.fields.specs.SetupParts.{names_in}
+use Rattle.std.specs.Prelude.{sum_by}
+use Rattle.tracker_machine.specs.Checks.{entries_kept, bytes_kept, history_bytes, entry_bytes}
+use Rattle.tracker_core.proofs.Weights.{history_bytes-more, bytes_kept-push, bytes_kept-set}
 use Rattle.tracker_core.specs.Issues.{total_entries, with_entries}
-use Rattle.tracker_core.specs.State.{counts_of, with_key, Holds, IsSettled, AllEntriesFit, IsSound}
+use Rattle.tracker_core.specs.State.{counts_of, with_key, Holds, IsSettled, AllEntriesFit, AllEntriesHold, IsSound}
 
 -- ---- what stands at a place
 
@@ -92,6 +95,17 @@ value_after-append : (v : Value) (xs ys : List Entry) (f : FieldNo) → value_af
 value_after-append v [] ys f = refl
 value_after-append v (x ∷ xs) ys f = value_after-append (if x.field.0 == f.0 then x.to else v) xs ys f
 
+-- both sides of a group's entries hold what fits, where the values before them do
+group_holds : (names : Names) (values : FieldNo → Value) (low change at : ℕ) (author : UserNo) (es : List Entry)
+    → ((f : FieldNo) → Holds names f (values f)) → AreGroupEntries values low change at author es → AllEntriesFit names es → AllEntriesHold names es
+group_holds names values low change at author [] holds group fit = tt
+group_holds names values low change at author (e ∷ es) holds group fit =
+    (subst (λ v. Holds names e.field v) (sym group.4) (holds e.field), inr fit.0, group_holds names values (e.field.0 + 1) change at author es holds group.6 fit.1)
+
+held_more : (names : Names) (xs es : List Entry) → AllEntriesHold names xs → AllEntriesHold names es → AllEntriesHold names (xs ++ es)
+held_more names [] es before after = after
+held_more names (x ∷ xs) es before after = (before.0, before.1, held_more names xs es before.2 after)
+
 -- ---- issues that are settled
 
 last_change-group : (values : FieldNo → Value) (low change at start : ℕ) (author : UserNo) (xs es : List Entry) → 0 < length es → AreGroupEntries values low change at author es
@@ -102,7 +116,7 @@ last_change-group values low change at start author [] (e ∷ []) some group = g
 last_change-group values low change at start author [] (e ∷ f ∷ fs) some group = last_change-group values (e.field.0 + 1) change at e.change author [] (f ∷ fs) (omega arith) group.6
 
 pub settled_later : (names : Names) (at at' change change' : ℕ) (h : History) → at ≤ at' → change ≤ change' → IsSettled names at change h → IsSettled names at' change' h
-settled_later names at at' change change' h later more is = record { timely = omega (arith, is.timely, later); earlier = omega (arith, is.earlier, more); holding = is.holding }
+settled_later names at at' change change' h later more is = record { timely = omega (arith, is.timely, later); earlier = omega (arith, is.earlier, more); holding = is.holding; held = is.held }
 
 pub all_settled_later : (names : Names) (at at' change change' : ℕ) (hs : List History) → at ≤ at' → change ≤ change' → All (IsSettled names at change) hs → All (IsSettled names at' change') hs
 all_settled_later names at at' change change' hs later more all = λ k d in'. settled_later names at at' change change' _ later more (all k d in')
@@ -113,6 +127,7 @@ settled_new names at change h now number none fit = record {
   timely = subst (λ es. last_moment h.at es ≤ at) (sym none) (omega (arith, now));
   earlier = subst (λ es. last_change h.change es ≤ change) (sym none) (omega (arith, number));
   holding = λ f. subst (λ es. Holds names f (value_after (opening_value h.opening f) es f)) (sym none) (opening_holds names h.opening f fit);
+  held = subst (AllEntriesHold names) (sym none) tt;
 }
 
 -- an issue with a group that comes now
@@ -122,6 +137,7 @@ settled_added names at old change h author es may fit is = record {
   timely = omega (arith, last_moment-group (present h) 0 change at h.at author h.entries es may.some may.group);
   earlier = omega (arith, last_change-group (present h) 0 change at h.change author h.entries es may.some may.group);
   holding = λ f. subst (λ v. Holds names f v) (sym (value_after-append (opening_value h.opening f) h.entries es f)) (entries_hold names (present h f) es f fit (is.holding f));
+  held = held_more names h.entries es is.held (group_holds names (present h) 0 change at author es is.holding may.group fit);
 }
 
 -- ---- the settled issue at a place
@@ -145,11 +161,13 @@ few_counted (p ∷ ps) hs most zero few = omega (arith, few_of p.key hs, few)
 few_counted (p ∷ ps) hs most (suc k) few = few_counted ps hs most k few
 
 pub sound_push : (m : Machine) (counts new : List ℕ) (h : History) → IsSound m counts → length m.histories < 50_000 → h.change ≡ m.change + 1 → h.at ≡ m.moment → h.entries ≡ []
-    → AllFit (names_in m.setup) h.opening → new ≡ with_key (counts_of m.setup.project m.histories) m.setup.project h.key → IsSound (with_issue m h) new
-sound_push m counts new h is few number now none fit counted = record {
+    → AllFit (names_in m.setup) h.opening → bytes_kept m.histories + history_bytes h ≤ 510_000_000
+    → new ≡ with_key (counts_of m.setup.project m.histories) m.setup.project h.key → IsSound (with_issue m h) new
+sound_push m counts new h is few number now none fit light counted = record {
   counted = counted ∙ counts_of-push m.setup.project m.histories h;
   few_issues = omega (arith, length-append m.histories (h ∷ []), few);
   few_entries = omega (arith, entries_kept-push m.histories h, is.few_entries, ap (λ (es : List Entry). length es) none);
+  few_bytes = omega (arith, bytes_kept-push m.histories h, light);
   numbered = omega (arith, entries_kept-push m.histories h, length-append m.histories (h ∷ []), is.numbered);
   settled = All-push (IsSettled (names_in m.setup) m.moment (m.change + 1)) m.histories h
       (all_settled_later (names_in m.setup) m.moment m.moment m.change (m.change + 1) m.histories (omega arith) (omega arith) is.settled)
@@ -157,9 +175,9 @@ sound_push m counts new h is few number now none fit counted = record {
 }
 
 pub sound_add : (m : Machine) (counts : List ℕ) (k : ℕ) (h : History) (author : UserNo) (es : List Entry) → IsSound m counts → slice_get m.histories k ≡ Some h
-    → MayAdd h (m.change + 1) m.moment author es → AllEntriesFit (names_in m.setup) es → entries_kept m.histories + length es ≤ 2_000_000
+    → MayAdd h (m.change + 1) m.moment author es → AllEntriesFit (names_in m.setup) es → entries_kept m.histories + length es ≤ 2_000_000 → bytes_kept m.histories + sum_by entry_bytes es ≤ 510_000_000
     → IsSound (record m { change = m.change + 1; histories = set m.histories k (record h { entries = h.entries ++ es }) }) counts
-sound_add m counts k h author es is at may fit few =
+sound_add m counts k h author es is at may fit few light =
     let new : History = record h { entries = h.entries ++ es } in
     let total = entries_kept-set m.histories k h new at in
     let more = length-append h.entries es in
@@ -168,6 +186,7 @@ sound_add m counts k h author es is at may fit few =
       counted = is.counted ∙ sym (counts_of-set m.setup.project m.histories k h new at refl);
       few_issues = omega (arith, same, is.few_issues);
       few_entries = omega (arith, total, more, few);
+      few_bytes = omega (arith, bytes_kept-set m.histories k h new at, history_bytes-more h es, light);
       numbered = omega (arith, total, more, same, is.numbered, may.some);
       settled = All-set (IsSettled (names_in m.setup) m.moment (m.change + 1)) m.histories k new
           (settled_added (names_in m.setup) m.moment m.change (m.change + 1) h author es may fit (settled_at (names_in m.setup) m.moment m.change m.histories k h at is.settled))

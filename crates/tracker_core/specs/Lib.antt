@@ -1,6 +1,5 @@
+pub mod Check
 pub mod Issues
 pub mod Made
 pub mod State
-pub mod Telling
-pub mod Unknown
 pub mod Wants

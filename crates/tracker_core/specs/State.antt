@@ -10,8 +10,9 @@ use Rattle.field_values.specs.declared.parts.Project.{Project}
 use Rattle.change_history.specs.declared.entry.Entry.{Entry}
 use Rattle.change_history.specs.History.{History, last_change, present, updated}
 use Rattle.tracker_machine.specs.Machine.{Machine}
-use Rattle.tracker_machine.specs.Known.{names_in, project_of, issues_of}
-use Rattle.tracker_machine.specs.Checks.{entries_kept}
+use Rattle.fields.specs.SetupParts.{names_in}
+use Rattle.tracker_machine.specs.Known.{project_of, issues_of}
+use Rattle.tracker_machine.specs.Checks.{entries_kept, bytes_kept}
 
 -- the abstract tracker's state; how many issues there is room for, and how many entries, issue by issue
 pub record Held : Type 0 where
@@ -32,11 +33,18 @@ with_key _ _ key = []
 abbrev pub Holds : Names → FieldNo → Value → Type 0
 Holds names f v = (v ≡ Empty) ⊎ (fits names f.0 v ≡ true)
 
--- nothing of the issue is later than now, and each of its fields holds nothing or a value that fits
+-- so do both sides of each entry
+abbrev pub AllEntriesHold : Names → List Entry → Type 0
+AllEntriesHold names [] = Unit {0}
+AllEntriesHold names (e ∷ es) = Holds names e.field e.from × Holds names e.field e.to × AllEntriesHold names es
+
+-- nothing of the issue is later than now, and each of its fields holds nothing or a value that fits, now and at each
+-- entry
 pub record IsSettled (names : Names) (moment change : ℕ) (h : History) : Type 0 where
   pub timely : updated h ≤ moment
   pub earlier : last_change h.change h.entries ≤ change
   pub holding : (f : FieldNo) → Holds names f (present h f)
+  pub held : AllEntriesHold names h.entries
 
 -- each entry gives its field a value that fits
 abbrev pub AllEntriesFit : Names → List Entry → Type 0
@@ -47,5 +55,6 @@ pub record IsSound (m : Machine) (counts : List ℕ) : Type 0 where
   pub counted : counts ≡ counts_of m.setup.project m.histories
   pub few_issues : length m.histories ≤ 50_000
   pub few_entries : entries_kept m.histories ≤ 2_000_000
+  pub few_bytes : bytes_kept m.histories ≤ 510_000_000
   pub numbered : m.change ≤ length m.histories + entries_kept m.histories
   pub settled : All (IsSettled (names_in m.setup) m.moment m.change) m.histories

@@ -1,20 +1,28 @@
 // The call `create`: a new issue of a project.
-ghost use Rattle.std.specs.Prelude.{◌≡◌, ◌<◌, ◌+◌, length, string_bytes, IfOk, false};
+ghost use Rattle.std.specs.Prelude.{◌≡◌, ◌<◌, ◌≤◌, ◌+◌, length, string_bytes, IfOk, Some, false};
+ghost use Rattle.field_forms.specs.Names.{place_named};
+ghost use Rattle.fields.specs.SetupParts.{names_in};
 ghost use Rattle.workflow.specs.Laws.{AllFit};
 ghost use Rattle.tracker_machine.specs.Step.{Performs};
-ghost use Rattle.tracker_machine.specs.Create.{create_refusal, create_answer, created, opened, with_issue};
-ghost use Rattle.tracker_machine.specs.Known.{name_at, names_in, project_keys, next_key};
-ghost use Rattle.tracker_core.specs.Made.{IsMade, filled};
+ghost use Rattle.tracker_machine.specs.Checks.{bytes_kept, history_bytes};
+ghost use Rattle.tracker_machine.specs.Create.{create_wants, create_refusal, create_answer, created, opened, filled, with_issue};
+ghost use Rattle.tracker_machine.specs.Known.{name_at, project_keys, next_key};
+ghost use Rattle.tracker_machine.specs.Wanted.{changes_of};
+ghost use Rattle.tracker_core.specs.Check.{Checks};
+ghost use Rattle.tracker_core.specs.Made.{IsMade};
 ghost use Rattle.tracker_core.specs.State.{with_key, counts_of};
 
+use crate::check::{
+    check_bytes, check_issues, check_permission, check_set, known_project, known_values,
+};
 use crate::empty::is_empty;
 use crate::state::{NewIssue, State};
-use crate::unknown::{unfit, unknown};
-use crate::wants::{ValueFault, Wants, changes_of, first_strange};
+use crate::wants::Wants;
+use crate::weight::bytes_of_changes;
 use change_history::{Change, Changes, Issue, Key};
-use fields::{IssueNo, Memory, ProjectNo, Text, UserNo};
+use fields::{IssueNo, Memory, Permission, ProjectNo, Text, UserNo};
 use std::alloc::Global;
-use tracker_calls::{Answer, GivenField, Limit, Refusal, Reply, Thing};
+use tracker_calls::{Answer, GivenField, Refusal, Reply};
 
 /// Makes a new issue of the project, or says why not.
 pub fn create(
@@ -31,29 +39,44 @@ pub fn create(
         (created state.old.machine caller.0 project.now issue_type.now summary.now set.now)
         state.old.machine result state.new.machine }
 {
-    let Some(place) = state.project_named(project) else {
-        return unknown(alloc, Thing::Project, project);
-    };
-    if let Some(strange) = first_strange(state.setup(), set) {
-        return unknown(alloc, Thing::Field, strange.name.as_str());
+    match check_create(alloc, state, caller, project, issue_type, summary, set) {
+        Ok((place, changes)) => open(alloc, state, caller, place, &changes),
+        Err(refusal) => Reply::Refused(refusal),
     }
-    if state.issue_count() >= 50_000 {
-        return Reply::Refused(Refusal::Limit {
-            limit: Limit::Issues,
-        });
-    }
+}
+
+// The project, and what the new issue's fields become.
+fn check_create(
+    alloc: Global,
+    state: &State,
+    caller: UserNo,
+    project: &str,
+    issue_type: &str,
+    summary: &str,
+    set: &[GivenField],
+) -> Result<(ProjectNo, Changes), Refusal>
+    ensures check { Checks (create_refusal state.now.machine caller.0 project.now issue_type.now summary.now set.now) result }
+    ensures place { IfOk result (λ r. place_named project.now (project_keys state.now.machine.setup) ≡ Some r.0.0) }
+    ensures there { IfOk result (λ r. r.0.0 < length state.now.machine.setup.project) }
+    ensures changes { IfOk result (λ r. r.1 ≡ changes_of (names_in state.now.machine.setup) (create_wants state.now.machine.setup caller.0 issue_type.now summary.now set.now)) }
+    ensures fitting { IfOk result (λ r. AllFit (names_in state.now.machine.setup) r.1) }
+    ensures few { IfOk result (λ r. length state.now.machine.histories < 50_000) }
+    ensures light { IfOk result (λ r. bytes_kept state.now.machine.histories ≤ 499_800_000) }
+{
+    let place = known_project(alloc, state, project)?;
+    check_set(alloc, state, set)?;
+    check_permission(alloc, state, caller, Permission::Browse, Some(place))?;
+    check_permission(alloc, state, caller, Permission::Create, Some(place))?;
+    check_issues(state)?;
+    check_bytes(state)?;
     let wants = Wants::Create {
         caller,
         issue_type,
         summary,
         set,
     };
-    let changes = match changes_of(alloc, state.setup(), &wants) {
-        Ok(changes) => changes,
-        Err(ValueFault::Unfit(field)) => return unfit(alloc, state.setup(), field),
-        Err(ValueFault::Memory) => return Reply::Refused(Refusal::Memory),
-    };
-    open(alloc, state, caller, place, &changes)
+    let changes = known_values(alloc, state, &wants)?;
+    Ok((place, changes))
 }
 
 // Opens the issue with these values.
@@ -65,6 +88,7 @@ fn open(
     changes: &Changes,
 ) -> Reply
     requires few { length state.old.machine.histories < 50_000 }
+    requires light { bytes_kept state.old.machine.histories ≤ 499_800_000 }
     requires there { project.0 < length state.old.machine.setup.project }
     requires fitting { AllFit (names_in state.old.machine.setup) changes.now }
     ensures { IsMade (Answer.Create false (state.old.machine.change + 1) (next_key state.old.machine (name_at (project_keys state.old.machine.setup) project.0)))
@@ -103,11 +127,16 @@ fn prepare(
     ensures key { IfOk result (λ new. string_bytes new.key ≡ next_key state.now.machine (name_at (project_keys state.now.machine.setup) project.0)) }
     ensures counts { IfOk result (λ new. new.counts.items ≡ with_key (counts_of state.now.machine.setup.project state.now.machine.histories) state.now.machine.setup.project
         (next_key state.now.machine (name_at (project_keys state.now.machine.setup) project.0))) }
+    ensures bytes { IfOk result (λ new. new.bytes ≡ history_bytes new.issue.history) }
+    ensures light { IfOk result (λ new. new.bytes ≤ 10_000_000) }
 {
     let issue_key = next_key(alloc, state, project)?;
     let key = String::from_str(alloc, issue_key.as_str())?;
     let counts = state.counts_with(alloc, key.as_str())?;
     let opening = filled(alloc, changes.as_slice())?;
+    let Some(bytes) = bytes_of_changes(opening.as_slice()) else {
+        return Err(Memory);
+    };
     let no = IssueNo(state.issue_count() as u32 + 1);
     let change = state.next_change();
     let issue = Issue::open(
@@ -119,7 +148,12 @@ fn prepare(
         caller,
         opening,
     )?;
-    Ok(NewIssue { issue, key, counts })
+    Ok(NewIssue {
+        issue,
+        key,
+        counts,
+        bytes,
+    })
 }
 
 // The key of the project's next issue.

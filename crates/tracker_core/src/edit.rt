@@ -1,24 +1,29 @@
 // The call `edit`: fields of an issue become other values, as one change group.
-ghost use Rattle.std.specs.Prelude.{◌≡◌, ◌<◌, ◌≤◌, ◌+◌, [], length, slice_get, IfOk, IfSome, Some};
-ghost use Rattle.change_history.specs.History.{present, updated, last_change, MayAdd};
+ghost use Rattle.std.specs.Prelude.{◌≡◌, ◌<◌, ◌≤◌, length, slice_get, IfOk, IfSome, Some};
+ghost use Rattle.change_history.specs.History.{present};
 ghost use Rattle.field_forms.specs.Known.{Names};
-ghost use Rattle.tracker_core.specs.State.{AllEntriesFit};
-ghost use Rattle.workflow.specs.Difference.{entries_of};
+ghost use Rattle.fields.specs.SetupParts.{names_in};
+ghost use Rattle.workflow.specs.Difference.{AreNews};
 ghost use Rattle.workflow.specs.Laws.{AllFit};
 ghost use Rattle.workflow.specs.Net.{net_changes};
 ghost use Rattle.tracker_machine.specs.Step.{Performs};
-ghost use Rattle.tracker_machine.specs.Checks.{entries_kept};
-ghost use Rattle.tracker_machine.specs.Edit.{edit_refusal, edit_answer, edited, group_number, with_group};
-ghost use Rattle.tracker_machine.specs.Known.{names_in};
+ghost use Rattle.tracker_machine.specs.Checks.{entries_kept, bytes_kept};
+ghost use Rattle.tracker_machine.specs.Edit.{edit_refusal, edit_answer, edited, set_changes};
+ghost use Rattle.tracker_machine.specs.Group.{group_number, with_group};
+ghost use Rattle.tracker_machine.specs.Known.{place_of_issue};
+ghost use Rattle.tracker_core.specs.Check.{Checks};
 ghost use Rattle.tracker_core.specs.Made.{IsMade};
 
+use crate::check::{
+    check_access, check_bytes, check_entries, check_set, known_issue, known_values,
+};
+use crate::group::put_group;
 use crate::state::State;
-use crate::unknown::{unfit, unknown};
-use crate::wants::{ValueFault, Wants, changes_of, first_strange};
-use change_history::{Change, Changes, Entries, Entry, Group, Issue};
-use fields::{Memory, Moment, Text, UserNo};
+use crate::wants::Wants;
+use change_history::{Change, Changes, Issue};
+use fields::{Memory, Permission, Text, UserNo};
 use std::alloc::Global;
-use tracker_calls::{Answer, GivenField, Limit, Refusal, Reply, Thing};
+use tracker_calls::{Answer, GivenField, Refusal, Reply};
 use workflow::net_changes;
 
 /// Changes fields of the issue, or says why not.
@@ -29,28 +34,41 @@ pub fn edit(
     issue: &str,
     set: &[GivenField],
 ) -> Reply
-    ensures { Performs (edit_refusal state.old.machine issue.now set.now)
+    ensures { Performs (edit_refusal state.old.machine caller.0 issue.now set.now)
         (edit_answer state.old.machine issue.now set.now)
         (edited state.old.machine caller.0 issue.now set.now)
         state.old.machine result state.new.machine }
 {
-    let Some(place) = state.place_of_issue(issue) else {
-        return unknown(alloc, Thing::Issue, issue);
-    };
-    if let Some(strange) = first_strange(state.setup(), set) {
-        return unknown(alloc, Thing::Field, strange.name.as_str());
+    match check_edit(alloc, state, caller, issue, set) {
+        Ok((place, changes)) => change(alloc, state, caller, place, issue, &changes),
+        Err(refusal) => Reply::Refused(refusal),
     }
-    if state.entry_count() > 1_999_957 {
-        return Reply::Refused(Refusal::Limit {
-            limit: Limit::Entries,
-        });
-    }
-    let changes = match changes_of(alloc, state.setup(), &Wants::Edit { set }) {
-        Ok(changes) => changes,
-        Err(ValueFault::Unfit(field)) => return unfit(alloc, state.setup(), field),
-        Err(ValueFault::Memory) => return Reply::Refused(Refusal::Memory),
-    };
-    change(alloc, state, caller, place, issue, &changes)
+}
+
+// The place of the issue, and what its fields become.
+fn check_edit(
+    alloc: Global,
+    state: &State,
+    caller: UserNo,
+    issue: &str,
+    set: &[GivenField],
+) -> Result<(usize, Changes), Refusal>
+    ensures check { Checks (edit_refusal state.now.machine caller.0 issue.now set.now) result }
+    ensures place { IfOk result (λ r. place_of_issue issue.now state.now.machine.histories ≡ Some r.0) }
+    ensures there { IfOk result (λ r. r.0 < length state.now.machine.histories) }
+    ensures changes { IfOk result (λ r. r.1 ≡ set_changes state.now.machine set.now) }
+    ensures fitting { IfOk result (λ r. AllFit (names_in state.now.machine.setup) r.1) }
+    ensures few { IfOk result (λ r. entries_kept state.now.machine.histories ≤ 1_999_957) }
+    ensures light { IfOk result (λ r. bytes_kept state.now.machine.histories ≤ 499_800_000) }
+{
+    let place = known_issue(alloc, state, issue)?;
+    check_set(alloc, state, set)?;
+    check_access(alloc, state, caller, Permission::Browse, place)?;
+    check_access(alloc, state, caller, Permission::Edit, place)?;
+    check_entries(state)?;
+    check_bytes(state)?;
+    let changes = known_values(alloc, state, &Wants::Set { set })?;
+    Ok((place, changes))
 }
 
 // Makes these changes of the issue at a place, as far as they are any.
@@ -64,7 +82,7 @@ fn change(
 ) -> Reply
     requires there { place < length state.old.machine.histories }
     requires few { entries_kept state.old.machine.histories ≤ 1_999_957 }
-    requires short { length changes.now ≤ 6 }
+    requires light { bytes_kept state.old.machine.histories ≤ 499_800_000 }
     requires fitting { AllFit (names_in state.old.machine.setup) changes.now }
     ensures { IfSome (slice_get state.old.machine.histories place) (λ h.
         IsMade (Answer.Edit (group_number state.old.machine (net_changes (present h) changes.now)) name.now)
@@ -74,104 +92,36 @@ fn change(
     let Ok(told) = Text::copy_of(alloc, name) else {
         return Reply::Refused(Refusal::Memory);
     };
-    let Ok(group) = prepare(alloc, state, caller, place, changes) else {
+    let Ok(net) = news(alloc, state, place, changes) else {
         return Reply::Refused(Refusal::Memory);
     };
-    if group.entries.as_slice().is_empty() {
-        return Reply::Ok(Answer::Edit {
-            change: None,
+    match put_group(alloc, state, caller, place, &net) {
+        Ok(change) => Reply::Ok(Answer::Edit {
+            change,
             issue: told,
-        });
+        }),
+        Err(_) => Reply::Refused(Refusal::Memory),
     }
-    let Ok(()) = state.reserve_entries(place, group.entries.as_slice().len()) else {
-        return Reply::Refused(Refusal::Memory);
-    };
-    let change = group.change;
-    state.add(place, group);
-    Reply::Ok(Answer::Edit {
-        change: Some(change),
-        issue: told,
-    })
 }
 
-// The change group, which may be empty.
-fn prepare(
-    alloc: Global,
-    state: &State,
-    caller: UserNo,
-    place: usize,
-    changes: &Changes,
-) -> Result<Group, Memory>
+// The values that differ from the present ones.
+fn news(alloc: Global, state: &State, place: usize, changes: &Changes) -> Result<Changes, Memory>
     requires there { place < length state.now.machine.histories }
-    requires short { length changes.now ≤ 6 }
     requires fitting { AllFit (names_in state.now.machine.setup) changes.now }
-    ensures change { IfOk result (λ group. group.change ≡ state.now.machine.change + 1) }
-    ensures at { IfOk result (λ group. group.at ≡ state.now.machine.moment) }
-    ensures author { IfOk result (λ group. group.author ≡ caller) }
-    ensures entries { IfOk result (λ group. IfSome (slice_get state.now.machine.histories place) (λ h.
-        group.entries ≡ entries_of (present h) (state.now.machine.change + 1) state.now.machine.moment caller (net_changes (present h) changes.now))) }
-    ensures few { IfOk result (λ group. length group.entries ≤ 6) }
-    ensures fitting { IfOk result (λ group. AllEntriesFit (names_in state.now.machine.setup) group.entries) }
-    ensures may { IfOk result (λ group. IfSome (slice_get state.now.machine.histories place) (λ h.
-        0 < length group.entries → MayAdd h group.change group.at group.author group.entries)) }
+    ensures net { IfOk result (λ net. IfSome (slice_get state.now.machine.histories place) (λ h. net ≡ net_changes (present h) changes.now)) }
+    ensures news { IfOk result (λ net. IfSome (slice_get state.now.machine.histories place) (λ h. AreNews (present h) 0 net)) }
+    ensures fitting { IfOk result (AllFit (names_in state.now.machine.setup)) }
 {
     let Some(issue) = state.issue_at(place) else {
         unreachable!()
     };
-    let change = state.next_change();
-    let at = state.moment();
-    let entries = net_entries(alloc, issue, change, at, caller, changes.as_slice())?;
-    Ok(Group {
-        change,
-        at,
-        author: caller,
-        entries,
-    })
+    news_of(alloc, issue, changes.as_slice())
 }
 
-// The entries of a group that makes the changes which aren't to the present values.
-fn net_entries(
-    alloc: Global,
-    issue: &Issue,
-    change: u64,
-    at: Moment,
-    author: UserNo,
-    changes: &[Change],
-) -> Result<Entries, Memory>
-    requires timely { updated issue.now.history ≤ at }
-    requires earlier { last_change issue.now.history.change issue.now.history.entries < change }
-    ensures entries { IfOk result (λ entries. entries ≡ entries_of (present issue.now.history) change at author (net_changes (present issue.now.history) changes.now)) }
-    ensures few { IfOk result (λ entries. length entries ≤ length changes.now) }
-    ensures fitting { IfOk result (λ entries. (names : Names) → AllFit names changes.now → AllEntriesFit names entries) }
-    ensures may { IfOk result (λ entries. 0 < length entries → MayAdd issue.now.history change at author entries) }
+fn news_of(alloc: Global, issue: &Issue, changes: &[Change]) -> Result<Changes, Memory>
+    ensures net { IfOk result (λ net. net ≡ net_changes (present issue.now.history) changes.now) }
+    ensures news { IfOk result (AreNews (present issue.now.history) 0) }
+    ensures fitting { IfOk result (λ net. (names : Names) → AllFit names changes.now → AllFit names net) }
 {
-    let net = net_changes(alloc, issue, changes)?;
-    entries_of(alloc, issue, change, at, author, net.as_slice())
-}
-
-// The entries of a group that makes these changes.
-fn entries_of(
-    alloc: Global,
-    issue: &Issue,
-    change: u64,
-    at: Moment,
-    author: UserNo,
-    changes: &[Change],
-) -> Result<Entries, Memory>
-    ensures { IfOk result (λ entries. entries ≡ entries_of (present issue.now.history) change at author changes.now) }
-{
-    let mut entries = Entries::new(alloc);
-    for next in changes {
-        let from = issue.value(next.field).copy(alloc)?;
-        let to = next.to.copy(alloc)?;
-        entries.push(Entry {
-            change,
-            at,
-            author,
-            field: next.field,
-            from,
-            to,
-        })?;
-    }
-    Ok(entries)
+    net_changes(alloc, issue, changes)
 }

@@ -1,10 +1,11 @@
-// The issues, found by place and by key, with a running total of their entries.
-ghost use Rattle.std.specs.Prelude.{◌≡◌, ◌≤◌, ◌<◌, ◌+◌, ◌-◌, ◌^◌, ◌∷◌, ◌++◌, [], length, map, slice_get, slice_set, option_copied, string_bytes, OnOk, OnErr, IfSome, vec_len, vec_capacity, List, ℕ, Some, None, if◌then◌else◌};
+// The issues, found by place and by key, with running totals of their entries and text bytes.
+ghost use Rattle.std.specs.Prelude.{◌≡◌, ◌≤◌, ◌<◌, ◌+◌, ◌-◌, ◌^◌, ◌∷◌, ◌++◌, [], length, map, slice_get, slice_set, option_copied, string_bytes, OnOk, OnErr, IfSome, vec_len, vec_capacity, List, ℕ, Some, None, if◌then◌else◌, sum_by};
 ghost use Rattle.std.specs.Option.{option_or};
 ghost use Rattle.std.specs.Str.{bytes_eq};
 ghost use Rattle.std.specs.HashMap.{spare, get_by_text};
 ghost use Rattle.change_history.specs.History.{MayAdd};
-ghost use Rattle.tracker_core.specs.Issues.{place_of, total_entries, with_entries};
+ghost use Rattle.tracker_machine.specs.Checks.{entry_bytes, history_bytes};
+ghost use Rattle.tracker_core.specs.Issues.{place_of, total_entries, total_bytes, with_entries};
 
 use change_history::{Group, Issue};
 use fields::Memory;
@@ -18,6 +19,7 @@ pub struct Issues {
     list: Vec<Issue>,
     by_key: HashMap<String, usize>,
     entries: usize,
+    bytes: u64,
     room: usize,
 }
 
@@ -29,7 +31,7 @@ impl Model for Issues {
 
     ghost view = { λ i. record { kept = i.list.items; room = i.room } };
 
-    ghost invariant = { λ i. AreIndexed i.list.items i.by_key i.entries i.room (vec_len i.list) (vec_capacity i.list) };
+    ghost invariant = { λ i. AreIndexed i.list.items i.by_key i.entries i.bytes i.room (vec_len i.list) (vec_capacity i.list) };
 }
 
 impl Issues {
@@ -41,6 +43,7 @@ impl Issues {
             list: Vec::new(alloc),
             by_key: HashMap::new(alloc),
             entries: 0,
+            bytes: 0,
             room: 0,
         }
     }
@@ -57,6 +60,13 @@ impl Issues {
         ensures { result ≡ total_entries self.now.kept }
     {
         self.entries
+    }
+
+    /// How many text bytes all of them have.
+    pub fn bytes(&self) -> u64
+        ensures { result ≡ total_bytes self.now.kept }
+    {
+        self.bytes
     }
 
     /// The issue at a place.
@@ -84,11 +94,13 @@ impl Issues {
         Ok(())
     }
 
-    /// Puts an issue at the end, whose key's text is given too. It takes no memory.
-    pub fn push(&mut self, key: String, issue: Issue)
+    /// Puts an issue at the end, whose key's text and text bytes are given too. It takes no memory.
+    pub fn push(&mut self, key: String, issue: Issue, bytes: u64)
         requires room { 1 ≤ self.old.room }
         requires key { string_bytes key ≡ issue.history.key }
+        requires bytes { bytes ≡ history_bytes issue.history }
         requires few { total_entries self.old.kept + length issue.history.entries < 2 ^ 64 }
+        requires light { total_bytes self.old.kept + bytes < 2 ^ 64 }
         ensures kept { self.new.kept ≡ self.old.kept ++ issue ∷ [] }
         ensures room { self.new.room ≡ self.old.room - 1 }
     {
@@ -96,6 +108,7 @@ impl Issues {
         index_key(&mut self.by_key, key, place);
         self.room -= 1;
         self.entries += issue.entries();
+        self.bytes += bytes;
         put_issue(&mut self.list, issue);
     }
 
@@ -110,10 +123,12 @@ impl Issues {
         self.list[place].reserve(n)
     }
 
-    /// Adds a group to the issue at a place. It takes no memory.
-    pub fn add(&mut self, place: usize, group: Group)
+    /// Adds a group, whose text bytes are given too, to the issue at a place. It takes no memory.
+    pub fn add(&mut self, place: usize, group: Group, bytes: u64)
         requires there { place < length self.old.kept }
         requires few { total_entries self.old.kept + length group.entries < 2 ^ 64 }
+        requires bytes { bytes ≡ sum_by entry_bytes group.entries }
+        requires light { total_bytes self.old.kept + bytes < 2 ^ 64 }
         requires group { IfSome (slice_get self.old.kept place) (λ i.
             (length group.entries ≤ i.room) × MayAdd i.history group.change group.at group.author group.entries) }
         ensures kept { IfSome (slice_get self.old.kept place) (λ i.
@@ -121,6 +136,7 @@ impl Issues {
         ensures room { self.new.room ≡ self.old.room }
     {
         self.entries += group.entries.as_slice().len();
+        self.bytes += bytes;
         self.list[place].add(group);
     }
 }

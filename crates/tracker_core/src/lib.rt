@@ -1,17 +1,25 @@
 //! The tracker itself: its state, and the desk that makes one call at a time.
 #![tactic(auto)]
 
+mod check;
 mod create;
 mod desk;
 mod edit;
 mod empty;
+mod field_name;
+mod group;
+mod history;
 mod issues;
+mod names;
+mod numbers;
 mod project_key;
 mod show;
 mod state;
 mod tick;
-mod unknown;
+mod told;
+mod transition;
 mod wants;
+mod weight;
 
 pub use desk::Desk;
 pub use state::State;

@@ -1,51 +1,71 @@
 // The call `show`: an issue's present values.
-ghost use Rattle.std.specs.Prelude.{◌≡◌, false, List, IfOk, IfSome, option_map};
-ghost use Rattle.field_forms.specs.Known.{choices_of};
-ghost use Rattle.fields.specs.SetupParts.{parts};
+ghost use Rattle.std.specs.Prelude.{◌≡◌, ◌<◌, ◌++◌, [], length, IfOk, OnOk, map, slice_get};
+ghost use Rattle.fields.specs.SetupParts.{parts, names_in};
 ghost use Rattle.change_history.specs.History.{present, updated};
+ghost use Rattle.tracker_machine.specs.Known.{history_named, field_name};
 ghost use Rattle.tracker_machine.specs.Step.{Performs};
-ghost use Rattle.tracker_machine.specs.Known.{names_in, history_named};
-ghost use Rattle.tracker_machine.specs.Show.{show_refusal, show_answer, shown_issue, shown_value, with_shown};
-ghost use Rattle.workflow.specs.Same.{is_empty};
+ghost use Rattle.tracker_machine.specs.Show.{show_refusal, show_answer, show_answer_of, shown_issue, shown_fields, shown_value, with_shown};
+ghost use Rattle.tracker_core.specs.Check.{Checks};
 ghost use Rattle.tracker_core.specs.State.{Holds};
-ghost use Rattle.tracker_core.specs.Telling.{is_told, onto};
 
-use crate::empty::is_empty;
+use crate::check::{check_access, known_issue};
+use crate::field_name::field_name;
+use crate::numbers::field_numbers;
 use crate::state::State;
-use crate::unknown::{field_name, unknown};
-use crate::wants::open_fields;
+use crate::told::shown_value;
 use change_history::Issue;
-use fields::{FieldNo, Memory, Setup, Text, Value};
+use fields::{FieldNo, Memory, Permission, Setup, Text, UserNo};
 use std::alloc::Global;
-use tracker_calls::{Answer, Refusal, Reply, Shown, ShownField, ShownFields, Thing};
+use tracker_calls::{Answer, Refusal, Reply, ShownField, ShownFields};
 
 /// Tells the issue's present values.
-pub fn show(alloc: Global, state: &State, issue: &str) -> Reply
-    ensures { Performs (show_refusal state.now.machine issue.now) (show_answer state.now.machine issue.now)
+pub fn show(alloc: Global, state: &State, caller: UserNo, issue: &str) -> Reply
+    ensures { Performs (show_refusal state.now.machine caller.0 issue.now) (show_answer state.now.machine issue.now)
         state.now.machine state.now.machine result state.now.machine }
 {
-    let Some(found) = find(state, issue) else {
-        return unknown(alloc, Thing::Issue, issue);
+    let place = match check_show(alloc, state, caller, issue) {
+        Ok(place) => place,
+        Err(refusal) => return Reply::Refused(refusal),
     };
-    match shown(alloc, state.setup(), found) {
+    match shown(alloc, state, place) {
         Ok(answer) => Reply::Ok(answer),
         Err(_) => Reply::Refused(Refusal::Memory),
     }
 }
 
-fn find<'s>(state: &'s State, name: &str) -> Option<&'s Issue>
-    ensures history { option_map (λ i. i.now.history) result ≡ history_named state.now.machine name.now }
-    ensures holding { IfSome result (λ i. (f : FieldNo) → Holds (names_in state.now.machine.setup) f (present i.now.history f)) }
+/// The place of the issue, which the caller may browse.
+pub fn check_show(
+    alloc: Global,
+    state: &State,
+    caller: UserNo,
+    issue: &str,
+) -> Result<usize, Refusal>
+    ensures check { Checks (show_refusal state.now.machine caller.0 issue.now) result }
+    ensures place { IfOk result (λ place. history_named state.now.machine issue.now ≡ slice_get state.now.machine.histories place) }
+    ensures there { IfOk result (λ place. place < length state.now.machine.histories) }
 {
-    let place = state.place_of_issue(name)?;
-    state.issue_at(place)
+    let place = known_issue(alloc, state, issue)?;
+    check_access(alloc, state, caller, Permission::Browse, place)?;
+    Ok(place)
 }
 
-fn shown(alloc: Global, setup: &Setup, issue: &Issue) -> Result<Answer, Memory>
+fn shown(alloc: Global, state: &State, place: usize) -> Result<Answer, Memory>
+    requires { place < length state.now.machine.histories }
+    ensures { IfOk result (λ answer. answer ≡ show_answer_of state.now.machine (slice_get state.now.machine.histories place)) }
+{
+    let Some(issue) = state.issue_at(place) else {
+        unreachable!()
+    };
+    issue_answer(alloc, state.setup(), issue)
+}
+
+#[tactic(auto, unfolding(tracker_machine::specs::Show::shown_issue))]
+fn issue_answer(alloc: Global, setup: &Setup, issue: &Issue) -> Result<Answer, Memory>
     requires { (f : FieldNo) → Holds (names_in (parts setup.now)) f (present issue.now.history f) }
     ensures { IfOk result (λ answer. answer ≡ Answer.Show issue.now.history.at (shown_issue (names_in (parts setup.now)) issue.now.history) issue.now.history.key (updated issue.now.history)) }
 {
-    let fields = shown_fields(alloc, setup, issue)?;
+    let numbers = field_numbers(alloc, setup)?;
+    let fields = shown_fields(alloc, setup, issue, &numbers)?;
     let key = Text::copy_of(alloc, issue.key().as_str())?;
     Ok(Answer::Show {
         created: issue.created(),
@@ -55,58 +75,37 @@ fn shown(alloc: Global, setup: &Setup, issue: &Issue) -> Result<Answer, Memory>
     })
 }
 
-#[tactic(auto, unfolding(tracker_machine::specs::Show::shown_issue))]
-fn shown_fields(alloc: Global, setup: &Setup, issue: &Issue) -> Result<ShownFields, Memory>
+fn shown_fields(
+    alloc: Global,
+    setup: &Setup,
+    issue: &Issue,
+    numbers: &[FieldNo],
+) -> Result<ShownFields, Memory>
     requires { (f : FieldNo) → Holds (names_in (parts setup.now)) f (present issue.now.history f) }
-    ensures { IfOk result (λ fields. fields ≡ shown_issue (names_in (parts setup.now)) issue.now.history) }
+    ensures { IfOk result (λ fields. fields ≡ shown_fields (names_in (parts setup.now)) issue.now.history (map (λ f. f.0) numbers.now)) }
 {
     let mut fields = ShownFields::new(alloc);
-    for no in open_fields() {
-        let field = FieldNo(*no);
-        if let Some(shown) = shown_field(alloc, setup, field, issue.value(field))? {
-            fields.push(shown)?;
-        }
+    for field in numbers {
+        put_field(alloc, setup, issue, *field, &mut fields)?;
     }
     Ok(fields)
 }
 
-// A field as it is told; nothing where it is empty.
-fn shown_field(
+// Puts the field, unless it is empty, behind the others.
+fn put_field(
     alloc: Global,
     setup: &Setup,
+    issue: &Issue,
     field: FieldNo,
-    value: &Value,
-) -> Result<Option<ShownField>, Memory>
-    requires { Holds (names_in (parts setup.now)) field value.now }
-    ensures { IfOk result (λ o. (more : List ShownField) → with_shown (names_in (parts setup.now)) field.0 value.now more ≡ onto o more) }
+    fields: &mut ShownFields,
+) -> Result<(), Memory>
+    requires { Holds (names_in (parts setup.now)) field (present issue.now.history field) }
+    ensures { OnOk result (fields.new ≡ fields.old
+        ++ with_shown (field_name setup.now.field field.0) (shown_value (names_in (parts setup.now)) field.0 (present issue.now.history field)) []) }
 {
-    if is_empty(value) {
-        return Ok(None);
-    }
+    let Some(value) = shown_value(alloc, setup, field, issue.value(field))? else {
+        return Ok(());
+    };
     let name = Text::copy_of(alloc, field_name(setup, field))?;
-    let value = shown_value(alloc, setup, field, value)?;
-    Ok(Some(ShownField { name, value }))
-}
-
-// A value as it is told.
-fn shown_value(alloc: Global, setup: &Setup, field: FieldNo, value: &Value) -> Result<Shown, Memory>
-    requires holds { Holds (names_in (parts setup.now)) field value.now }
-    requires some { is_empty value.now ≡ false }
-    ensures { IfOk result (λ shown. shown ≡ shown_value (choices_of (names_in (parts setup.now)) field.0) value.now) }
-{
-    if !is_told(value) {
-        return Ok(Shown::Text(Text::copy_of(alloc, "")?));
-    }
-    Ok(Shown::Text(setup.text_of(alloc, field, value)?))
-}
-
-fn is_told(value: &Value) -> bool
-    ensures { result ≡ is_told value.now }
-{
-    match value {
-        Value::Text(_) | Value::Number(_) | Value::Choice(_) | Value::User(_) => true,
-        Value::Empty | Value::Date(_) | Value::Set(_) | Value::Labels(_) | Value::Sprint(_) => {
-            false
-        }
-    }
+    fields.push(ShownField { name, value })
 }

@@ -1,18 +1,19 @@
-ghost use Rattle.std.specs.Prelude.{◌≡◌, ◌≤◌, ◌<◌, ◌+◌, [], ◌∷◌, ◌++◌, true, length, map, slice_get, slice_set, option_map, string_bytes, IfOk, IfSome, OnOk, OnErr, Some};
+ghost use Rattle.std.specs.Prelude.{◌≡◌, ◌≤◌, ◌<◌, ◌+◌, [], ◌∷◌, ◌++◌, true, length, map, slice_get, slice_set, option_map, string_bytes, IfOk, IfSome, OnOk, OnErr, Some, sum_by};
 ghost use Rattle.workflow.specs.Laws.{AllFit};
 ghost use Rattle.field_forms.specs.Names.{place_named};
 ghost use Rattle.tracker_machine.specs.Create.{with_issue};
-ghost use Rattle.fields.specs.SetupParts.{parts};
+ghost use Rattle.fields.specs.SetupParts.{parts, names_in, may};
 ghost use Rattle.change_history.specs.History.{MayAdd};
 ghost use Rattle.tracker_machine.specs.Machine.{opening};
-ghost use Rattle.tracker_machine.specs.Known.{names_in, name_at, project_keys, issues_of, place_of_issue};
-ghost use Rattle.tracker_machine.specs.Checks.{entries_kept};
+ghost use Rattle.tracker_machine.specs.Transition.{transition_names};
+ghost use Rattle.tracker_machine.specs.Known.{name_at, project_keys, issues_of, place_of_issue};
+ghost use Rattle.tracker_machine.specs.Checks.{entries_kept, bytes_kept, entry_bytes, history_bytes};
 ghost use Rattle.tracker_core.specs.State.{counts_of, with_key, IsSettled, AllEntriesFit};
 
 use crate::issues::Issues;
 use crate::project_key::count_key;
 use change_history::{Group, Issue};
-use fields::{Memory, Moment, Project, ProjectNo, Setup, UserNo};
+use fields::{Memory, Moment, Permission, Project, ProjectNo, Setup, UserNo};
 use std::alloc::Global;
 use std::marker::Model;
 
@@ -47,6 +48,8 @@ pub struct NewIssue {
     pub key: String,
     /// How many issues each project has with it.
     pub counts: Vec<u32>,
+    /// Its text bytes.
+    pub bytes: u64,
 }
 
 impl State {
@@ -87,7 +90,8 @@ impl State {
 
     /// The user of that name, ASCII case ignored; `None` exactly where there is none.
     pub fn user_named(&self, name: &str) -> Option<UserNo>
-        ensures { option_map (λ no. no.0) result ≡ place_named name.now self.now.machine.setup.users }
+        ensures place { option_map (λ no. no.0) result ≡ place_named name.now self.now.machine.setup.users }
+        ensures there { IfSome result (λ no. no.0 < length self.now.machine.setup.users) }
     {
         self.setup.user_named(name)
     }
@@ -98,6 +102,21 @@ impl State {
         ensures there { IfSome result (λ no. no.0 < length self.now.machine.setup.project) }
     {
         self.setup.project_named(name)
+    }
+
+    /// The place of the transition of that name, ASCII case ignored; `None` exactly where there is none.
+    pub fn transition_named(&self, name: &str) -> Option<usize>
+        ensures place { result ≡ place_named name.now (transition_names self.now.machine.setup) }
+        ensures there { IfSome result (λ place. place < length self.now.machine.setup.transition) }
+    {
+        self.setup.transition_named(name)
+    }
+
+    /// Whether the user has the permission, in the project where it is one of a project.
+    pub fn may(&self, user: UserNo, permission: Permission, project: Option<ProjectNo>) -> bool
+        ensures { result ≡ may self.now.machine.setup user.0 permission (option_map (λ no. no.0) project) }
+    {
+        self.setup.may(user, permission, project)
     }
 
     /// How many issues there are.
@@ -113,6 +132,13 @@ impl State {
         ensures { result ≡ entries_kept self.now.machine.histories }
     {
         self.issues.entries()
+    }
+
+    /// How many text bytes all of them have, in opening values and entries.
+    pub fn byte_count(&self) -> u64
+        ensures { result ≡ bytes_kept self.now.machine.histories }
+    {
+        self.issues.bytes()
     }
 
     /// The place of the issue of that key, in exact letters; `None` exactly where there is none.
@@ -183,12 +209,14 @@ impl State {
         requires at { new.issue.history.at ≡ self.old.machine.moment }
         requires entries { new.issue.history.entries ≡ [] }
         requires fitting { AllFit (names_in self.old.machine.setup) new.issue.history.opening }
+        requires bytes { new.bytes ≡ history_bytes new.issue.history }
+        requires light { bytes_kept self.old.machine.histories + new.bytes ≤ 510_000_000 }
         requires counts { new.counts.items ≡ with_key (counts_of self.old.machine.setup.project self.old.machine.histories) self.old.machine.setup.project new.issue.history.key }
         ensures { self.new.machine ≡ with_issue self.old.machine new.issue.history }
     {
         self.change += 1;
         self.counts = new.counts;
-        self.issues.push(new.key, new.issue);
+        self.issues.push(new.key, new.issue, new.bytes);
     }
 
     /// Makes room for n entries more of the issue at a place, or leaves all as it is.
@@ -200,8 +228,8 @@ impl State {
         self.issues.reserve_entries(place, n)
     }
 
-    /// Adds a group to the issue at a place. It takes no memory.
-    pub fn add(&mut self, place: usize, group: Group)
+    /// Adds a group, whose text bytes are given too, to the issue at a place. It takes no memory.
+    pub fn add(&mut self, place: usize, group: Group, bytes: u64)
         requires there { place < length self.old.machine.histories }
         requires room { IfSome (slice_get self.old.rooms place) (λ room. length group.entries ≤ room) }
         requires few { entries_kept self.old.machine.histories + length group.entries ≤ 2_000_000 }
@@ -209,11 +237,13 @@ impl State {
         requires at { group.at ≡ self.old.machine.moment }
         requires group { IfSome (slice_get self.old.machine.histories place) (λ h. MayAdd h group.change group.at group.author group.entries) }
         requires fitting { AllEntriesFit (names_in self.old.machine.setup) group.entries }
+        requires bytes { bytes ≡ sum_by entry_bytes group.entries }
+        requires light { bytes_kept self.old.machine.histories + bytes ≤ 510_000_000 }
         ensures { IfSome (slice_get self.old.machine.histories place) (λ h. self.new.machine
             ≡ record self.old.machine { change = self.old.machine.change + 1; histories = slice_set self.old.machine.histories place (record h { entries = h.entries ++ group.entries }) }) }
     {
         self.change += 1;
-        self.issues.add(place, group);
+        self.issues.add(place, group, bytes);
     }
 }
 

@@ -1,16 +1,17 @@
 // What a call wants of an issue's fields: each value is read and tested, field by field.
-ghost use Rattle.std.specs.Prelude.{◌≡◌, not, find, option_map, IfOk, IfErr, IfSome, OnOk, ◌≤◌, ◌+◌, true, List, Result, length};
-ghost use Rattle.workflow.specs.Laws.{AllFit};
+ghost use Rattle.std.specs.Prelude.{◌≡◌, ◌∷◌, ◌++◌, [], option_map, IfOk, OnOk, Some, None, map, if◌then◌else◌};
 ghost use Rattle.std.specs.Option.{is_some};
-ghost use Rattle.fields.specs.SetupParts.{parts};
-ghost use Rattle.field_forms.specs.Known.{value_of, fits};
-ghost use Rattle.tracker_machine.specs.Known.{names_in, open_fields, is_open_field, is_field, names_field};
-ghost use Rattle.tracker_machine.specs.Wanted.{given_for, wanted_or, wanted_by, wanted_given, wanted_in, tested, with_field, gathered, changes_of};
+ghost use Rattle.field_forms.specs.Known.{value_of, listed_value_of};
+ghost use Rattle.fields.specs.SetupParts.{parts, names_in};
+ghost use Rattle.workflow.specs.Inputs.{least_with};
+ghost use Rattle.tracker_machine.specs.Wanted.{given_for, wanted_or, wanted_by, wanted_given, wanted_in, takes_text, sprint_wanted, sprint_number, is_fault, faults_in, field_at_fault, change_to, changes_to, changes_of};
 ghost use Rattle.tracker_machine.specs.Create.{member_wanted, status_wanted, reporter_wanted};
-ghost use Rattle.tracker_core.specs.Wants.{wants_of, IsOrMemory, ErrOrMemory, after_these};
+ghost use Rattle.tracker_core.specs.Wants.{wants_of};
 
+use crate::names::{given_for, sprint_number};
+use crate::numbers::field_numbers;
 use change_history::{Change, Changes};
-use fields::{FieldNo, Memory, Setup, UserNo, Value};
+use fields::{FieldNo, Memory, Setup, SprintNo, Text, UserNo, Value};
 use std::alloc::Global;
 use tracker_calls::{Given, GivenField};
 use tracker_machine::Wanted;
@@ -18,77 +19,24 @@ use tracker_machine::Wanted;
 /// The call, as far as it speaks of fields.
 #[derive(Clone, Copy, Debug)]
 pub enum Wants<'a> {
+    /// A create, which has members of its own for two fields.
     Create {
         caller: UserNo,
         issue_type: &'a str,
         summary: &'a str,
         set: &'a [GivenField],
     },
-    Edit {
+    /// An edit or a transition.
+    Set {
         set: &'a [GivenField],
     },
 }
 
-/// Why there are no changes.
+/// What comes of all fields: the changes, and the first field at fault by its number.
 #[derive(Debug, Drop)]
-pub enum ValueFault {
-    /// The first field whose value doesn't fit.
-    Unfit(FieldNo),
-
-    /// There was not enough memory.
-    Memory,
-}
-
-/// The fields that a call may speak of.
-pub fn open_fields() -> &'static [u16]
-    ensures { result.now ≡ open_fields }
-{
-    &[1, 2, 4, 5, 6, 12]
-}
-
-fn is_open_field(field: FieldNo) -> bool
-    ensures { result ≡ is_open_field field.0 }
-{
-    matches!(field.0, 1 | 2 | 4 | 5 | 6 | 12)
-}
-
-fn is_field(setup: &Setup, name: &str) -> bool
-    ensures { result ≡ is_field setup.now.field name.now }
-{
-    match setup.field_named(name) {
-        Some(field) => is_open_field(field),
-        None => false,
-    }
-}
-
-/// The first that is given for no field.
-pub fn first_strange<'s>(setup: &Setup, set: &'s [GivenField]) -> Option<&'s GivenField>
-    ensures { option_map (λ g. g.now) result ≡ find (λ g. not (is_field setup.now.field g.name)) set.now }
-{
-    set.iter()
-        .find(|given| !is_field(setup, given.name.as_str()))
-}
-
-fn names_field(setup: &Setup, field: FieldNo, name: &str) -> bool
-    ensures { result ≡ names_field setup.now.field field.0 name.now }
-{
-    match setup.field_named(name) {
-        Some(named) => named.0 == field.0,
-        None => false,
-    }
-}
-
-// What is given for a field: the last of its name counts.
-fn given_for<'s>(setup: &Setup, field: FieldNo, set: &'s [GivenField]) -> Option<&'s Given>
-    ensures { option_map (λ g. g.now) result ≡ given_for setup.now.field field.0 set.now }
-{
-    let mut last = None;
-    for given in set {
-        if names_field(setup, field, given.name.as_str()) {
-            last = Some(&given.given);
-        }
-    }
-    last
+pub struct Outcome {
+    pub changes: Changes,
+    pub fault: Option<FieldNo>,
 }
 
 fn is_given(setup: &Setup, field: FieldNo, set: &[GivenField]) -> bool
@@ -97,12 +45,64 @@ fn is_given(setup: &Setup, field: FieldNo, set: &[GivenField]) -> bool
     given_for(setup, field, set).is_some()
 }
 
+fn wanted_or(value: Option<Value>) -> Wanted
+    ensures { result ≡ wanted_or value }
+{
+    match value {
+        Some(value) => Wanted::Value(value),
+        None => Wanted::NoValue,
+    }
+}
+
 fn read(alloc: Global, setup: &Setup, field: FieldNo, text: &str) -> Result<Wanted, Memory>
     ensures { IfOk result (λ wanted. wanted ≡ wanted_or (value_of (names_in (parts setup.now)) field.0 text.now)) }
 {
-    match setup.value_of(alloc, field, text)? {
-        Some(value) => Ok(Wanted::Value(value)),
-        None => Ok(Wanted::NoValue),
+    let value = setup.value_of(alloc, field, text)?;
+    Ok(wanted_or(value))
+}
+
+fn read_list(alloc: Global, setup: &Setup, field: FieldNo, texts: &[Text]) -> Result<Wanted, Memory>
+    ensures { IfOk result (λ wanted. wanted ≡ wanted_or (listed_value_of (names_in (parts setup.now)) field.0 texts.now)) }
+{
+    let value = setup.listed_value_of(alloc, field, texts)?;
+    Ok(wanted_or(value))
+}
+
+// The fields fixVersion, labels and sprint take no text.
+fn takes_text(field: FieldNo) -> bool
+    ensures { result ≡ takes_text field.0 }
+{
+    !(field.0 == 9 || field.0 == 10 || field.0 == 13)
+}
+
+fn sprint_wanted(given: &Given) -> Wanted
+    ensures { result ≡ sprint_wanted (sprint_number given.now) }
+{
+    match sprint_number(given) {
+        Some(number) => Wanted::Value(Value::Sprint(SprintNo(number))),
+        None => Wanted::NoValue,
+    }
+}
+
+fn wanted_by(alloc: Global, setup: &Setup, field: FieldNo, given: &Given) -> Result<Wanted, Memory>
+    ensures { IfOk result (λ wanted. wanted ≡ wanted_by (names_in (parts setup.now)) field.0 given.now) }
+{
+    match given {
+        Given::Null => Ok(Wanted::Value(Value::Empty)),
+        Given::Text(text) => {
+            if !takes_text(field) {
+                return Ok(Wanted::NoValue);
+            }
+            read(alloc, setup, field, text.as_str())
+        }
+        Given::List(texts) => read_list(alloc, setup, field, texts.as_slice()),
+        Given::Number(_) => {
+            if field.0 == 13 {
+                return Ok(sprint_wanted(given));
+            }
+            Ok(Wanted::NoValue)
+        }
+        Given::Other => Ok(Wanted::NoValue),
     }
 }
 
@@ -117,11 +117,7 @@ fn wanted_given(
     if field.0 == 4 {
         return Ok(Wanted::NoValue);
     }
-    match given {
-        Given::Null => Ok(Wanted::Value(Value::Empty)),
-        Given::Text(text) => read(alloc, setup, field, text.as_str()),
-        Given::List(_) | Given::Number(_) | Given::Other => Ok(Wanted::NoValue),
-    }
+    wanted_by(alloc, setup, field, given)
 }
 
 fn wanted_in(
@@ -193,81 +189,84 @@ fn wanted(alloc: Global, setup: &Setup, wants: &Wants<'_>, field: FieldNo) -> Re
             6 => reporter_wanted(alloc, setup, *caller, set),
             _ => wanted_in(alloc, setup, field, set),
         },
-        Wants::Edit { set } => wanted_in(alloc, setup, field, set),
+        Wants::Set { set } => wanted_in(alloc, setup, field, set),
     }
 }
 
-// The value that a field becomes, if it becomes any.
-fn tested(setup: &Setup, field: FieldNo, wanted: Wanted) -> Result<Option<Value>, ValueFault>
-    ensures value { IsOrMemory (tested (names_in (parts setup.now)) field.0 wanted) result }
-    ensures fitting { IfOk result (λ o. IfSome o (λ v. fits (names_in (parts setup.now)) field.0 v ≡ true)) }
+fn is_fault(setup: &Setup, field: FieldNo, wanted: &Wanted) -> bool
+    ensures { result ≡ is_fault (names_in (parts setup.now)) field.0 wanted.now }
 {
     match wanted {
-        Wanted::Nothing => Ok(None),
-        Wanted::NoValue => Err(ValueFault::Unfit(field)),
-        Wanted::Value(value) => {
-            if setup.fits(field, &value) {
-                Ok(Some(value))
-            } else {
-                Err(ValueFault::Unfit(field))
-            }
-        }
+        Wanted::Nothing => false,
+        Wanted::NoValue => true,
+        Wanted::Value(value) => !setup.fits(field, value),
     }
 }
 
-fn tested_field(
+// The lesser of a field at fault and one that was found before.
+fn lesser(fault: Option<FieldNo>, field: FieldNo) -> FieldNo
+    ensures { Some result.0 ≡ least_with (option_map (λ f. f.0) fault) (field.0 ∷ []) }
+{
+    match fault {
+        Some(other) => FieldNo(other.0.min(field.0)),
+        None => field,
+    }
+}
+
+// The first field at fault, after one more field.
+fn fault_after(
+    setup: &Setup,
+    fault: Option<FieldNo>,
+    field: FieldNo,
+    wanted: &Wanted,
+) -> Option<FieldNo>
+    ensures { option_map (λ f. f.0) result
+        ≡ least_with (option_map (λ f. f.0) fault) (if is_fault (names_in (parts setup.now)) field.0 wanted.now then field.0 ∷ [] else []) }
+{
+    if is_fault(setup, field, wanted) {
+        return Some(lesser(fault, field));
+    }
+    fault
+}
+
+// Puts the change to what is wanted, if a value is, behind the others.
+fn put_change(changes: &mut Changes, field: FieldNo, wanted: Wanted) -> Result<(), Memory>
+    ensures { OnOk result (changes.new ≡ changes.old ++ change_to field.0 wanted) }
+{
+    match wanted {
+        Wanted::Value(value) => changes.push(Change { field, to: value }),
+        Wanted::Nothing | Wanted::NoValue => Ok(()),
+    }
+}
+
+/// What comes of some fields.
+fn outcome_of(
     alloc: Global,
     setup: &Setup,
     wants: &Wants<'_>,
-    field: FieldNo,
-) -> Result<Option<Value>, ValueFault>
-    ensures value { IsOrMemory (tested (names_in (parts setup.now)) field.0 (wants_of (parts setup.now) wants.now field.0)) result }
-    ensures fitting { IfOk result (λ o. IfSome o (λ v. fits (names_in (parts setup.now)) field.0 v ≡ true)) }
-{
-    match wanted(alloc, setup, wants, field) {
-        Ok(wanted) => tested(setup, field, wanted),
-        Err(_) => Err(ValueFault::Memory),
-    }
-}
-
-// Adds what the field becomes, if anything, to the changes.
-fn add_field(
-    alloc: Global,
-    setup: &Setup,
-    wants: &Wants<'_>,
-    field: FieldNo,
-    changes: &mut Changes,
-) -> Result<(), ValueFault>
-    ensures ok { OnOk result ((more : Result (List Change) FieldNo) →
-        after_these changes.old (with_field field.0 (tested (names_in (parts setup.now)) field.0 (wants_of (parts setup.now) wants.now field.0)) more) ≡ after_these changes.new more) }
-    ensures err { IfErr result (λ e. (more : Result (List Change) FieldNo) →
-        ErrOrMemory (after_these changes.old (with_field field.0 (tested (names_in (parts setup.now)) field.0 (wants_of (parts setup.now) wants.now field.0)) more)) e) }
-    ensures few { OnOk result (length changes.new ≤ length changes.old + 1) }
-    ensures fitting { OnOk result (AllFit (names_in (parts setup.now)) changes.old → AllFit (names_in (parts setup.now)) changes.new) }
-{
-    match tested_field(alloc, setup, wants, field) {
-        Ok(None) => Ok(()),
-        Ok(Some(value)) => match changes.push(Change { field, to: value }) {
-            Ok(()) => Ok(()),
-            Err(_) => Err(ValueFault::Memory),
-        },
-        Err(fault) => Err(fault),
-    }
-}
-
-/// What the fields become, by their numbers, or the first field at fault.
-#[tactic(auto, unfolding(tracker_machine::specs::Wanted::changes_of))]
-pub fn changes_of(alloc: Global, setup: &Setup, wants: &Wants<'_>) -> Result<Changes, ValueFault>
-    ensures changes { IsOrMemory (changes_of (names_in (parts setup.now)) (wants_of (parts setup.now) wants.now)) result }
-    ensures few { IfOk result (λ changes. length changes ≤ 6) }
-    ensures fitting { IfOk result (AllFit (names_in (parts setup.now))) }
+    numbers: &[FieldNo],
+) -> Result<Outcome, Memory>
+    ensures fault { IfOk result (λ outcome. option_map (λ f. f.0) outcome.fault
+        ≡ least_with None (faults_in (names_in (parts setup.now)) (wants_of (parts setup.now) wants.now) (map (λ f. f.0) numbers.now))) }
+    ensures changes { IfOk result (λ outcome. outcome.changes ≡ changes_to (wants_of (parts setup.now) wants.now) (map (λ f. f.0) numbers.now)) }
 {
     let mut changes = Changes::new(alloc);
-    for no in open_fields() {
-        match add_field(alloc, setup, wants, FieldNo(*no), &mut changes) {
-            Ok(()) => {}
-            Err(fault) => return Err(fault),
-        }
+    let mut fault = None;
+    for field in numbers {
+        let wanted = wanted(alloc, setup, wants, *field)?;
+        fault = fault_after(setup, fault, *field, &wanted);
+        put_change(&mut changes, *field, wanted)?;
     }
-    Ok(changes)
+    Ok(Outcome { changes, fault })
+}
+
+/// The changes of all fields of which values are wanted, and the first field at fault, if any is.
+#[tactic(auto, unfolding(tracker_machine::specs::Wanted::changes_of, tracker_machine::specs::Wanted::field_at_fault))]
+pub fn outcome_of_all(alloc: Global, setup: &Setup, wants: &Wants<'_>) -> Result<Outcome, Memory>
+    ensures fault { IfOk result (λ outcome. option_map (λ f. f.0) outcome.fault
+        ≡ field_at_fault (names_in (parts setup.now)) (wants_of (parts setup.now) wants.now)) }
+    ensures changes { IfOk result (λ outcome. outcome.changes ≡ changes_of (names_in (parts setup.now)) (wants_of (parts setup.now) wants.now)) }
+{
+    let numbers = field_numbers(alloc, setup)?;
+    outcome_of(alloc, setup, wants, &numbers)
 }

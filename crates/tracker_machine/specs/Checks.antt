@@ -1,18 +1,25 @@
 -- Checks, the first of which that fails refuses a call.
-use Rattle.std.specs.Prelude.{ℕ, Bool, List, Option, Some, None, Result, Ok, Err, if◌then◌else◌, find, not, option_map, length, nat_lt, nat_le, sum_by}
-use Rattle.field_values.specs.declared.numbers.FieldNo.{FieldNo}
-use Rattle.change_history.specs.declared.change.Change.{Change}
+use Rattle.std.specs.Prelude.{ℕ, ◌+◌, ◌*◌, Bool, List, [], ◌∷◌, Option, Some, None, if◌then◌else◌, not, option_map, option_and_then, length, nat_lt, nat_le, sum_by, decimal, slice_get, codes}
+use Rattle.field_values.specs.declared.field.Field.{Field}
+use Rattle.field_values.specs.declared.value.Value.{Value}
+use Rattle.field_values.specs.declared.value.Value.TheVariants as value
+use Rattle.field_values.specs.declared.rules.Permission.{Permission}
 use Rattle.field_forms.specs.Names.{place_named}
+use Rattle.fields.specs.SetupParts.{names_in, may}
+use Rattle.change_history.specs.declared.entry.Entry.{Entry}
+use Rattle.change_history.specs.History.{History}
 use Rattle.tracker_calls.specs.Given.{has_twins}
+use Rattle.tracker_calls.specs.Part.{part_fault}
+use Rattle.tracker_calls.specs.declared.call.Part.{Part}
 use Rattle.tracker_calls.specs.declared.given.GivenField.{GivenField}
 use Rattle.tracker_calls.specs.declared.reply.Refusal.{Refusal}
 use Rattle.tracker_calls.specs.declared.reply.Refusal.TheVariants as refusal
 use Rattle.tracker_calls.specs.declared.reply.Limit.TheVariants as limit
 use Rattle.tracker_calls.specs.declared.reply.Thing.TheVariants as thing
-use Rattle.std.specs.Prelude.{codes}
-use Rattle.change_history.specs.History.{History}
+use Rattle.tracker_machine.specs.declared.wanted.Wanted.{Wanted}
 use Rattle.tracker_machine.specs.Machine.{Machine}
-use Rattle.tracker_machine.specs.Known.{is_field, field_name}
+use Rattle.tracker_machine.specs.Known.{is_field, names_field, field_name, project_keys, name_at}
+use Rattle.tracker_machine.specs.Wanted.{given_for, sprint_number, field_at_fault}
 
 -- the first of two checks that fails
 abbrev pub or_then : Option Refusal → Option Refusal → Option Refusal
@@ -27,17 +34,54 @@ unless_known (Some x) r = None
 abbrev pub only_if : Bool → Refusal → Option Refusal
 only_if holds r = if holds then None else Some r
 
+-- ---- the form of a call
+
 -- the names in `set` don't differ in case alone
 abbrev pub twins_refusal : List GivenField → Option Refusal
 twins_refusal set = if has_twins set then Some (refusal.Form (codes "set")) else None
+
+-- a part is in range
+abbrev pub part_refusal : ℕ → Part → Option Refusal
+part_refusal most part = option_map refusal.Form (part_fault most part)
+
+-- ---- names
 
 -- the caller is one of the setup's users
 abbrev pub caller_refusal : Machine → List ℕ → Option Refusal
 caller_refusal m caller = unless_known (place_named caller m.setup.users) (refusal.Unknown thing.User caller)
 
--- each name in `set` is a field's
-abbrev pub fields_refusal : Machine → List GivenField → Option Refusal
-fields_refusal m set = option_map (λ g. refusal.Unknown thing.Field g.name) (find (λ g. not (is_field m.setup.field g.name)) set)
+-- the sprint into which `set` puts the issue
+abbrev pub sprint_given : List Field → List GivenField → Option ℕ
+sprint_given fields set = option_and_then sprint_number (given_for fields 13 set)
+
+-- that sprint is there; there are none yet
+abbrev pub sprint_refusal : Option ℕ → Option Refusal
+sprint_refusal None = None
+sprint_refusal (Some k) = Some (refusal.Unknown thing.Sprint (decimal k))
+
+-- the name is a field's, and where it is that of the sprint field, the sprint is there
+abbrev pub name_refusal : List Field → List GivenField → List ℕ → Option Refusal
+name_refusal fields set name =
+    if is_field fields name
+    then (if names_field fields 13 name then sprint_refusal (sprint_given fields set) else None)
+    else Some (refusal.Unknown thing.Field name)
+
+-- the same of each name in a list, one after the other
+abbrev pub names_refusal : List Field → List GivenField → List GivenField → Option Refusal
+names_refusal fields set [] = None
+names_refusal fields set (g ∷ gs) = or_then (name_refusal fields set g.name) (names_refusal fields set gs)
+
+abbrev pub set_refusal : Machine → List GivenField → Option Refusal
+set_refusal m set = names_refusal m.setup.field set set
+
+-- ---- permissions
+
+-- the caller has a permission in the project at a place
+abbrev pub permission_refusal : Machine → ℕ → Permission → Option ℕ → Option Refusal
+permission_refusal m caller permission place =
+    only_if (may m.setup caller permission place) (refusal.Forbidden permission (option_map (name_at (project_keys m.setup)) place))
+
+-- ---- limits
 
 -- fewer than 50,000 issues are kept
 abbrev pub issues_refusal : Machine → Option Refusal
@@ -47,11 +91,34 @@ issues_refusal m = only_if (nat_lt (length m.histories) 50_000) (refusal.Limit l
 abbrev pub entries_kept : List History → ℕ
 entries_kept histories = sum_by (λ h. length h.entries) histories
 
--- an edit finds room for an entry of each of the 43 fields that an issue can have
+-- a change finds room for an entry of each of the 43 fields that an issue can have
 abbrev pub entries_refusal : Machine → Option Refusal
 entries_refusal m = only_if (nat_le (entries_kept m.histories) 1_999_957) (refusal.Limit limit.Entries)
 
+-- the bytes of a text or of labels, and 62 for each version
+abbrev pub text_bytes : Value → ℕ
+text_bytes (value.Text text) = length text
+text_bytes (value.Labels labels) = sum_by length labels
+text_bytes (value.Set choices) = 62 * length choices
+text_bytes _ = 0
+
+-- those of both sides of an entry
+abbrev pub entry_bytes : Entry → ℕ
+entry_bytes e = text_bytes e.from + text_bytes e.to
+
+-- those of opening values and entries
+abbrev pub history_bytes : History → ℕ
+history_bytes h = sum_by (λ c. text_bytes c.to) h.opening + sum_by entry_bytes h.entries
+
+abbrev pub bytes_kept : List History → ℕ
+bytes_kept histories = sum_by history_bytes histories
+
+-- a change finds room for the text bytes that one call can add
+abbrev pub bytes_refusal : Machine → Option Refusal
+bytes_refusal m = only_if (nat_le (bytes_kept m.histories) 499_800_000) (refusal.Limit limit.TextBytes)
+
+-- ---- values
+
 -- each value fits its field
-abbrev pub values_refusal : Machine → Result (List Change) FieldNo → Option Refusal
-values_refusal m (Ok changes) = None
-values_refusal m (Err f) = Some (refusal.Unfit (field_name m.setup.field f.0))
+abbrev pub values_refusal : Machine → (ℕ → Wanted) → Option Refusal
+values_refusal m wants = option_map (λ n. refusal.Unfit (field_name m.setup.field n)) (field_at_fault (names_in m.setup) wants)

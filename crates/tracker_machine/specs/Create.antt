@@ -1,11 +1,12 @@
 -- The call `create`: a new issue of a project.
-use Rattle.std.specs.Prelude.{ℕ, ◌+◌, ◌==◌, false, not, List, [], ◌∷◌, ◌++◌, filter, length, Option, Result, Ok, Err, if◌then◌else◌}
+use Rattle.std.specs.Prelude.{ℕ, ◌+◌, ◌==◌, false, not, List, [], ◌∷◌, ◌++◌, filter, length, Option, if◌then◌else◌}
 use Rattle.std.specs.Option.{is_some, option_map_or}
-use Rattle.field_values.specs.declared.numbers.FieldNo.{FieldNo}
+use Rattle.field_values.specs.declared.rules.Permission.TheVariants as permission
 use Rattle.field_values.specs.declared.value.Value.TheVariants.{Choice, User}
 use Rattle.field_forms.specs.Known.{Names, value_of}
 use Rattle.field_forms.specs.Names.{place_named}
 use Rattle.field_values.specs.Parts.{Parts}
+use Rattle.fields.specs.SetupParts.{names_in}
 use Rattle.change_history.specs.declared.change.Change.{Change}
 use Rattle.change_history.specs.History.{History}
 use Rattle.workflow.specs.Same.{is_empty}
@@ -18,9 +19,9 @@ use Rattle.tracker_calls.specs.declared.reply.Thing.TheVariants as thing
 use Rattle.tracker_machine.specs.declared.wanted.Wanted.{Wanted}
 use Rattle.tracker_machine.specs.declared.wanted.Wanted.TheVariants as wanted
 use Rattle.tracker_machine.specs.Machine.{Machine}
-use Rattle.tracker_machine.specs.Known.{names_in, project_keys, known_place, name_at, next_key}
+use Rattle.tracker_machine.specs.Known.{project_keys, known_place, name_at, next_key}
 use Rattle.tracker_machine.specs.Wanted.{given_for, wanted_or, wanted_given, wanted_in, changes_of}
-use Rattle.tracker_machine.specs.Checks.{or_then, unless_known, fields_refusal, issues_refusal, values_refusal}
+use Rattle.tracker_machine.specs.Checks.{or_then, unless_known, set_refusal, permission_refusal, issues_refusal, bytes_refusal, values_refusal}
 
 -- type and summary have members of their own, and aren't given in `set` as well
 abbrev pub member_wanted : Names → ℕ → List GivenField → List ℕ → Wanted
@@ -42,16 +43,15 @@ create_wants setup caller issue_type summary set n =
     else if n == 6 then reporter_wanted setup caller set
     else wanted_in (names_in setup) n set
 
--- what the new issue's fields are to hold, or the first field at fault
-abbrev pub create_changes : Machine → ℕ → List ℕ → List ℕ → List GivenField → Result (List Change) FieldNo
-create_changes m caller issue_type summary set = changes_of (names_in m.setup) (create_wants m.setup caller issue_type summary set)
-
 abbrev pub create_refusal : Machine → ℕ → List ℕ → List ℕ → List ℕ → List GivenField → Option Refusal
 create_refusal m caller project issue_type summary set =
     or_then (unless_known (place_named project (project_keys m.setup)) (refusal.Unknown thing.Project project))
-    (or_then (fields_refusal m set)
+    (or_then (set_refusal m set)
+    (or_then (permission_refusal m caller permission.Browse (place_named project (project_keys m.setup)))
+    (or_then (permission_refusal m caller permission.Create (place_named project (project_keys m.setup)))
     (or_then (issues_refusal m)
-    (values_refusal m (create_changes m caller issue_type summary set))))
+    (or_then (bytes_refusal m)
+    (values_refusal m (create_wants m.setup caller issue_type summary set)))))))
 
 -- the project's key as the setup spells it
 abbrev pub spelled_key : Machine → List ℕ → List ℕ
@@ -61,9 +61,8 @@ abbrev pub create_answer : Machine → List ℕ → Answer
 create_answer m project = answer.Create false (m.change + 1) (next_key m (spelled_key m project))
 
 -- the changes that aren't to nothing
-abbrev pub opening_of : Result (List Change) FieldNo → List Change
-opening_of (Ok changes) = filter (λ c. not (is_empty c.to)) changes
-opening_of (Err f) = []
+abbrev pub filled : List Change → List Change
+filled changes = filter (λ c. not (is_empty c.to)) changes
 
 abbrev pub opened : Machine → ℕ → List ℕ → List Change → History
 opened m caller project opening = record {
@@ -81,4 +80,4 @@ with_issue m h = record m { change = m.change + 1; histories = m.histories ++ h 
 
 abbrev pub created : Machine → ℕ → List ℕ → List ℕ → List ℕ → List GivenField → Machine
 created m caller project issue_type summary set =
-    with_issue m (opened m caller (spelled_key m project) (opening_of (create_changes m caller issue_type summary set)))
+    with_issue m (opened m caller (spelled_key m project) (filled (changes_of (names_in m.setup) (create_wants m.setup caller issue_type summary set))))

@@ -1,29 +1,15 @@
 -- What names stand for.
 use Rattle.std.specs.Prelude.{ℕ, suc, ◌+◌, ◌-◌, ◌==◌, Bool, false, List, [], ◌∷◌, ◌++◌, map, sum_by, slice_get, unwrap_or, decimal, Option, Some, None, option_map, option_and_then, if◌then◌else◌}
-use Rattle.std.specs.List.{list_any}
-use Rattle.std.specs.Option.{option_or, option_map_or}
+use Rattle.std.specs.Option.{is_some, option_or, option_map_or}
 use Rattle.std.specs.Str.{bytes_eq}
 use Rattle.field_values.specs.declared.field.Field.{Field}
 use Rattle.field_forms.specs.BuiltIn.{field_names}
 use Rattle.field_forms.specs.Cuts.{cut_at}
-use Rattle.field_forms.specs.Known.{Names, field_named, own_field}
+use Rattle.field_forms.specs.Known.{field_named, own_field}
 use Rattle.field_forms.specs.Names.{place_named}
 use Rattle.field_values.specs.Parts.{Parts}
 use Rattle.change_history.specs.History.{History}
 use Rattle.tracker_machine.specs.Machine.{Machine}
-
--- the names that a value may name
-abbrev pub names_in : Parts → Names
-names_in setup = record {
-  users = setup.users;
-  types = setup.types;
-  statuses = map (λ s. s.name) setup.status;
-  priorities = setup.priorities;
-  resolutions = setup.resolutions;
-  versions = setup.versions;
-  groups = map (λ g. g.name) setup.group;
-  fields = setup.field;
-}
 
 abbrev pub project_keys : Parts → List (List ℕ)
 project_keys setup = map (λ p. p.key) setup.project
@@ -38,12 +24,12 @@ name_at names place = unwrap_or (slice_get names place) []
 
 -- ---- fields
 
--- the fields that a call may speak of, by their numbers
-abbrev pub open_fields : List ℕ
-open_fields = 1 ∷ 2 ∷ 4 ∷ 5 ∷ 6 ∷ 12 ∷ []
+-- the fields of an issue, by their numbers: those that every tracker has, and the setup's own in its order
+abbrev pub built_in_numbers : List ℕ
+built_in_numbers = 1 ∷ 2 ∷ 3 ∷ 4 ∷ 5 ∷ 6 ∷ 7 ∷ 8 ∷ 9 ∷ 10 ∷ 11 ∷ 12 ∷ 13 ∷ []
 
-abbrev pub is_open_field : ℕ → Bool
-is_open_field n = list_any (λ f. f == n) open_fields
+abbrev pub field_numbers : List Field → List ℕ
+field_numbers fields = built_in_numbers ++ map (λ f. f.number.0) fields
 
 -- the name of a field as the setup spells it
 abbrev pub field_name : List Field → ℕ → List ℕ
@@ -53,9 +39,9 @@ field_name fields n = unwrap_or (option_or (slice_get field_names (n - 1)) (opti
 abbrev pub names_field : List Field → ℕ → List ℕ → Bool
 names_field fields n name = option_map_or (λ k. k == n) (field_named fields name) false
 
--- the name is that of a field that a call may speak of
+-- the name is a field's
 abbrev pub is_field : List Field → List ℕ → Bool
-is_field fields name = option_map_or is_open_field (field_named fields name) false
+is_field fields name = is_some (field_named fields name)
 
 -- ---- issues
 

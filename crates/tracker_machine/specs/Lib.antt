@@ -2,9 +2,13 @@ pub mod Machine
 pub mod Known
 pub mod Wanted
 pub mod Checks
+pub mod Access
+pub mod Group
 pub mod Create
 pub mod Edit
+pub mod Transition
 pub mod Show
+pub mod Entries
 pub mod Tick
 pub mod Refusal
 pub mod Answer

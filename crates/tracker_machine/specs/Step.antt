@@ -12,14 +12,17 @@ use Rattle.tracker_machine.specs.Refusal.{first_refusal, user_of}
 use Rattle.tracker_machine.specs.Answer.{answer_of}
 use Rattle.tracker_machine.specs.Create.{created}
 use Rattle.tracker_machine.specs.Edit.{edited}
+use Rattle.tracker_machine.specs.Transition.{transitioned}
 use Rattle.tracker_machine.specs.Tick.{ticked}
 
 -- the state after a call that isn't refused
-unfoldable pub changed : Machine → List ℕ → Call → Machine
-changed m caller (call.Create project issue_type summary set) = created m (user_of m caller) project issue_type summary set
-changed m caller (call.Edit issue set) = edited m (user_of m caller) issue set
-changed m caller (call.Tick to) = ticked m to
-changed m caller (call.Show issue) = m
+unfoldable pub changed : Machine → ℕ → Call → Machine
+changed m user (call.Create project issue_type summary set) = created m user project issue_type summary set
+changed m user (call.Edit issue set) = edited m user issue set
+changed m user (call.Transition issue transition set) = transitioned m user issue transition set
+changed m user (call.Tick to) = ticked m to
+changed m user (call.Show issue) = m
+changed m user (call.History issue part) = m
 
 -- a refused call has its refusal as the reply, and leaves all as it is
 abbrev pub refused_or : Option Refusal → Answer → Reply
@@ -31,10 +34,10 @@ same_or None old next = next
 same_or (Some r) old next = old
 
 unfoldable pub reply_of : Machine → List ℕ → Call → Reply
-reply_of m caller c = refused_or (first_refusal m caller c) (answer_of m caller c)
+reply_of m caller c = refused_or (first_refusal m caller c) (answer_of m (user_of m caller) c)
 
 unfoldable pub next_of : Machine → List ℕ → Call → Machine
-next_of m caller c = same_or (first_refusal m caller c) m (changed m caller c)
+next_of m caller c = same_or (first_refusal m caller c) m (changed m (user_of m caller) c)
 
 -- A call is refused, and all is as it was, or it has its answer and leads to the next state. Want of
 -- memory may come in place of either, and then all is as it was.
@@ -48,4 +51,5 @@ Performs expected answer next old (reply.Refused r) new = IsRefused expected old
 
 -- a call is performed as the abstract tracker performs it
 unfoldable pub IsStep : Machine → List ℕ → Call → Reply → Machine → Type 0
-IsStep old caller c result new = Performs (first_refusal old caller c) (answer_of old caller c) (changed old caller c) old result new
+IsStep old caller c result new =
+    Performs (first_refusal old caller c) (answer_of old (user_of old caller) c) (changed old (user_of old caller) c) old result new

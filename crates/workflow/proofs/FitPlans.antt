@@ -13,9 +13,9 @@ use Rattle.field_values.specs.declared.rules.PostFunction.TheVariants.{Set, Clea
 use Rattle.field_values.specs.declared.parts.Project.{Project}
 use Rattle.field_values.specs.declared.parts.Transition.{Transition}
 use Rattle.field_values.specs.declared.status.Status.{Status}
-use Rattle.fields.specs.declared.setup.Setup.{Setup}
+use Rattle.field_values.specs.Parts.{Parts}
 use Rattle.field_forms.specs.Known.{Names, form_of, choices_of, fits}
-use Rattle.fields.specs.SetupParts.{names}
+use Rattle.fields.specs.SetupParts.{names_in}
 use Rattle.change_history.specs.declared.change.Change.{Change}
 use Rattle.change_history.specs.History.{History, present}
 use Rattle.workflow.specs.declared.fault.PlanFault.{PlanFault}
@@ -27,6 +27,7 @@ use Rattle.workflow.specs.PostFunctions.{change, lead_of, post_change, with_post
 use Rattle.workflow.specs.Plan.{first_fault, all_changes, planned}
 use Rattle.workflow.specs.Laws.{AllFit, PostFits, AllPostFit, AreLeadsKnown, IsSound, EditFits, PlanFits}
 use Rattle.workflow.proofs.Differing.{net_is}
+use Rattle.workflow.specs.Difference.{AreNews}
 
 -- ---- inputs that aren't refused
 
@@ -174,46 +175,46 @@ lead_fits_at names projects place None known is = nobody_fits names
 lead_fits_at names projects None (Some p) known is = absurd (cc is)
 lead_fits_at names projects (Some n) (Some p) known is = user_fits names p.lead (lead_known (length names.users) projects n p known is)
 
-lead_fits : (setup : Setup) (h : History) → AreLeadsKnown (length setup.users) setup.project → fits (names setup) 5 (lead_of setup h) ≡ true
+lead_fits : (setup : Parts) (h : History) → AreLeadsKnown (length setup.users) setup.project → fits (names_in setup) 5 (lead_of setup h) ≡ true
 unfolding lead_of
 lead_fits setup h known =
-    lead_fits_at (names setup) setup.project (project_of setup h) (option_and_then (slice_get setup.project) (project_of setup h)) known refl
+    lead_fits_at (names_in setup) setup.project (project_of setup h) (option_and_then (slice_get setup.project) (project_of setup h)) known refl
 
-post_fits : (setup : Setup) (h : History) (caller : UserNo) (values : FieldNo → Value) (post : PostFunction)
-    → PostFits (names setup) post → AreLeadsKnown (length setup.users) setup.project → caller.0 < length setup.users → fits (names setup) 6 (values reporter) ≡ true
-    → let c = post_change setup h caller values post in (fits (names setup) c.field.0 c.to ≡ true) × (c.field.0 ≢ 4)
+post_fits : (setup : Parts) (h : History) (caller : UserNo) (values : FieldNo → Value) (post : PostFunction)
+    → PostFits (names_in setup) post → AreLeadsKnown (length setup.users) setup.project → caller.0 < length setup.users → fits (names_in setup) 6 (values reporter) ≡ true
+    → let c = post_change setup h caller values post in (fits (names_in setup) c.field.0 c.to ≡ true) × (c.field.0 ≢ 4)
 post_fits setup h caller values (Set field v) fit leads known reports = (fit.1, fit.0)
 post_fits setup h caller values (Clear field) fit leads known reports = (fit.1, fit.0)
-post_fits setup h caller values AssignCaller fit leads known reports = (user_fits (names setup) caller known, (λ e. cc))
-post_fits setup h caller values AssignReporter fit leads known reports = (reporter_fits (names setup) (values reporter) reports, (λ e. cc))
+post_fits setup h caller values AssignCaller fit leads known reports = (user_fits (names_in setup) caller known, (λ e. cc))
+post_fits setup h caller values AssignReporter fit leads known reports = (reporter_fits (names_in setup) (values reporter) reports, (λ e. cc))
 post_fits setup h caller values AssignLead fit leads known reports = (lead_fits setup h leads, (λ e. cc))
-post_fits setup h caller values (Resolution choice) fit leads known reports = (resolution_fits (names setup) choice fit, (λ e. cc))
+post_fits setup h caller values (Resolution choice) fit leads known reports = (resolution_fits (names_in setup) choice fit, (λ e. cc))
 
-pub posts_fit : (setup : Setup) (h : History) (caller : UserNo) (so_far : List Change) (posts : List PostFunction)
-    → AllPostFit (names setup) posts → AreLeadsKnown (length setup.users) setup.project → caller.0 < length setup.users → fits (names setup) 6 (present h reporter) ≡ true
-    → AllFit (names setup) so_far
-    → AllFit (names setup) (with_post setup h caller so_far posts)
+pub posts_fit : (setup : Parts) (h : History) (caller : UserNo) (so_far : List Change) (posts : List PostFunction)
+    → AllPostFit (names_in setup) posts → AreLeadsKnown (length setup.users) setup.project → caller.0 < length setup.users → fits (names_in setup) 6 (present h reporter) ≡ true
+    → AllFit (names_in setup) so_far
+    → AllFit (names_in setup) (with_post setup h caller so_far posts)
     × (last_value (present h status) (with_post setup h caller so_far posts) status ≡ last_value (present h status) so_far status)
 posts_fit setup h caller so_far [] fit leads known reports before = (before, refl)
 posts_fit setup h caller so_far (post ∷ posts) fit leads known reports before =
     let next = post_change setup h caller (with_changes (present h) so_far) post in
-    let now = post_fits setup h caller (with_changes (present h) so_far) post fit.0 leads known (value_fits (names setup) (present h reporter) so_far reporter reports before) in
-    let more = posts_fit setup h caller (so_far ++ next ∷ []) posts fit.1 leads known reports (AllFit-append (names setup) so_far (next ∷ []) before (now.0, tt)) in
+    let now = post_fits setup h caller (with_changes (present h) so_far) post fit.0 leads known (value_fits (names_in setup) (present h reporter) so_far reporter reports before) in
+    let more = posts_fit setup h caller (so_far ++ next ∷ []) posts fit.1 leads known reports (AllFit-append (names_in setup) so_far (next ∷ []) before (now.0, tt)) in
     (more.0, more.1 ∙ last_value-append (present h status) so_far (next ∷ []) status ∙ no_status (last_value (present h status) so_far status) (next ∷ []) (now.1, tt))
 
 length-names : (ss : List Status) → length (map (λ s. s.name) ss) ≡ length ss
 length-names [] = refl
 length-names (s ∷ ss) = omega (arith, length-names ss)
 
-pub all_fit : (setup : Setup) (h : History) (caller : UserNo) (t : Transition) (inputs : List Change)
-    → IsSound setup t → caller.0 < length setup.users → fits (names setup) 6 (present h reporter) ≡ true → AllFit (names setup) inputs
-    → AllFit (names setup) (all_changes setup h caller t inputs)
+pub all_fit : (setup : Parts) (h : History) (caller : UserNo) (t : Transition) (inputs : List Change)
+    → IsSound setup t → caller.0 < length setup.users → fits (names_in setup) 6 (present h reporter) ≡ true → AllFit (names_in setup) inputs
+    → AllFit (names_in setup) (all_changes setup h caller t inputs)
     × (last_value (present h status) (all_changes setup h caller t inputs) status ≡ value.Choice t.to)
 unfolding all_changes
 all_fit setup h caller t inputs sound known reports fit =
     let to : Change = change status (value.Choice t.to) in
-    let there : t.to.0 < length (names setup).statuses = omega (arith, sound.to, length-names setup.status) in
-    let first = AllFit-append (names setup) inputs (to ∷ []) fit (status_fits (names setup) t.to there, tt) in
+    let there : t.to.0 < length (names_in setup).statuses = omega (arith, sound.to, length-names setup.status) in
+    let first = AllFit-append (names_in setup) inputs (to ∷ []) fit (status_fits (names_in setup) t.to there, tt) in
     let posts = posts_fit setup h caller (inputs ++ to ∷ []) t.post sound.post sound.leads known reports first in
     (posts.0, posts.1 ∙ last_value-append (present h status) inputs (to ∷ []) status)
 
@@ -227,26 +228,39 @@ none_map : {A : Type 0} (f : A → PlanFault) (x : Option A) → option_map f x 
 none_map f None none = refl
 none_map f (Some x) none = absurd (cc none)
 
-nothing_refused : (setup : Setup) (h : History) (caller : UserNo) (t : Transition) (inputs : List Change) (at : ℕ)
-    → first_fault setup h caller t inputs at ≡ None → refused_input (names setup) inputs ≡ None
+nothing_refused : (setup : Parts) (h : History) (caller : UserNo) (t : Transition) (inputs : List Change) (at : ℕ)
+    → first_fault setup h caller t inputs at ≡ None → refused_input (names_in setup) inputs ≡ None
 unfolding first_fault
 nothing_refused setup h caller t inputs at none = none_map _ _ (none_or _ _ (none_or _ _ none).1).0
 
-planned_is : (setup : Setup) (h : History) (caller : UserNo) (t : Transition) (inputs : List Change) → planned setup h caller t inputs ≡ net_changes (present h) (all_changes setup h caller t inputs)
+planned_is : (setup : Parts) (h : History) (caller : UserNo) (t : Transition) (inputs : List Change) → planned setup h caller t inputs ≡ net_changes (present h) (all_changes setup h caller t inputs)
 unfolding planned
 planned_is setup h caller t inputs = refl
 
-pub plan_fits : (setup : Setup) (h : History) (caller : UserNo) (t : Transition) (inputs : List Change) (at : ℕ)
-    → IsSound setup t → caller.0 < length setup.users → fits (names setup) 6 (present h reporter) ≡ true
+-- the changes of a plan fit, whatever its checks say
+pub planned_fit : (setup : Parts) (h : History) (caller : UserNo) (t : Transition) (inputs : List Change)
+    → IsSound setup t → caller.0 < length setup.users → fits (names_in setup) 6 (present h reporter) ≡ true → AllFit (names_in setup) inputs
+    → AllFit (names_in setup) (planned setup h caller t inputs)
+planned_fit setup h caller t inputs sound known reports fit =
+    subst (AllFit (names_in setup)) (sym (planned_is setup h caller t inputs))
+    (AllFit-net (names_in setup) (present h) (all_changes setup h caller t inputs) (all_fit setup h caller t inputs sound known reports fit).0)
+
+-- they are each of another value than the present one, by rising field number
+pub planned_news : (setup : Parts) (h : History) (caller : UserNo) (t : Transition) (inputs : List Change) → AreNews (present h) 0 (planned setup h caller t inputs)
+planned_news setup h caller t inputs =
+    subst (AreNews (present h) 0) (sym (planned_is setup h caller t inputs)) (net_is (present h) (all_changes setup h caller t inputs)).news
+
+pub plan_fits : (setup : Parts) (h : History) (caller : UserNo) (t : Transition) (inputs : List Change) (at : ℕ)
+    → IsSound setup t → caller.0 < length setup.users → fits (names_in setup) 6 (present h reporter) ≡ true
     → first_fault setup h caller t inputs at ≡ None → PlanFits setup h caller t inputs
 plan_fits setup h caller t inputs at sound known reports none =
-    let fit = unrefused_fit (names setup) inputs (nothing_refused setup h caller t inputs at none) in
+    let fit = unrefused_fit (names_in setup) inputs (nothing_refused setup h caller t inputs at none) in
     let all = all_fit setup h caller t inputs sound known reports fit.0 in
-    let net = AllFit-net (names setup) (present h) (all_changes setup h caller t inputs) all.0 in
-    let changes : AllFit (names setup) (planned setup h caller t inputs) = subst (AllFit (names setup)) (sym (planned_is setup h caller t inputs)) net in
+    let net = AllFit-net (names_in setup) (present h) (all_changes setup h caller t inputs) all.0 in
+    let changes : AllFit (names_in setup) (planned setup h caller t inputs) = subst (AllFit (names_in setup)) (sym (planned_is setup h caller t inputs)) net in
     record {
       changes = changes;
       has_status = ap (λ (cs : List Change). last_value (present h status) cs status) (planned_is setup h caller t inputs)
           ∙ (net_is (present h) (all_changes setup h caller t inputs)).gives status ∙ all.1;
-      values = λ f was. value_fits (names setup) (present h f) (planned setup h caller t inputs) f was changes;
+      values = λ f was. value_fits (names_in setup) (present h f) (planned setup h caller t inputs) f was changes;
     }

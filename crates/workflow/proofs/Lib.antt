@@ -4,3 +4,4 @@ pub mod Sorting
 pub mod Differing
 pub mod FitPlans
 pub mod LeastOf
+pub mod SoundSetups

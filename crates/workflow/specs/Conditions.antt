@@ -9,7 +9,7 @@ use Rattle.field_values.specs.declared.rules.CallerTest.{CallerTest}
 use Rattle.field_values.specs.declared.rules.CallerTest.TheVariants.{IsAssignee, IsReporter, InGroup, HasPermission}
 use Rattle.field_values.specs.declared.rules.Condition.{Condition}
 use Rattle.field_values.specs.declared.parts.Transition.{Transition}
-use Rattle.fields.specs.declared.setup.Setup.{Setup}
+use Rattle.field_values.specs.Parts.{Parts}
 use Rattle.field_forms.specs.Cuts.{cut_at}
 use Rattle.field_forms.specs.Names.{place_named}
 use Rattle.fields.specs.SetupParts.{has_member, may}
@@ -17,7 +17,7 @@ use Rattle.change_history.specs.History.{History, present}
 use Rattle.workflow.specs.FieldNumbers.{status, assignee, reporter}
 
 -- the place of the issue's project, whose key stands before the hyphen of the issue's key
-unfoldable pub project_of : Setup → History → Option ℕ
+unfoldable pub project_of : Parts → History → Option ℕ
 project_of setup h = option_and_then (λ parts. place_named parts.0 (map (λ p. p.key) setup.project)) (cut_at 45 h.key)
 
 -- the value is that user
@@ -26,7 +26,7 @@ is_user user (User other) = other.0 == user.0
 is_user user _ = false
 
 -- what a condition may ask of the caller
-abbrev pub passes : Setup → History → UserNo → CallerTest → Bool
+abbrev pub passes : Parts → History → UserNo → CallerTest → Bool
 -- `assignee`: the caller is the issue's assignee
 passes setup h caller IsAssignee = is_user caller (present h assignee)
 -- `reporter`: the caller is the issue's reporter
@@ -37,7 +37,7 @@ passes setup h caller (InGroup group) = has_member setup.group caller.0 group
 passes setup h caller (HasPermission permission) = may setup caller.0 permission (project_of setup h)
 
 -- a condition holds where one of its tests passes; `any:` has several tests, every other condition has one
-abbrev pub condition_holds : Setup → History → UserNo → Condition → Bool
+abbrev pub condition_holds : Parts → History → UserNo → Condition → Bool
 condition_holds setup h caller condition = list_any (passes setup h caller) condition.any_of
 
 -- the value is one of these statuses
@@ -47,7 +47,7 @@ is_among statuses _ = false
 
 -- the first condition that fails: 0 is that the issue's status is among those that the transition leaves, and the
 -- setup's conditions count from 1
-unfoldable pub failing_condition : Setup → History → UserNo → Transition → Option ℕ
+unfoldable pub failing_condition : Parts → History → UserNo → Transition → Option ℕ
 failing_condition setup h caller t =
     if is_among t.from (present h status)
     then option_map (λ k. k + 1) (position (λ condition. not (condition_holds setup h caller condition)) t.conditions)

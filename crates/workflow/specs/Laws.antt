@@ -1,5 +1,5 @@
 -- What holds of all changes and of all plans.
-use Rattle.std.specs.Prelude.{◌≡◌, ◌≢◌, ℕ, ◌<◌, ◌≤◌, true, List, [], ◌∷◌, ◌++◌, length, Some, None}
+use Rattle.std.specs.Prelude.{◌≡◌, ◌≢◌, ℕ, ◌<◌, ◌≤◌, true, List, [], ◌∷◌, ◌++◌, length, slice_get, Some, None}
 use Rattle.std.specs.List.{All, Contains}
 use Rattle.field_values.specs.declared.numbers.UserNo.{UserNo}
 use Rattle.field_values.specs.declared.numbers.FieldNo.{FieldNo}
@@ -9,9 +9,10 @@ use Rattle.field_values.specs.declared.rules.PostFunction.{PostFunction}
 use Rattle.field_values.specs.declared.rules.PostFunction.TheVariants.{Set, Clear, Resolution}
 use Rattle.field_values.specs.declared.parts.Project.{Project}
 use Rattle.field_values.specs.declared.parts.Transition.{Transition}
-use Rattle.fields.specs.declared.setup.Setup.{Setup}
+use Rattle.field_values.specs.Parts.{Parts}
 use Rattle.field_forms.specs.Known.{Names, fits}
-use Rattle.fields.specs.SetupParts.{names}
+use Rattle.fields.specs.Sound.{IsSound as IsSoundSetup}
+use Rattle.fields.specs.SetupParts.{names_in}
 use Rattle.change_history.specs.declared.change.Change.{Change}
 use Rattle.change_history.specs.History.{History, present, updated, last_change, MayAdd}
 use Rattle.workflow.specs.FieldNumbers.{status, reporter}
@@ -76,10 +77,10 @@ abbrev pub AreLeadsKnown : ℕ → List Project → Type 0
 AreLeadsKnown users [] = Unit {0}
 AreLeadsKnown users (p ∷ ps) = (p.lead.0 < users) × AreLeadsKnown users ps
 
--- what a setup's reader tests: the transition leads to a status, its post functions fit, and the leads of projects are users
-pub record IsSound (setup : Setup) (t : Transition) : Type 0 where
+-- the transition leads to a status, its post functions fit, and the leads of projects are users, as of each transition of a setup
+pub record IsSound (setup : Parts) (t : Transition) : Type 0 where
   pub to : t.to.0 < length setup.status
-  pub post : AllPostFit (names setup) t.post
+  pub post : AllPostFit (names_in setup) t.post
   pub leads : AreLeadsKnown (length setup.users) setup.project
 
 -- after an edit that isn't refused, the status is as before, and each field whose value did fit has one that fits
@@ -93,14 +94,14 @@ EditsFit =
     (names : Names) (before : FieldNo → Value) (inputs : List Change) → refused_input names inputs ≡ None → EditFits names before inputs
 
 -- after a transition the issue has the status that it leads to, and each field whose value did fit has one that fits
-pub record PlanFits (setup : Setup) (h : History) (caller : UserNo) (t : Transition) (inputs : List Change) : Type 0 where
-  pub changes : AllFit (names setup) (planned setup h caller t inputs)
+pub record PlanFits (setup : Parts) (h : History) (caller : UserNo) (t : Transition) (inputs : List Change) : Type 0 where
+  pub changes : AllFit (names_in setup) (planned setup h caller t inputs)
   pub has_status : with_changes (present h) (planned setup h caller t inputs) status ≡ Choice t.to
-  pub values : (f : FieldNo) → fits (names setup) f.0 (present h f) ≡ true →
-      fits (names setup) f.0 (with_changes (present h) (planned setup h caller t inputs) f) ≡ true
+  pub values : (f : FieldNo) → fits (names_in setup) f.0 (present h f) ≡ true →
+      fits (names_in setup) f.0 (with_changes (present h) (planned setup h caller t inputs) f) ≡ true
 
 abbrev pub PlansFit : Type 0
 PlansFit =
-    (setup : Setup) (h : History) (caller : UserNo) (t : Transition) (inputs : List Change) (at : ℕ) →
-    IsSound setup t → caller.0 < length setup.users → fits (names setup) 6 (present h reporter) ≡ true →
+    (setup : Parts) (h : History) (caller : UserNo) (place : ℕ) (t : Transition) (inputs : List Change) (at : ℕ) →
+    IsSoundSetup setup → slice_get setup.transition place ≡ Some t → caller.0 < length setup.users → fits (names_in setup) 6 (present h reporter) ≡ true →
     first_fault setup h caller t inputs at ≡ None → PlanFits setup h caller t inputs

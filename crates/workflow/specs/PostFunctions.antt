@@ -7,7 +7,7 @@ use Rattle.field_values.specs.declared.value.Value.{Value}
 use Rattle.field_values.specs.declared.value.Value.TheVariants.{Empty, User, Choice}
 use Rattle.field_values.specs.declared.rules.PostFunction.{PostFunction}
 use Rattle.field_values.specs.declared.rules.PostFunction.TheVariants.{Set, Clear, AssignCaller, AssignReporter, AssignLead, Resolution}
-use Rattle.fields.specs.declared.setup.Setup.{Setup}
+use Rattle.field_values.specs.Parts.{Parts}
 use Rattle.change_history.specs.declared.change.Change.{Change}
 use Rattle.change_history.specs.History.{History, present}
 use Rattle.workflow.specs.FieldNumbers.{assignee, reporter, resolution}
@@ -19,11 +19,11 @@ abbrev pub change : FieldNo → Value → Change
 change field value = record { field = field; to = value }
 
 -- the lead of the issue's project
-unfoldable pub lead_of : Setup → History → Value
+unfoldable pub lead_of : Parts → History → Value
 lead_of setup h = option_map_or (λ p. User p.lead) (option_and_then (slice_get setup.project) (project_of setup h)) Empty
 
 -- the change that a post function makes, where the fields hold these values before it
-abbrev pub post_change : Setup → History → UserNo → (FieldNo → Value) → PostFunction → Change
+abbrev pub post_change : Parts → History → UserNo → (FieldNo → Value) → PostFunction → Change
 -- `set:FIELD=TEXT`: the field gets the value that the text stands for
 post_change setup h caller values (Set field value) = change field value
 -- `clear:FIELD`: the field is empty
@@ -38,7 +38,7 @@ post_change setup h caller values AssignLead = change assignee (lead_of setup h)
 post_change setup h caller values (Resolution choice) = change resolution (Choice choice)
 
 -- the changes so far, and those of the post functions in their order, each of which finds the issue with the changes before it
-abbrev pub with_post : Setup → History → UserNo → List Change → List PostFunction → List Change
+abbrev pub with_post : Parts → History → UserNo → List Change → List PostFunction → List Change
 with_post setup h caller so_far [] = so_far
 with_post setup h caller so_far (post ∷ posts) =
     with_post setup h caller (so_far ++ post_change setup h caller (with_changes (present h) so_far) post ∷ []) posts

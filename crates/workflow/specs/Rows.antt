@@ -6,7 +6,7 @@ use Rattle.field_values.specs.declared.value.Value.TheVariants.{Empty, Number, U
 use Rattle.field_values.specs.declared.rules.CallerTest.TheVariants.{IsAssignee, IsReporter}
 use Rattle.field_values.specs.declared.rules.PostFunction.TheVariants.{AssignCaller, AssignReporter}
 use Rattle.field_values.specs.declared.rules.Validator.TheVariants.{Required, Changed}
-use Rattle.fields.specs.declared.setup.Setup.{Setup}
+use Rattle.field_values.specs.Parts.{Parts}
 use Rattle.change_history.specs.History.{History, present}
 use Rattle.workflow.specs.FieldNumbers.{status, assignee}
 use Rattle.workflow.specs.Net.{net_changes}
@@ -45,17 +45,17 @@ unfolding net_changes
 net_by_field = refl
 
 -- one test of several is enough
-pub any_test_passes : (setup : Setup) → condition_holds setup opened bo (record { any_of = IsReporter ∷ IsAssignee ∷ [] }) ≡ true
+pub any_test_passes : (setup : Parts) → condition_holds setup opened bo (record { any_of = IsReporter ∷ IsAssignee ∷ [] }) ≡ true
 any_test_passes setup = refl
 
-pub no_test_passes : (setup : Setup) → condition_holds setup opened anna (record { any_of = IsReporter ∷ IsAssignee ∷ [] }) ≡ false
+pub no_test_passes : (setup : Parts) → condition_holds setup opened anna (record { any_of = IsReporter ∷ IsAssignee ∷ [] }) ≡ false
 no_test_passes setup = refl
 
 -- points that are set to what they were aren't changed, and points that are taken away aren't there
-pub same_points_are_no_change : (setup : Setup) → validator_holds setup opened anna (change points (Number (pos 2000)) ∷ []) 0 (Changed points) ≡ false
+pub same_points_are_no_change : (setup : Parts) → validator_holds setup opened anna (change points (Number (pos 2000)) ∷ []) 0 (Changed points) ≡ false
 same_points_are_no_change setup = refl
 
-pub points_taken_away : (setup : Setup) → validator_holds setup opened anna (change points Empty ∷ []) 0 (Required points) ≡ false
+pub points_taken_away : (setup : Parts) → validator_holds setup opened anna (change points Empty ∷ []) 0 (Required points) ≡ false
 points_taken_away setup = refl
 
 -- a date is open on its own day, and not on the day after
@@ -66,6 +66,6 @@ pub late_on_the_next : is_open (pos 6) (Date (record { 0 = pos 5 })) ≡ false
 late_on_the_next = refl
 
 -- the later of two post functions stands, and a reporter who isn't there leaves nobody
-pub reporter_overrules_the_caller : (setup : Setup) → net_changes (present opened) (with_post setup opened anna [] (AssignCaller ∷ AssignReporter ∷ [])) ≡ change assignee Empty ∷ []
+pub reporter_overrules_the_caller : (setup : Parts) → net_changes (present opened) (with_post setup opened anna [] (AssignCaller ∷ AssignReporter ∷ [])) ≡ change assignee Empty ∷ []
 unfolding net_changes
 reporter_overrules_the_caller setup = refl

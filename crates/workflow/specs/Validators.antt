@@ -6,7 +6,7 @@ use Rattle.field_values.specs.declared.value.Value.TheVariants.{Empty, Date}
 use Rattle.field_values.specs.declared.rules.Validator.{Validator}
 use Rattle.field_values.specs.declared.rules.Validator.TheVariants.{Required, Changed, Due, Permission}
 use Rattle.field_values.specs.declared.parts.Transition.{Transition}
-use Rattle.fields.specs.declared.setup.Setup.{Setup}
+use Rattle.field_values.specs.Parts.{Parts}
 use Rattle.setup_drafts.specs.Offsets.{zone_of}
 use Rattle.fields.specs.SetupParts.{may}
 use Rattle.relative_dates.specs.Calendar.{local_day}
@@ -18,7 +18,7 @@ use Rattle.workflow.specs.Net.{with_changes}
 use Rattle.workflow.specs.Conditions.{project_of}
 
 -- the local day of a moment
-abbrev pub today : Setup → ℕ → ℤ
+abbrev pub today : Parts → ℕ → ℤ
 today setup at = local_day (zone_of setup.utc_offset_minutes setup.offset) (pos at)
 
 -- empty, or a date that isn't before the day
@@ -28,7 +28,7 @@ is_open day (Date other) = int_le day other.0
 is_open day _ = false
 
 -- what a validator asks; the status and the post functions come later, so it doesn't see them
-abbrev pub validator_holds : Setup → History → UserNo → List Change → ℕ → Validator → Bool
+abbrev pub validator_holds : Parts → History → UserNo → List Change → ℕ → Validator → Bool
 -- `required:FIELD`: the field isn't empty after the inputs
 validator_holds setup h caller inputs at (Required field) = not (is_empty (with_changes (present h) inputs field))
 -- `changed:FIELD`: the field holds another value after the inputs than before
@@ -39,6 +39,6 @@ validator_holds setup h caller inputs at Due = is_open (today setup at) (with_ch
 validator_holds setup h caller inputs at (Permission permission) = may setup caller.0 permission (project_of setup h)
 
 -- the first validator that fails, counted from 1
-unfoldable pub failing_validator : Setup → History → UserNo → Transition → List Change → ℕ → Option ℕ
+unfoldable pub failing_validator : Parts → History → UserNo → Transition → List Change → ℕ → Option ℕ
 failing_validator setup h caller t inputs at =
     option_map (λ k. k + 1) (position (λ validator. not (validator_holds setup h caller inputs at validator)) t.validators)

@@ -1,7 +1,7 @@
 // Who may make a transition, and from where.
 ghost use Rattle.std.specs.Prelude.{◌≡◌, ◌==◌, ◌<◌, length, not, position, IfSome};
 ghost use Rattle.std.specs.List.{list_any};
-ghost use Rattle.fields.specs.SetupParts.{has_member};
+ghost use Rattle.fields.specs.SetupParts.{parts, has_member};
 ghost use Rattle.workflow.specs.Conditions.{is_user, passes, condition_holds, is_among, failing_condition};
 
 use crate::project::project_of;
@@ -42,7 +42,7 @@ fn has_member(groups: &[Group], user: UserNo, group: GroupNo) -> bool
 }
 
 fn passes(setup: &Setup, issue: &Issue, caller: UserNo, test: CallerTest) -> bool
-    ensures { result ≡ passes setup.now issue.now.history caller test }
+    ensures { result ≡ passes (parts setup.now) issue.now.history caller test }
 {
     match test {
         CallerTest::IsAssignee => is_user(caller, issue.value(ASSIGNEE)),
@@ -57,14 +57,14 @@ fn passes(setup: &Setup, issue: &Issue, caller: UserNo, test: CallerTest) -> boo
 }
 
 fn passes_one(setup: &Setup, issue: &Issue, caller: UserNo, tests: &[CallerTest]) -> bool
-    ensures { result ≡ list_any (passes setup.now issue.now.history caller) tests.now }
+    ensures { result ≡ list_any (passes (parts setup.now) issue.now.history caller) tests.now }
 {
     tests.iter().any(|test| passes(setup, issue, caller, *test))
 }
 
 /// Whether one of the condition's tests passes.
 fn condition_holds(setup: &Setup, issue: &Issue, caller: UserNo, condition: &Condition) -> bool
-    ensures { result ≡ condition_holds setup.now issue.now.history caller condition.now }
+    ensures { result ≡ condition_holds (parts setup.now) issue.now.history caller condition.now }
 {
     passes_one(setup, issue, caller, condition.any_of.as_slice())
 }
@@ -91,7 +91,7 @@ fn first_failing(
     conditions: &[Condition],
 ) -> Option<usize>
     ensures place { result
-        ≡ position (λ condition. not (condition_holds setup.now issue.now.history caller condition)) conditions.now }
+        ≡ position (λ condition. not (condition_holds (parts setup.now) issue.now.history caller condition)) conditions.now }
     ensures within { IfSome result (λ place. place < length conditions.now) }
 {
     conditions.iter().position(|condition| !condition_holds(setup, issue, caller, condition))
@@ -100,13 +100,13 @@ fn first_failing(
 /// The first condition that fails: 0 is that the issue's status is among those that the transition leaves, and the
 /// setup's count from 1.
 #[tactic(auto, unfolding(crate::specs::Conditions::failing_condition))]
-pub(crate) fn failing_condition(
+pub fn failing_condition(
     setup: &Setup,
     issue: &Issue,
     caller: UserNo,
     transition: &Transition,
 ) -> Option<usize>
-    ensures { result ≡ failing_condition setup.now issue.now.history caller transition.now }
+    ensures { result ≡ failing_condition (parts setup.now) issue.now.history caller transition.now }
 {
     if !is_among(transition.from.as_slice(), issue.value(STATUS)) {
         return Some(0);

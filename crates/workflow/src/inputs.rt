@@ -1,13 +1,13 @@
 // The inputs of an edit or a transition.
 ghost use Rattle.std.specs.Prelude.{◌≡◌, ◌∷◌, [], option_map};
-ghost use Rattle.fields.specs.SetupParts.{names};
+ghost use Rattle.fields.specs.SetupParts.{parts, names_in};
 ghost use Rattle.workflow.specs.Inputs.{is_refused, least_with, refused_input};
 
 use change_history::Change;
 use fields::{FieldNo, Setup};
 
 fn is_refused(setup: &Setup, input: &Change) -> bool
-    ensures { result ≡ is_refused (names setup.now) input.now }
+    ensures { result ≡ is_refused (names_in (parts setup.now)) input.now }
 {
     input.field.0 == 4 || !setup.fits(input.field, &input.to)
 }
@@ -23,7 +23,7 @@ fn lesser(first: Option<u16>, no: u16) -> u16
 
 #[tactic(auto, unfolding(crate::specs::Inputs::refused_input))]
 fn least_refused(setup: &Setup, inputs: &[Change]) -> Option<u16>
-    ensures { result ≡ refused_input (names setup.now) inputs.now }
+    ensures { result ≡ refused_input (names_in (parts setup.now)) inputs.now }
 {
     let mut first = None;
     for input in inputs {
@@ -36,7 +36,7 @@ fn least_refused(setup: &Setup, inputs: &[Change]) -> Option<u16>
 
 /// The first field, by number, whose input is of the status or doesn't fit; `None` exactly where there is none.
 pub fn refused_input(setup: &Setup, inputs: &[Change]) -> Option<FieldNo>
-    ensures { option_map (λ no. no.0) result ≡ refused_input (names setup.now) inputs.now }
+    ensures { option_map (λ no. no.0) result ≡ refused_input (names_in (parts setup.now)) inputs.now }
 {
     match least_refused(setup, inputs) {
         Some(no) => Some(FieldNo(no)),

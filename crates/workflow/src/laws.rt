@@ -24,7 +24,7 @@ pub fn edits_fit()
     ensures { EditsFit }
 {}
 
-/// After a planned transition the issue has the status that the transition leads to, and values fit.
+/// After a planned transition of a setup the issue has the status that the transition leads to, and values fit.
 pub fn plans_fit()
     ensures { PlansFit }
 {}

@@ -14,8 +14,10 @@ mod same;
 mod tests;
 mod validators;
 
+pub use conditions::failing_condition;
 pub use fault::PlanFault;
 pub use inputs::refused_input;
 pub use net::net_changes;
-pub use planning::plan;
+pub use planning::{plan, planned};
 pub use project::project_of;
+pub use validators::failing_validator;

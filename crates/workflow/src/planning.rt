@@ -1,3 +1,4 @@
+ghost use Rattle.fields.specs.SetupParts.{parts};
 ghost use Rattle.std.specs.Prelude.{◌≡◌, ◌<◌, ◌∷◌, ◌++◌, [], length, slice_get, IfOk, IfSome};
 ghost use Rattle.workflow.specs.Plan.{first_fault, all_changes, planned, Answers};
 
@@ -34,7 +35,7 @@ fn all_changes(
     inputs: &[Change],
 ) -> Result<Changes, Memory>
     ensures { IfOk result (λ changes. changes
-        ≡ all_changes setup.now issue.now.history caller transition.now inputs.now) }
+        ≡ all_changes (parts setup.now) issue.now.history caller transition.now inputs.now) }
 {
     let mut changes = copies(alloc, inputs)?;
     changes.push(Change {
@@ -67,8 +68,8 @@ pub fn plan(
 ) -> Result<Changes, PlanFault>
     requires { transition < length setup.now.transition }
     ensures { IfSome (slice_get setup.now.transition transition) (λ t.
-        Answers (first_fault setup.now issue.now.history caller t inputs.now at)
-        (planned setup.now issue.now.history caller t inputs.now) result) }
+        Answers (first_fault (parts setup.now) issue.now.history caller t inputs.now at)
+        (planned (parts setup.now) issue.now.history caller t inputs.now) result) }
 {
     plan_of(
         alloc,
@@ -91,7 +92,7 @@ fn first_fault(
     inputs: &[Change],
     at: Moment,
 ) -> Option<PlanFault>
-    ensures { result ≡ first_fault setup.now issue.now.history caller transition.now inputs.now at }
+    ensures { result ≡ first_fault (parts setup.now) issue.now.history caller transition.now inputs.now at }
 {
     if let Some(place) = failing_condition(setup, issue, caller, transition) {
         return Some(PlanFault::Condition(place));
@@ -115,12 +116,28 @@ fn plan_of(
     inputs: &[Change],
     at: Moment,
 ) -> Result<Changes, PlanFault>
-    ensures { Answers (first_fault setup.now issue.now.history caller transition.now inputs.now at)
-        (planned setup.now issue.now.history caller transition.now inputs.now) result }
+    ensures { Answers (first_fault (parts setup.now) issue.now.history caller transition.now inputs.now at)
+        (planned (parts setup.now) issue.now.history caller transition.now inputs.now) result }
 {
     if let Some(fault) = first_fault(setup, issue, caller, transition, inputs, at) {
         return Err(fault);
     }
+    Ok(planned(alloc, setup, issue, caller, transition, inputs)?)
+}
+
+/// The changes that the transition makes of the issue's present values, whatever its checks say: by rising field number,
+/// and each to another value.
+#[tactic(auto, unfolding(crate::specs::Plan::planned))]
+pub fn planned(
+    alloc: Global,
+    setup: &Setup,
+    issue: &Issue,
+    caller: UserNo,
+    transition: &Transition,
+    inputs: &[Change],
+) -> Result<Changes, Memory>
+    ensures { IfOk result (λ net. net ≡ planned (parts setup.now) issue.now.history caller transition.now inputs.now) }
+{
     let changes = all_changes(alloc, setup, issue, caller, transition, inputs)?;
-    Ok(net_changes(alloc, issue, changes.as_slice())?)
+    net_changes(alloc, issue, changes.as_slice())
 }

@@ -1,4 +1,5 @@
 // What a transition changes after its status.
+ghost use Rattle.fields.specs.SetupParts.{parts};
 ghost use Rattle.std.specs.Prelude.{◌≡◌, ◌∷◌, ◌++◌, [], IfOk, OnOk};
 ghost use Rattle.change_history.specs.History.{present};
 ghost use Rattle.workflow.specs.Net.{with_changes};
@@ -19,7 +20,7 @@ const RESOLUTION: FieldNo = FieldNo(8);
 /// The lead of the issue's project.
 #[tactic(auto, unfolding(crate::specs::PostFunctions::lead_of))]
 fn lead_of(setup: &Setup, issue: &Issue) -> Value
-    ensures { result ≡ lead_of setup.now issue.now.history }
+    ensures { result ≡ lead_of (parts setup.now) issue.now.history }
 {
     let Some(no) = project_of(setup, issue) else {
         return Value::Empty;
@@ -39,7 +40,7 @@ fn post_change(
     so_far: &[Change],
     post: &PostFunction,
 ) -> Result<Change, Memory>
-    ensures { IfOk result (λ change. change ≡ post_change setup.now issue.now.history caller
+    ensures { IfOk result (λ change. change ≡ post_change (parts setup.now) issue.now.history caller
         (with_changes (present issue.now.history) so_far.now) post.now) }
 {
     let (field, to) = match post {
@@ -64,7 +65,7 @@ pub(crate) fn put_post(
     changes: &mut Changes,
     posts: &[PostFunction],
 ) -> Result<(), Memory>
-    ensures { OnOk result (changes.new ≡ with_post setup.now issue.now.history caller changes.old posts.now) }
+    ensures { OnOk result (changes.new ≡ with_post (parts setup.now) issue.now.history caller changes.old posts.now) }
 {
     for post in posts {
         let change = post_change(alloc, setup, issue, caller, changes.as_slice(), post)?;

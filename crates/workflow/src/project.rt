@@ -1,3 +1,4 @@
+ghost use Rattle.fields.specs.SetupParts.{parts};
 ghost use Rattle.std.specs.Prelude.{◌≡◌, option_map};
 ghost use Rattle.workflow.specs.Conditions.{project_of};
 
@@ -8,7 +9,7 @@ use fields::{ProjectNo, Setup};
 /// none of that key.
 #[tactic(auto, unfolding(crate::specs::Conditions::project_of))]
 pub fn project_of(setup: &Setup, issue: &Issue) -> Option<ProjectNo>
-    ensures { option_map (λ no. no.0) result ≡ project_of setup.now issue.now.history }
+    ensures { option_map (λ no. no.0) result ≡ project_of (parts setup.now) issue.now.history }
 {
     match issue.key().as_str().split_once('-') {
         Some((project, _)) => setup.project_named(project),

@@ -1,4 +1,5 @@
 // What is asked of the issue after the inputs.
+ghost use Rattle.fields.specs.SetupParts.{parts};
 ghost use Rattle.std.specs.Prelude.{◌≡◌, ◌<◌, length, not, position, IfSome};
 ghost use Rattle.change_history.specs.History.{present};
 ghost use Rattle.workflow.specs.Validators.{is_open, validator_holds, failing_validator};
@@ -30,7 +31,7 @@ fn validator_holds(
     at: Moment,
     validator: Validator,
 ) -> bool
-    ensures { result ≡ validator_holds setup.now issue.now.history caller inputs.now at validator }
+    ensures { result ≡ validator_holds (parts setup.now) issue.now.history caller inputs.now at validator }
 {
     match validator {
         Validator::Required(field) => !is_empty(value_after(issue, inputs, field)),
@@ -53,7 +54,7 @@ fn first_failing(
     validators: &[Validator],
 ) -> Option<usize>
     ensures place { result ≡ position (λ validator. not
-        (validator_holds setup.now issue.now.history caller inputs.now at validator)) validators.now }
+        (validator_holds (parts setup.now) issue.now.history caller inputs.now at validator)) validators.now }
     ensures within { IfSome result (λ place. place < length validators.now) }
 {
     validators.iter().position(|validator| !validator_holds(
@@ -63,7 +64,7 @@ fn first_failing(
 
 /// The first validator that fails, counted from 1.
 #[tactic(auto, unfolding(crate::specs::Validators::failing_validator))]
-pub(crate) fn failing_validator(
+pub fn failing_validator(
     setup: &Setup,
     issue: &Issue,
     caller: UserNo,
@@ -71,7 +72,7 @@ pub(crate) fn failing_validator(
     inputs: &[Change],
     at: Moment,
 ) -> Option<usize>
-    ensures { result ≡ failing_validator setup.now issue.now.history caller transition.now inputs.now at }
+    ensures { result ≡ failing_validator (parts setup.now) issue.now.history caller transition.now inputs.now at }
 {
     let validators = transition.validators.as_slice();
     match first_failing(setup, issue, caller, inputs, at, validators) {

@@ -1,5 +1,5 @@
 // An issue, a context and comparisons by their texts.
-use change_history::{Change, Changes, Entries, Entry, Group, Issue, Key};
+use change_history::{Change, Changes, Issue, Key};
 use field_values::{
     ChoiceNo, Day, FieldNo, GroupNo, IssueNo, Memory, Moment, Names, Sequence, SprintNo, Text,
     UserNo, Value,

@@ -1,4 +1,4 @@
-use Rattle.std.proofs.Common.{◌≡◌, ◌∷◌, ◌++◌, [], ◌||◌, if◌then◌else◌, ◌∙◌, ap, string_bytes}
+use Rattle.std.proofs.Common.{◌∷◌, ◌++◌, [], ◌||◌, if◌then◌else◌, ◌∙◌, ap, string_bytes}
 use Rattle.jql_syntax.specs.declared.token.Token.TheVariants.{Marked}
 use Rattle.jql_print.proofs.Writes.{token_writes, mark_bytes}
 use Rattle.jql_print.proofs.line.put.Goals as goal

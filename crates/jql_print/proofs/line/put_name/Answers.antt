@@ -1,8 +1,6 @@
-use Rattle.std.proofs.Common.{◌≡◌, ◌∷◌, ◌++◌, [], ◌∙◌, ap, refl, true, false, string_bytes, arith}
-use Rattle.std.specs.Prelude.{encode_utf8_all, chars}
-use Rattle.jql_syntax.specs.declared.token.Token.TheVariants.{Word, Name, Quoted, Custom}
-use Rattle.jql_print.specs.Spelling.{escaped}
-use Rattle.jql_print.proofs.Writes.{token_writes, text_bytes, number_bytes}
+use Rattle.std.proofs.Common.{refl, true, string_bytes}
+use Rattle.jql_syntax.specs.declared.token.Token.TheVariants.{Name}
+use Rattle.jql_print.proofs.Writes.{token_writes, text_bytes}
 use Rattle.jql_print.proofs.line.put_name.Goals as goal
 
 pub returns : goal.returns

@@ -1,8 +1,8 @@
-use Rattle.std.proofs.Common.{◌≡◌, ◌∷◌, ◌++◌, [], ◌∙◌, ap, refl, true, false, string_bytes, arith}
+use Rattle.std.proofs.Common.{◌∷◌, ◌++◌, [], ap, refl, false, string_bytes}
 use Rattle.std.specs.Prelude.{encode_utf8_all, chars}
-use Rattle.jql_syntax.specs.declared.token.Token.TheVariants.{Word, Name, Quoted, Custom}
+use Rattle.jql_syntax.specs.declared.token.Token.TheVariants.{Quoted}
 use Rattle.jql_print.specs.Spelling.{escaped}
-use Rattle.jql_print.proofs.Writes.{token_writes, text_bytes, number_bytes}
+use Rattle.jql_print.proofs.Writes.{token_writes}
 use Rattle.jql_print.proofs.line.put_quoted.Goals as goal
 
 pub returns : goal.returns

@@ -1,7 +1,6 @@
-use Rattle.std.proofs.Common.{◌≡◌, ◌∷◌, ◌∙◌}
+use Rattle.std.proofs.Common.{◌∷◌, ◌∙◌}
 use Rattle.jql_syntax.specs.declared.token.Token.TheVariants.{Marked}
 use Rattle.jql_syntax.specs.declared.token.Mark.TheVariants.{Not, Empty}
-use Rattle.jql_print.specs.Print.{argument_text, value_text}
 use Rattle.jql_print.proofs.Writes.{OnOk-map}
 use Rattle.jql_print.proofs.write_test.write_is_not_empty.Goals as goal
 

@@ -1,4 +1,4 @@
-use Rattle.std.proofs.Common.{◌≡◌, ◌∷◌, ◌∙◌}
+use Rattle.std.proofs.Common.{◌∷◌, ◌∙◌}
 use Rattle.jql_syntax.specs.declared.token.Token.TheVariants.{Marked}
 use Rattle.jql_syntax.specs.declared.token.Mark.TheVariants.{In}
 use Rattle.jql_print.specs.Print.{members_text}

@@ -1,6 +1,5 @@
 use Rattle.std.proofs.Common.{◌≡◌, ◌++◌, List, drop, string_bytes}
 use Rattle.std.specs.Prelude.{encode_utf8_all}
-use Rattle.jql_syntax.specs.declared.token.Mark.TheVariants.{Comma}
 use Rattle.jql_syntax.specs.declared.token.Token.{Token}
 use Rattle.jql_print.specs.Print.{each, predicate_text}
 use Rattle.jql_print.specs.Spelling.{spellings}

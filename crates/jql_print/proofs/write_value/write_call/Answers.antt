@@ -1,7 +1,7 @@
-use Rattle.std.proofs.Common.{◌≡◌, ◌∷◌, ◌∙◌}
+use Rattle.std.proofs.Common.{◌∷◌, ◌∙◌}
 use Rattle.jql_syntax.specs.declared.token.Token.TheVariants.{Marked}
 use Rattle.jql_syntax.specs.declared.token.Mark.TheVariants.{Open, Close}
-use Rattle.jql_print.specs.Print.{argument_text, value_text}
+use Rattle.jql_print.specs.Print.{argument_text}
 use Rattle.jql_print.proofs.Writes.{OnOk-map}
 use Rattle.jql_print.proofs.write_value.write_call.Goals as goal
 

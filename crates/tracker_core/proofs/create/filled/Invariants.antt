@@ -1,5 +1,5 @@
 use Rattle.std.proofs.Common.{◌≡◌, ◌++◌, drop}
-use Rattle.tracker_core.specs.Made.{filled}
+use Rattle.tracker_machine.specs.Create.{filled}
 use Rattle.tracker_core.proofs.create.filled.Given as goal
 
 abbrev pub invariant-loop-change : goal.invariant-loop-change

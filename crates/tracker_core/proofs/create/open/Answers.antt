@@ -2,7 +2,7 @@ use Rattle.std.proofs.Common.{not, ap, sym, subst}
 use Rattle.change_history.specs.History.{History}
 use Rattle.workflow.specs.Same.{is_empty}
 use Rattle.workflow.specs.Laws.{AllFit}
-use Rattle.tracker_machine.specs.Known.{names_in}
+use Rattle.fields.specs.SetupParts.{names_in}
 use Rattle.tracker_machine.specs.Machine.{Machine}
 use Rattle.tracker_core.proofs.Fitting.{fits_filter}
 use Rattle.tracker_core.proofs.create.open.Goals as goal

@@ -1,4 +1,4 @@
-use Rattle.std.proofs.Common.{◌≡◌, ℕ, codes, refl, ap, arith, ◌<◌, lit<}
+use Rattle.std.proofs.Common.{◌≡◌, ℕ, codes, refl, ap, arith, ◌<◌, lit<, sym}
 use Rattle.std.specs.Prelude.{slice_index}
 use Rattle.std.specs.Fmt.{digits}
 use Rattle.serde_json.proofs.OnLiterals.{serde_json_on_literals}
@@ -17,6 +17,9 @@ unfolding digits serde_json_on_literals reply_text
 its_own (reply.Ok a) e = absurd (apart 111 114 (lit< tt) (ap (λ l. slice_index l 2) e))
 its_own (reply.Refused (refusal.Form f)) e = absurd (apart 109 110 (lit< tt) (ap (λ l. slice_index l 13) e))
 its_own (reply.Refused (refusal.Unknown k f)) e = absurd (apart 107 110 (lit< tt) (ap (λ l. slice_index l 13) e))
+its_own (reply.Refused (refusal.Forbidden p q)) e = absurd (apart 49 51 (lit< tt) (sym (ap (λ l. slice_index l 17) e)))
+its_own (reply.Refused (refusal.Condition k)) e = absurd (apart 105 110 (lit< tt) (ap (λ l. slice_index l 13) e))
+its_own (reply.Refused (refusal.Validator k)) e = absurd (apart 105 110 (lit< tt) (ap (λ l. slice_index l 13) e))
 its_own (reply.Refused (refusal.Unfit f)) e = absurd (apart 102 110 (lit< tt) (ap (λ l. slice_index l 13) e))
 its_own (reply.Refused (refusal.Limit l)) e = absurd (apart 108 110 (lit< tt) (ap (λ l. slice_index l 13) e))
 its_own (reply.Refused (refusal.Earlier k)) e = absurd (apart 107 110 (lit< tt) (ap (λ l. slice_index l 13) e))

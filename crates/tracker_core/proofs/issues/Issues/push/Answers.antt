@@ -2,6 +2,7 @@ use Rattle.std.proofs.Common.{◌≡◌, ◌+◌, length, bytes_eq, Some, None, 
 use Rattle.std.specs.Prelude.{if◌then◌else◌}
 use Rattle.std.specs.Option.{option_or}
 use Rattle.std.proofs.lemmas.List.Sums.{sum_by_push}
+use Rattle.tracker_machine.specs.Checks.{history_bytes}
 use Rattle.tracker_core.specs.Issues.{place_of}
 use Rattle.tracker_core.proofs.Keys.{place_of-append}
 use Rattle.tracker_core.proofs.issues.Issues.push.Goals as goal
@@ -18,6 +19,7 @@ invariant_of-self c =
           ∙ ap₂ (λ k n. option_or (place_of name kept) (if bytes_eq k name then Some n else None)) key place
           ∙ sym (place_of-append name kept c.args.issue);
       counted = ap₂ (λ a b. a + b) c.self.invariant.counted c.entries.ensures ∙ sym (sum_by_push (λ i. length i.history.entries) kept c.args.issue);
+      weighed = ap₂ (λ a b. a + b) c.self.invariant.weighed c.requires.bytes ∙ sym (sum_by_push (λ i. history_bytes i.history) kept c.args.issue);
       fits = omega (arith, c.put_issue.ensures.len, c.put_issue.ensures.capacity, c.self.invariant.fits, c.requires.room, ap (λ s. s.room) c.self.view_is);
       indexed = omega (arith, c.index_key.ensures.spare, c.self.invariant.indexed);
     })

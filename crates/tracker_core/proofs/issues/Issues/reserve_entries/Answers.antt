@@ -4,6 +4,7 @@ use Rattle.std.proofs.lemmas.Option.{slice_get_read}
 use Rattle.std.proofs.lemmas.Result.{on_ok_weaker}
 use Rattle.std.proofs.Math.Seq.{map-set_same}
 use Rattle.change_history.specs.History.{Kept, History}
+use Rattle.tracker_machine.specs.Checks.{history_bytes}
 use Rattle.tracker_core.specs.Issues.{Shelf}
 use Rattle.tracker_core.proofs.Keys.{place_of-set, some_is, if_found}
 use Rattle.tracker_core.proofs.issues.Issues.reserve_entries.Goals as goal
@@ -16,11 +17,14 @@ invariant_of-self c =
     let there : c.args.place < length kept = rw (same) c.requires in
     let at : slice_get kept c.args.place ≡ Some old = slice_get_read kept (length kept) c.args.place old refl there c.index_mut.ensures.value in
     let history : c.reserve.new.self.history ≡ old.history = c.reserve.ensures.history in
+    let heavy : history_bytes c.reserve.new.self.history ≡ history_bytes old.history = ap history_bytes history in
+    let weight : history_bytes ((get_or kept c.args.place old).history) ≡ history_bytes old.history = ap (λ (i : Kept). history_bytes i.history) (sym c.index_mut.ensures.value) in
     let value : length (get_or kept c.args.place old).history.entries ≡ length old.history.entries = ap (λ (i : Kept). length i.history.entries) (sym c.index_mut.ensures.value) in
     let count : length c.reserve.new.self.history.entries ≡ length old.history.entries = ap (λ (h : History). length h.entries) history in
     record {
       found = λ name. c.self.invariant.found name ∙ sym (place_of-set name kept c.args.place old c.reserve.new.self at (ap (λ (h : History). h.key) history));
       counted = omega (arith, c.self.invariant.counted, sum_by-set (λ (i : Kept). length i.history.entries) kept c.args.place c.reserve.new.self old there, count, value);
+      weighed = omega (arith, c.self.invariant.weighed, sum_by-set (λ (i : Kept). history_bytes i.history) kept c.args.place c.reserve.new.self old there, heavy, weight);
       fits = c.self.invariant.fits;
       indexed = c.self.invariant.indexed;
     }

@@ -1,7 +1,7 @@
 use Rattle.std.proofs.Common.{◌≡◌, Some, None, Option, IfSome, subst, sym, ◌∙◌, Bor, refl}
 use Rattle.std.specs.Option.{option_copied}
 use Rattle.change_history.specs.History.{Kept}
-use Rattle.tracker_machine.specs.Known.{names_in}
+use Rattle.fields.specs.SetupParts.{names_in}
 use Rattle.tracker_core.specs.State.{Held, IsSettled}
 use Rattle.tracker_core.specs.contracts.state.State.{the_view}
 use Rattle.tracker_core.proofs.Sound.{settled_at, history_at}

@@ -9,6 +9,7 @@ invariant_of-result c =
     rw (none) (record {
       counted = c.in_ok-counts.ensures ∙ ap (λ ps. counts_of ps []) c.as_slice.ensures;
       few_issues = omega arith;
+      few_bytes = omega arith;
       few_entries = omega arith;
       numbered = omega arith;
       settled = λ k d in'. absurd (omega (arith, in'));

@@ -1,8 +1,9 @@
-use Rattle.std.proofs.Common.{◌≡◌, ◌++◌, ◌∷◌, [], ◌+◌, ◌<◌, List, length, map, ap, sym, subst, ◌∙◌}
+use Rattle.std.proofs.Common.{◌≡◌, ◌++◌, ◌∷◌, [], ◌+◌, ◌<◌, ◌≤◌, List, length, map, ap, sym, subst, ◌∙◌}
 use Rattle.change_history.specs.History.{Kept, History}
 use Rattle.workflow.specs.Laws.{AllFit}
-use Rattle.tracker_machine.specs.Known.{names_in}
+use Rattle.fields.specs.SetupParts.{names_in}
 use Rattle.tracker_machine.specs.Machine.{Machine}
+use Rattle.tracker_machine.specs.Checks.{bytes_kept, history_bytes}
 use Rattle.tracker_core.specs.State.{Held, IsSound, counts_of, with_key}
 use Rattle.tracker_core.specs.contracts.state.State.{the_view}
 use Rattle.tracker_core.proofs.Histories.{histories_push}
@@ -22,4 +23,5 @@ invariant_of-self c =
     (subst (λ (s : Held). h.at ≡ s.machine.moment) back c.requires.at)
     c.requires.entries
     (subst (λ (s : Held). AllFit (names_in s.machine.setup) h.opening) back c.requires.fitting)
+    (subst (λ (s : Held). bytes_kept s.machine.histories + history_bytes h ≤ 510_000_000) back (subst (λ n. bytes_kept c.args.self.now.machine.histories + n ≤ 510_000_000) c.requires.bytes c.requires.light))
     (subst (λ (s : Held). c.args.new.counts.items ≡ with_key (counts_of s.machine.setup.project s.machine.histories) s.machine.setup.project h.key) back c.requires.counts))

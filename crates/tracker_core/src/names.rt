@@ -1,0 +1,98 @@
+// The names in `set`.
+ghost use Rattle.std.specs.Prelude.{◌≡◌, option_map, IfSome};
+ghost use Rattle.std.specs.Option.{option_or, is_some};
+ghost use Rattle.fields.specs.SetupParts.{parts};
+ghost use Rattle.tracker_machine.specs.Known.{is_field, names_field};
+ghost use Rattle.tracker_machine.specs.Wanted.{given_for, sprint_number};
+ghost use Rattle.tracker_core.specs.Wants.{strange_refusal};
+ghost use Rattle.tracker_machine.specs.Checks.{sprint_given, name_refusal, names_refusal};
+
+use fields::{FieldNo, Setup};
+use tracker_calls::{Given, GivenField};
+
+const SPRINT: FieldNo = FieldNo(13);
+
+/// A name in `set` that stands for nothing.
+#[derive(Clone, Copy, Debug)]
+pub enum Strange<'s> {
+    /// It is no field's.
+    Field(&'s str),
+    /// It is the sprint field's, and there is no sprint of the number that is given.
+    Sprint(u32),
+}
+
+fn is_field(setup: &Setup, name: &str) -> bool
+    ensures { result ≡ is_field setup.now.field name.now }
+{
+    setup.field_named(name).is_some()
+}
+
+fn names_field(setup: &Setup, field: FieldNo, name: &str) -> bool
+    ensures { result ≡ names_field setup.now.field field.0 name.now }
+{
+    match setup.field_named(name) {
+        Some(named) => named.0 == field.0,
+        None => false,
+    }
+}
+
+/// What is given for a field: the last of its name counts.
+pub fn given_for<'s>(setup: &Setup, field: FieldNo, set: &'s [GivenField]) -> Option<&'s Given>
+    ensures { option_map (λ g. g.now) result ≡ given_for setup.now.field field.0 set.now }
+{
+    let mut last = None;
+    for given in set {
+        if names_field(setup, field, given.name.as_str()) {
+            last = Some(&given.given);
+        }
+    }
+    last
+}
+
+/// The number of a sprint.
+pub fn sprint_number(given: &Given) -> Option<u32>
+    ensures { result ≡ sprint_number given.now }
+{
+    match given {
+        Given::Number(number) if *number <= 4_294_967_295 => Some(*number as u32),
+        _ => None,
+    }
+}
+
+// The sprint into which `set` puts the issue.
+fn sprint_given(setup: &Setup, set: &[GivenField]) -> Option<u32>
+    ensures { result ≡ sprint_given setup.now.field set.now }
+{
+    match given_for(setup, SPRINT, set) {
+        Some(given) => sprint_number(given),
+        None => None,
+    }
+}
+
+fn strange_name<'s>(setup: &Setup, set: &[GivenField], name: &'s str) -> Option<Strange<'s>>
+    ensures { option_map strange_refusal result ≡ name_refusal setup.now.field set.now name.now }
+{
+    if !is_field(setup, name) {
+        return Some(Strange::Field(name));
+    }
+    if !names_field(setup, SPRINT, name) {
+        return None;
+    }
+    match sprint_given(setup, set) {
+        Some(number) => Some(Strange::Sprint(number)),
+        None => None,
+    }
+}
+
+/// The first name in `set` that stands for nothing.
+pub fn first_strange<'s>(setup: &Setup, set: &'s [GivenField]) -> Option<Strange<'s>>
+    ensures { option_map strange_refusal result ≡ names_refusal setup.now.field set.now set.now }
+{
+    for given in set {
+        let strange = strange_name(setup, set, given.name.as_str());
+        if strange.is_some() {
+            return strange;
+        }
+    }
+    None
+}

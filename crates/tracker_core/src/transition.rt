@@ -1,0 +1,227 @@
+// The call `transition`: an issue goes to another status, as one change group with all that comes with it.
+ghost use Rattle.std.specs.Prelude.{◌≡◌, ◌<◌, ◌≤◌, length, slice_get, IfOk, IfSome, Some};
+ghost use Rattle.change_history.specs.History.{present};
+ghost use Rattle.fields.specs.SetupParts.{names_in, parts};
+ghost use Rattle.workflow.specs.Plan.{planned};
+ghost use Rattle.workflow.specs.Difference.{AreNews};
+ghost use Rattle.workflow.specs.FieldNumbers.{reporter};
+ghost use Rattle.workflow.specs.Laws.{AllFit, IsSound};
+ghost use Rattle.tracker_machine.specs.Step.{Performs};
+ghost use Rattle.tracker_machine.specs.Checks.{entries_kept, bytes_kept};
+ghost use Rattle.tracker_machine.specs.Group.{group_number, with_group};
+ghost use Rattle.tracker_machine.specs.Known.{place_of_issue};
+ghost use Rattle.tracker_machine.specs.Transition.{transition_named, transition_refusal, transition_answer, transitioned, condition_refusal, validator_refusal, plan_refusal, transition_news};
+ghost use Rattle.tracker_core.specs.Check.{Checks};
+ghost use Rattle.tracker_core.specs.State.{Holds};
+ghost use Rattle.tracker_core.specs.Made.{IsMade};
+
+use crate::check::{
+    check_access, check_bytes, check_entries, check_set, known_issue, known_transition,
+    known_values,
+};
+use crate::group::put_group;
+use crate::state::State;
+use crate::wants::Wants;
+use change_history::{Change, Changes, Issue};
+use fields::{Memory, Permission, Setup, Text, Transition, UserNo};
+use std::alloc::Global;
+use tracker_calls::{Answer, GivenField, Refusal, Reply};
+use workflow::{failing_condition, failing_validator, planned};
+
+/// Makes the transition of that name, or says why not.
+pub fn transition(
+    alloc: Global,
+    state: &mut State,
+    caller: UserNo,
+    issue: &str,
+    transition: &str,
+    set: &[GivenField],
+) -> Reply
+    requires { caller.0 < length state.old.machine.setup.users }
+    ensures { Performs (transition_refusal state.old.machine caller.0 issue.now transition.now set.now)
+        (transition_answer state.old.machine caller.0 issue.now transition.now set.now)
+        (transitioned state.old.machine caller.0 issue.now transition.now set.now)
+        state.old.machine result state.new.machine }
+{
+    match check_transition(alloc, state, caller, issue, transition, set) {
+        Ok((place, net)) => change(alloc, state, caller, place, issue, &net),
+        Err(refusal) => Reply::Refused(refusal),
+    }
+}
+
+// The place of the issue, and what the transition changes of it.
+fn check_transition(
+    alloc: Global,
+    state: &State,
+    caller: UserNo,
+    issue: &str,
+    transition: &str,
+    set: &[GivenField],
+) -> Result<(usize, Changes), Refusal>
+    requires { caller.0 < length state.now.machine.setup.users }
+    ensures check { Checks (transition_refusal state.now.machine caller.0 issue.now transition.now set.now) result }
+    ensures place { IfOk result (λ r. place_of_issue issue.now state.now.machine.histories ≡ Some r.0) }
+    ensures there { IfOk result (λ r. r.0 < length state.now.machine.histories) }
+    ensures net { IfOk result (λ r. r.1 ≡ transition_news state.now.machine caller.0 set.now
+        (slice_get state.now.machine.histories r.0) (transition_named state.now.machine transition.now)) }
+    ensures news { IfOk result (λ r. IfSome (slice_get state.now.machine.histories r.0) (λ h. AreNews (present h) 0 r.1)) }
+    ensures fitting { IfOk result (λ r. AllFit (names_in state.now.machine.setup) r.1) }
+    ensures few { IfOk result (λ r. entries_kept state.now.machine.histories ≤ 1_999_957) }
+    ensures light { IfOk result (λ r. bytes_kept state.now.machine.histories ≤ 499_800_000) }
+{
+    let place = known_issue(alloc, state, issue)?;
+    let number = known_transition(alloc, state, transition)?;
+    check_set(alloc, state, set)?;
+    check_access(alloc, state, caller, Permission::Browse, place)?;
+    check_access(alloc, state, caller, Permission::Transition, place)?;
+    check_entries(state)?;
+    check_bytes(state)?;
+    let net = check_plan(alloc, state, caller, place, number, set)?;
+    Ok((place, net))
+}
+
+// What the transition changes, unless one of its checks fails.
+fn check_plan(
+    alloc: Global,
+    state: &State,
+    caller: UserNo,
+    place: usize,
+    transition: usize,
+    set: &[GivenField],
+) -> Result<Changes, Refusal>
+    requires user { caller.0 < length state.now.machine.setup.users }
+    requires there { place < length state.now.machine.histories }
+    requires known { transition < length state.now.machine.setup.transition }
+    ensures check { Checks (plan_refusal state.now.machine caller.0 set.now (slice_get state.now.machine.histories place) (slice_get state.now.machine.setup.transition transition)) result }
+    ensures net { IfOk result (λ net. net ≡ transition_news state.now.machine caller.0 set.now
+        (slice_get state.now.machine.histories place) (slice_get state.now.machine.setup.transition transition)) }
+    ensures news { IfOk result (λ net. IfSome (slice_get state.now.machine.histories place) (λ h. AreNews (present h) 0 net)) }
+    ensures fitting { IfOk result (AllFit (names_in state.now.machine.setup)) }
+{
+    let Some(issue) = state.issue_at(place) else {
+        unreachable!()
+    };
+    let transition = &state.setup().transition.as_slice()[transition];
+    plan_of(alloc, state, caller, issue, transition, set)
+}
+
+// The same of an issue and a transition that are there.
+fn plan_of(
+    alloc: Global,
+    state: &State,
+    caller: UserNo,
+    issue: &Issue,
+    transition: &Transition,
+    set: &[GivenField],
+) -> Result<Changes, Refusal>
+    requires sound { IsSound state.now.machine.setup transition.now }
+    requires user { caller.0 < length state.now.machine.setup.users }
+    requires reporter { Holds (names_in state.now.machine.setup) reporter (present issue.now.history reporter) }
+    ensures check { Checks (plan_refusal state.now.machine caller.0 set.now (Some issue.now.history) (Some transition.now)) result }
+    ensures net { IfOk result (λ net. net ≡ transition_news state.now.machine caller.0 set.now (Some issue.now.history) (Some transition.now)) }
+    ensures news { IfOk result (AreNews (present issue.now.history) 0) }
+    ensures fitting { IfOk result (AllFit (names_in state.now.machine.setup)) }
+{
+    check_conditions(state, caller, issue, transition)?;
+    let inputs = known_values(alloc, state, &Wants::Set { set })?;
+    check_validators(state, caller, issue, transition, inputs.as_slice())?;
+    match news_of(
+        alloc,
+        state.setup(),
+        caller,
+        issue,
+        transition,
+        inputs.as_slice(),
+    ) {
+        Ok(net) => Ok(net),
+        Err(_) => Err(Refusal::Memory),
+    }
+}
+
+fn check_conditions(
+    state: &State,
+    caller: UserNo,
+    issue: &Issue,
+    transition: &Transition,
+) -> Result<(), Refusal>
+    ensures { Checks (condition_refusal state.now.machine caller.0 (Some issue.now.history) (Some transition.now)) result }
+{
+    match failing_condition(state.setup(), issue, caller, transition) {
+        Some(index) => Err(Refusal::Condition { index }),
+        None => Ok(()),
+    }
+}
+
+fn check_validators(
+    state: &State,
+    caller: UserNo,
+    issue: &Issue,
+    transition: &Transition,
+    inputs: &[Change],
+) -> Result<(), Refusal>
+    ensures { Checks (validator_refusal state.now.machine caller.0 inputs.now (Some issue.now.history) (Some transition.now)) result }
+{
+    match failing_validator(
+        state.setup(),
+        issue,
+        caller,
+        transition,
+        inputs,
+        state.moment(),
+    ) {
+        Some(index) => Err(Refusal::Validator { index }),
+        None => Ok(()),
+    }
+}
+
+// What the transition changes of the present values.
+#[tactic(auto, using(workflow::proofs::FitPlans::planned_news, workflow::proofs::FitPlans::planned_fit, crate::proofs::Holding::reporter_fits))]
+fn news_of(
+    alloc: Global,
+    setup: &Setup,
+    caller: UserNo,
+    issue: &Issue,
+    transition: &Transition,
+    inputs: &[Change],
+) -> Result<Changes, Memory>
+    requires sound { IsSound (parts setup.now) transition.now }
+    requires user { caller.0 < length setup.now.users }
+    requires reporter { Holds (names_in (parts setup.now)) reporter (present issue.now.history reporter) }
+    requires inputs { AllFit (names_in (parts setup.now)) inputs.now }
+    ensures net { IfOk result (λ net. net ≡ planned (parts setup.now) issue.now.history caller transition.now inputs.now) }
+    ensures news { IfOk result (AreNews (present issue.now.history) 0) }
+    ensures fitting { IfOk result (AllFit (names_in (parts setup.now))) }
+{
+    planned(alloc, setup, issue, caller, transition, inputs)
+}
+
+// Makes these changes of the issue at a place, as far as they are any.
+fn change(
+    alloc: Global,
+    state: &mut State,
+    caller: UserNo,
+    place: usize,
+    name: &str,
+    net: &Changes,
+) -> Reply
+    requires there { place < length state.old.machine.histories }
+    requires few { entries_kept state.old.machine.histories ≤ 1_999_957 }
+    requires light { bytes_kept state.old.machine.histories ≤ 499_800_000 }
+    requires news { IfSome (slice_get state.old.machine.histories place) (λ h. AreNews (present h) 0 net.now) }
+    requires fitting { AllFit (names_in state.old.machine.setup) net.now }
+    ensures { IfSome (slice_get state.old.machine.histories place) (λ h.
+        IsMade (Answer.Transition (group_number state.old.machine net.now) name.now)
+        (with_group state.old.machine caller.0 place h net.now)
+        state.old.machine result state.new.machine) }
+{
+    let Ok(told) = Text::copy_of(alloc, name) else {
+        return Reply::Refused(Refusal::Memory);
+    };
+    match put_group(alloc, state, caller, place, net) {
+        Ok(change) => Reply::Ok(Answer::Transition {
+            change,
+            issue: told,
+        }),
+        Err(_) => Reply::Refused(Refusal::Memory),
+    }
+}

@@ -1,0 +1,72 @@
+-- The call `transition`: an issue goes to another status, as one change group with all that comes with it.
+use Rattle.std.specs.Prelude.{ℕ, List, [], map, slice_get, Option, Some, None, option_map, option_and_then}
+use Rattle.field_values.specs.declared.rules.Permission.TheVariants as permission
+use Rattle.field_values.specs.declared.parts.Transition.{Transition}
+use Rattle.field_forms.specs.Names.{place_named}
+use Rattle.field_values.specs.Parts.{Parts}
+use Rattle.change_history.specs.declared.change.Change.{Change}
+use Rattle.change_history.specs.History.{History}
+use Rattle.workflow.specs.Conditions.{failing_condition}
+use Rattle.workflow.specs.Validators.{failing_validator}
+use Rattle.workflow.specs.Plan.{planned}
+use Rattle.tracker_calls.specs.declared.given.GivenField.{GivenField}
+use Rattle.tracker_calls.specs.declared.reply.Answer.{Answer}
+use Rattle.tracker_calls.specs.declared.reply.Answer.TheVariants as answer
+use Rattle.tracker_calls.specs.declared.reply.Refusal.{Refusal}
+use Rattle.tracker_calls.specs.declared.reply.Refusal.TheVariants as refusal
+use Rattle.tracker_calls.specs.declared.reply.Thing.TheVariants as thing
+use Rattle.tracker_machine.specs.Machine.{Machine}
+use Rattle.tracker_machine.specs.Known.{place_of_issue, history_named}
+use Rattle.tracker_machine.specs.Checks.{or_then, unless_known, set_refusal, entries_refusal, bytes_refusal, values_refusal}
+use Rattle.tracker_machine.specs.Access.{access_refusal}
+use Rattle.tracker_machine.specs.Group.{group_number, with_group_at}
+use Rattle.tracker_machine.specs.Edit.{set_wants, set_changes}
+
+abbrev pub transition_names : Parts → List (List ℕ)
+transition_names setup = map (λ t. t.name) setup.transition
+
+-- the setup's transition of a name
+abbrev pub transition_named : Machine → List ℕ → Option Transition
+transition_named m name = option_and_then (λ place. slice_get m.setup.transition place) (place_named name (transition_names m.setup))
+
+-- its conditions hold of the issue and the caller
+abbrev pub condition_refusal : Machine → ℕ → Option History → Option Transition → Option Refusal
+condition_refusal m caller (Some h) (Some t) = option_map refusal.Condition (failing_condition m.setup h (record { 0 = caller }) t)
+condition_refusal m caller _ _ = None
+
+-- its validators hold of the issue after the inputs
+abbrev pub validator_refusal : Machine → ℕ → List Change → Option History → Option Transition → Option Refusal
+validator_refusal m caller inputs (Some h) (Some t) = option_map refusal.Validator (failing_validator m.setup h (record { 0 = caller }) t inputs m.moment)
+validator_refusal m caller inputs _ _ = None
+
+-- the conditions, then what is given, then the validators
+abbrev pub plan_refusal : Machine → ℕ → List GivenField → Option History → Option Transition → Option Refusal
+plan_refusal m caller set h t =
+    or_then (condition_refusal m caller h t)
+    (or_then (values_refusal m (set_wants m set))
+    (validator_refusal m caller (set_changes m set) h t))
+
+abbrev pub transition_refusal : Machine → ℕ → List ℕ → List ℕ → List GivenField → Option Refusal
+transition_refusal m caller issue transition set =
+    or_then (unless_known (place_of_issue issue m.histories) (refusal.Unknown thing.Issue issue))
+    (or_then (unless_known (place_named transition (transition_names m.setup)) (refusal.Unknown thing.Transition transition))
+    (or_then (set_refusal m set)
+    (or_then (access_refusal m caller permission.Browse (history_named m issue))
+    (or_then (access_refusal m caller permission.Transition (history_named m issue))
+    (or_then (entries_refusal m)
+    (or_then (bytes_refusal m)
+    (plan_refusal m caller set (history_named m issue) (transition_named m transition))))))))
+
+-- what the transition changes: the inputs, the status and what its post functions set, as far as it differs
+abbrev pub transition_news : Machine → ℕ → List GivenField → Option History → Option Transition → List Change
+transition_news m caller set (Some h) (Some t) = planned m.setup h (record { 0 = caller }) t (set_changes m set)
+transition_news m caller set _ _ = []
+
+abbrev pub transition_answer : Machine → ℕ → List ℕ → List ℕ → List GivenField → Answer
+transition_answer m caller issue transition set =
+    answer.Transition (group_number m (transition_news m caller set (history_named m issue) (transition_named m transition))) issue
+
+abbrev pub transitioned : Machine → ℕ → List ℕ → List ℕ → List GivenField → Machine
+transitioned m caller issue transition set =
+    with_group_at m caller (place_of_issue issue m.histories) (history_named m issue)
+    (transition_news m caller set (history_named m issue) (transition_named m transition))
