@@ -12,7 +12,9 @@ ghost use Rattle.fields.specs.SetupParts.{parts, names, choice_named, groups_in,
 use crate::setup::Setup;
 use field_forms::fit;
 use field_forms::form::Form;
-use field_forms::known::{Known, choices_of, field_named, form_of, listed_value_of, text_of, value_of};
+use field_forms::known::{
+    Known, choices_of, field_named, form_of, listed_value_of, text_of, value_of,
+};
 use field_forms::name_form::place_of;
 use field_values::memory::Memory;
 use field_values::moment::Moment;

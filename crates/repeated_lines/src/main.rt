@@ -2,6 +2,7 @@
 //! line of standard input is a number, a tab, and request lines with tabs between them: these are made in turn, so many times,
 //! and the last reply is printed.
 #![tactic(auto)]
+
 ghost use Rattle.std.specs.Prelude.{◌≡◌, ◌<◌};
 
 use fields::{Setup, Steps};
@@ -56,7 +57,12 @@ fn play<L: Ledger>(alloc: Global, desk: &mut Desk, line: &str, blank: Blank) -> 
     last
 }
 
-fn reply_to<L: Ledger>(alloc: Global, desk: &mut Desk, request: &str, steps: &mut Steps<L>) -> Reply {
+fn reply_to<L: Ledger>(
+    alloc: Global,
+    desk: &mut Desk,
+    request: &str,
+    steps: &mut Steps<L>,
+) -> Reply {
     match read_line(alloc, request.as_bytes()) {
         Ok((user, call)) => desk.call(&user, &call, steps),
         Err(refusal) => Reply::Refused(refusal),

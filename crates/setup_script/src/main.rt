@@ -1,6 +1,7 @@
 //! Request lines over the desk of a new tracker with the setup in a file: `setup_script FILE`, the request lines on standard
 //! input, the replies on standard output. It shows stored runs over other setups than the one of a new tracker.
 #![tactic(auto)]
+
 ghost use Rattle.std.specs.Prelude.{◌≡◌, ◌<◌};
 
 use fields::{Setup, Steps};

@@ -92,9 +92,7 @@ fn is_member(kind: CallKind, name: &str) -> bool
             "call" | "project" | "set" | "summary" | "type" | "user"
         ),
         CallKind::Edit => matches!(name, "call" | "issue" | "set" | "user"),
-        CallKind::Transition => {
-            matches!(name, "call" | "issue" | "set" | "transition" | "user")
-        }
+        CallKind::Transition => { matches!(name, "call" | "issue" | "set" | "transition" | "user") }
         CallKind::Tick => matches!(name, "call" | "to" | "user"),
         CallKind::Show => matches!(name, "call" | "issue" | "user"),
         CallKind::History => matches!(name, "call" | "count" | "from" | "issue" | "user"),

@@ -130,10 +130,15 @@ impl ShownFields {
 #[derive(Debug, Drop)]
 pub enum Refusal {
     /// Number 1: this member is the first that is absent or not of its form.
-    Form { member: Text },
+    Form {
+        member: Text,
+    },
 
     /// Number 2: there is no such thing.
-    Unknown { kind: Thing, name: Text },
+    Unknown {
+        kind: Thing,
+        name: Text,
+    },
 
     /// Number 3: the caller hasn't this permission, in the project of this key where it is one of a project.
     Forbidden {
@@ -143,19 +148,29 @@ pub enum Refusal {
 
     /// Number 4: this condition of the transition fails. 0 is that it leaves the issue's status, and the setup's count
     /// from 1.
-    Condition { index: usize },
+    Condition {
+        index: usize,
+    },
 
     /// Number 5: this validator of the transition fails, counted from 1.
-    Validator { index: usize },
+    Validator {
+        index: usize,
+    },
 
     /// Number 6: this field is the first, by its number, whose value doesn't fit.
-    Unfit { field: Text },
+    Unfit {
+        field: Text,
+    },
 
     /// Number 10: no more are kept than this limit.
-    Limit { limit: Limit },
+    Limit {
+        limit: Limit,
+    },
 
     /// Number 11: the present moment is later than the one that was asked for.
-    Earlier { kept: Moment },
+    Earlier {
+        kept: Moment,
+    },
 
     /// Number 15: there was not enough memory.
     Memory,
