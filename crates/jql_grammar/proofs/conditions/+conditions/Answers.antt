@@ -1,0 +1,23 @@
+use Rattle.std.proofs.Common.{◌≡◌, ◌+◌, drop, arith}
+use Rattle.std.proofs.lemmas.Result.{err_from_is_err_and}
+use Rattle.jql_syntax.specs.View.{view as tree, views as trees}
+use Rattle.jql_grammar.specs.Scope.{scope_of}
+use Rattle.jql_grammar.specs.Conditions.{tests, tests_in}
+use Rattle.jql_grammar.proofs.Joining.{goes_on, ends, stops, rest_in, tests_turn, tests_end}
+use Rattle.jql_grammar.proofs.conditions.+conditions.Goals as goal
+
+pub bind_exprs-loop-expr-preserved : goal.bind_exprs-loop-expr-preserved
+bind_exprs-loop-expr-preserved t c =
+    let turn : tests_in (trees (drop c.loop-expr.expr-index c.args.exprs.now)) ≡ tests (tree c.expr-item.result) + tests_in (trees (drop (c.loop-expr.expr-index + 1) c.args.exprs.now)) = tests_turn c.args.exprs.now c.loop-expr.expr-index c.expr-item.result (omega arith) c.expr-item.is in (
+      rw c.in_ok-push.ensures.items (goes_on (scope_of c.args.binder.now) c.args.denied (rest_in (scope_of c.args.binder.now) c.args.denied c.args.place c.args.exprs.now) c.loop-expr.conds.items c.loop-expr.next c.args.exprs.now c.loop-expr.expr-index c.expr-item.result (omega arith) c.expr-item.is c.loop-expr.invariant.0 c.in_ok-cond.cond c.in_ok-cond.after c.in_ok-cond.ensures.ok c.in_ok-cond.ensures.next),
+      omega (arith, turn, c.loop-expr.invariant.1, c.in_ok-cond.ensures.next),
+    )
+
+pub bind_exprs-returns-clause-ok : goal.bind_exprs-returns-clause-ok
+bind_exprs-returns-clause-ok t c =
+    ends (scope_of c.args.binder.now) c.args.denied (rest_in (scope_of c.args.binder.now) c.args.denied c.args.place c.args.exprs.now) c.loop-expr.conds.items c.loop-expr.next c.args.exprs.now c.loop-expr.expr-index (omega arith) c.loop-expr.invariant.0
+
+pub bind_exprs-returns-in_err-cond-clause-err : goal.bind_exprs-returns-in_err-cond-clause-err
+bind_exprs-returns-in_err-cond-clause-err t c =
+    let p = err_from_is_err_and c.from_residual.result c.from_residual.ensures.1 in
+    rw (p.1, p.2) (stops (scope_of c.args.binder.now) c.args.denied (rest_in (scope_of c.args.binder.now) c.args.denied c.args.place c.args.exprs.now) c.loop-expr.conds.items c.loop-expr.next c.args.exprs.now c.loop-expr.expr-index c.expr-item.result (omega arith) c.expr-item.is c.loop-expr.invariant.0 c.in_err-cond.field-0.0 c.in_err-cond.ensures.err)

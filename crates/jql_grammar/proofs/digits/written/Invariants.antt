@@ -1,0 +1,7 @@
+use Rattle.std.proofs.Common.{◌≡◌, ◌≤◌, drop}
+use Rattle.field_forms.specs.Numbers.{read_on}
+use Rattle.jql_grammar.proofs.digits.written.Given as goal
+
+abbrev pub invariant-loop-digit : goal.invariant-loop-digit
+invariant-loop-digit l =
+    (read_on 0 l.digits ≡ read_on l.number (drop l.digit-index l.digits)) × (l.number ≤ 4_294_967_295)
