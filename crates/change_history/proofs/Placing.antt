@@ -10,9 +10,8 @@ use Rattle.field_values.specs.declared.value.Value.TheVariants.{Empty}
 use Rattle.change_history.specs.declared.change.Change.{Change}
 use Rattle.change_history.specs.declared.entry.Entry.{Entry}
 use Rattle.change_history.specs.declared.places.Place.{Place}
-use Rattle.change_history.specs.History.{History, present, opening_value, value_after, values_after, put_value}
-use Rattle.change_history.specs.Places.{values_of, place_of, set_place, index_of, places_after, opening_places, placed_value, AreWithin, ArePlaces}
-use Rattle.change_history.proofs.Adding.{values_after-value}
+use Rattle.change_history.specs.History.{opening_value, value_after, values_after, put_value}
+use Rattle.change_history.specs.Places.{values_of, place_of, set_place, index_of, places_after, opening_places, placed_value, AreWithin}
 
 -- ---- one place is set
 
@@ -80,7 +79,7 @@ found_within : (n k : ℕ) (p : Place) (b : Bool) (r : Option ℕ) → p.at < n 
 found_within n k p true r below more is = let same : p.at ≡ k = cc in omega arith
 found_within n k p false r below more is = more k is
 
-place_of-within : (n : ℕ) (ps : List Place) (g : FieldNo) (k : ℕ) → AreWithin n ps → place_of ps g ≡ Some k → k < n
+pub place_of-within : (n : ℕ) (ps : List Place) (g : FieldNo) (k : ℕ) → AreWithin n ps → place_of ps g ≡ Some k → k < n
 place_of-within n [] g k within found = cc
 place_of-within n (p ∷ ps) g k within found = found_within n k p (p.field.0 == g.0) (place_of ps g) within.0 (λ j is. place_of-within n ps g j within.1 is) found
 
@@ -128,29 +127,15 @@ Show-entries vs ps n (e ∷ es) shown is show =
 
 -- ---- an issue's places
 
-value_after-append : (v : Value) (xs ys : List Entry) (f : FieldNo) → value_after v (xs ++ ys) f ≡ value_after (value_after v xs f) ys f
+pub value_after-append : (v : Value) (xs ys : List Entry) (f : FieldNo) → value_after v (xs ++ ys) f ≡ value_after (value_after v xs f) ys f
 value_after-append v [] ys f = refl
 value_after-append v (x ∷ xs) ys f = value_after-append (if x.field.0 == f.0 then x.to else v) xs ys f
 
-values_of-append : (opening : List Change) (xs ys : List Entry) → values_of opening (xs ++ ys) ≡ values_of opening xs ++ map (λ e. e.to) ys
+pub values_of-append : (opening : List Change) (xs ys : List Entry) → values_of opening (xs ++ ys) ≡ values_of opening xs ++ map (λ e. e.to) ys
 values_of-append opening xs ys =
     ap (λ l. map (λ c. c.to) opening ++ l) (map-append (λ e. e.to) xs ys) ∙ sym (append_assoc (map (λ c. c.to) opening) (map (λ e. e.to) xs) (map (λ e. e.to) ys))
 
--- the places after a group's entries
-pub ArePlaces-add : (opening : List Change) (entries more : List Entry) (ps : List Place) (n : ℕ) (h : History) → h.opening ≡ opening → h.entries ≡ entries
-    → n ≡ length (values_of opening entries) → ArePlaces opening entries ps h
-    → ArePlaces opening (entries ++ more) (places_after ps n more) (record h { entries = h.entries ++ more })
-ArePlaces-add opening entries more ps n h is_opening is_entries count are =
-    let show : Show (values_of opening entries) ps (present h) = record { within = are.within; is = are.present_is } in
-    let all = Show-entries (values_of opening entries) ps n more (present h) count show in
-    let values = values_of-append opening entries more in
-    record {
-      within = subst (λ l. AreWithin (length l) (places_after ps n more)) (sym values) all.within;
-      present_is = λ f. ap (λ l. placed_value l (place_of (places_after ps n more) f)) values ∙ all.is f
-          ∙ values_after-value (present h) more f ∙ sym (value_after-append (opening_value h.opening f) h.entries more f);
-    }
-
-opening_within : (n m : ℕ) (cs : List Change) → n + length cs ≤ m → AreWithin m (opening_places n cs)
+pub opening_within : (n m : ℕ) (cs : List Change) → n + length cs ≤ m → AreWithin m (opening_places n cs)
 opening_within n m [] fits = tt
 opening_within n m (c ∷ cs) fits = (omega arith, opening_within (n + 1) m cs (omega arith))
 
@@ -166,7 +151,7 @@ opened : (before : List Value) (c : Change) (cs : List Change) (n : ℕ) (f : Fi
 opened before c cs n f true is more = ap (λ o. unwrap_or o Empty) (get-between before (map (λ c. c.to) cs) c.to n is)
 opened before c cs n f false is more = more
 
-opening_shows : (before : List Value) (cs : List Change) (n : ℕ) (f : FieldNo) → n ≡ length before
+pub opening_shows : (before : List Value) (cs : List Change) (n : ℕ) (f : FieldNo) → n ≡ length before
     → placed_value (before ++ map (λ c. c.to) cs) (place_of (opening_places n cs) f) ≡ opening_value cs f
 opening_shows before [] n f is = refl
 opening_shows before (c ∷ cs) n f is =
@@ -174,7 +159,7 @@ opening_shows before (c ∷ cs) n f is =
     opened before c cs n f (c.field.0 == f.0) is
     (ap (λ l. placed_value l (place_of (opening_places (n + 1) cs) f)) (sym (append_assoc before (c.to ∷ []) (map (λ c. c.to) cs))) ∙ more)
 
-length-values : (cs : List Change) → length (map (λ c. c.to) cs) ≡ length cs
+pub length-values : (cs : List Change) → length (map (λ c. c.to) cs) ≡ length cs
 length-values [] = refl
 length-values (c ∷ cs) = omega (arith, length-values cs)
 
@@ -184,11 +169,3 @@ length-tos (e ∷ es) = omega (arith, length-tos es)
 
 pub length-values_of : (opening : List Change) (entries : List Entry) (n : ℕ) → n ≡ length opening + length entries → n ≡ length (values_of opening entries)
 length-values_of opening entries n is = omega (arith, length-append (map (λ c. c.to) opening) (map (λ e. e.to) entries), length-values opening, length-tos entries)
-
--- the places of a new issue
-pub ArePlaces-open : (opening : List Change) (h : History) → h.opening ≡ opening → h.entries ≡ [] → ArePlaces opening [] (opening_places 0 opening) h
-ArePlaces-open opening h is_opening is_entries = record {
-  within = opening_within 0 (length (values_of opening [])) opening (omega (arith, length-values opening, ap length (append-nil (map (λ c. c.to) opening))));
-  present_is = λ f. ap (λ l. placed_value l (place_of (opening_places 0 opening) f)) (append-nil (map (λ c. c.to) opening)) ∙ opening_shows [] opening 0 f refl
-      ∙ ap (λ cs. opening_value cs f) (sym is_opening) ∙ ap (λ es. value_after (opening_value h.opening f) es f) (sym is_entries);
-}

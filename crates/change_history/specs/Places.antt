@@ -6,6 +6,7 @@ use Rattle.field_values.specs.declared.value.Value.TheVariants.{Empty}
 use Rattle.change_history.specs.declared.change.Change.{Change}
 use Rattle.change_history.specs.declared.entry.Entry.{Entry}
 use Rattle.change_history.specs.declared.places.Place.{Place}
+use Rattle.change_history.specs.Before.{last_of, befores_from, entry_place}
 use Rattle.change_history.specs.History.{History, IsHistory, present, updated}
 
 -- the values of the opening, and then those that the entries lead to
@@ -33,6 +34,11 @@ abbrev pub places_after : List Place → ℕ → List Entry → List Place
 places_after ps first [] = ps
 places_after ps first (e ∷ es) = places_after (set_place ps e.field first) (first + 1) es
 
+-- for each of the entries, the first of which will stand at `first`, where the last entry of its field stands by the places then
+abbrev pub befores_by : List Place → ℕ → ℕ → List Entry → List (Option ℕ)
+befores_by ps opening first [] = []
+befores_by ps opening first (e ∷ es) = entry_place opening (place_of ps e.field) ∷ befores_by (set_place ps e.field first) opening (first + 1) es
+
 abbrev pub opening_places : ℕ → List Change → List Place
 opening_places at [] = []
 opening_places at (c ∷ cs) = (record { field = c.field; at = at }) ∷ opening_places (at + 1) cs
@@ -49,13 +55,16 @@ AreWithin count (p ∷ ps) = (p.at < count) × AreWithin count ps
 -- the places are those of the present values
 pub record ArePlaces (opening : List Change) (entries : List Entry) (places : List Place) (h : History) : Type 0 where
   pub within : AreWithin (length (values_of opening entries)) places
+  pub last_is : (f : FieldNo) → entry_place (length opening) (place_of places f) ≡ last_of entries f
   pub present_is : (f : FieldNo) → placed_value (values_of opening entries) (place_of places f) ≡ present h f
 
 -- what an issue keeps true of itself
-pub record IsKept (opening : List Change) (entries : List Entry) (places : List Place) (empty : Value) (last entries_wanted entries_capacity places_wanted places_capacity : ℕ) (h : History) : Type 0 where
+pub record IsKept (opening : List Change) (entries : List Entry) (places : List Place) (befores : List (Option ℕ)) (empty : Value) (last entries_wanted entries_capacity places_wanted places_capacity befores_wanted befores_capacity : ℕ) (h : History) : Type 0 where
   pub empty_is : empty ≡ Empty
   pub last_is : last ≡ updated h
   pub entries_fit : entries_wanted ≤ entries_capacity
   pub places_fit : places_wanted ≤ places_capacity
+  pub befores_fit : befores_wanted ≤ befores_capacity
+  pub befores_are : befores ≡ befores_from [] entries
   pub places_are : ArePlaces opening entries places h
   pub history : IsHistory h

@@ -1,12 +1,13 @@
-ghost use Rattle.std.specs.Prelude.{◌≡◌, ◌≤◌, ◌+◌, ◌-◌, ◌^◌, ◌<◌, ◌++◌, ◌∷◌, length, vec_len, vec_capacity, IfOk, OnOk, OnErr, option_copied, option_map, unwrap_or, slice_get, [], take, drop};
+ghost use Rattle.std.specs.Prelude.{◌≡◌, ◌≤◌, ◌+◌, ◌-◌, ◌^◌, ◌<◌, ◌++◌, ◌∷◌, length, vec_len, vec_capacity, IfOk, OnOk, OnErr, option_copied, option_map, unwrap_or, slice_get, [], take, drop, None};
 ghost use Rattle.change_history.specs.History.{History, present, opening_value, updated, MayAdd};
 ghost use Rattle.change_history.specs.Span.{entries_of, span_of};
-ghost use Rattle.change_history.specs.Places.{place_of, set_place, places_after, value_at};
+ghost use Rattle.change_history.specs.Places.{place_of, set_place, places_after, befores_by, value_at};
+ghost use Rattle.change_history.specs.Before.{last_of, before_of, entry_place};
 
 use crate::change::{Change, Changes};
 use crate::entry::{Entry, Group};
 use crate::key::Key;
-use crate::places::{Place, opening_places, place_of, set_place};
+use crate::places::{Place, entry_place, opening_places, place_of, set_place};
 use crate::span::Span;
 use field_values::{FieldNo, IssueNo, Memory, Moment, UserNo, Value};
 use std::alloc::Global;
@@ -24,6 +25,8 @@ pub struct Issue {
     opening: Vec<Change>,
     entries: Vec<Entry>,
     places: Vec<Place>,
+    // For each entry, where the last entry of its field before it stands.
+    befores: Vec<Option<usize>>,
     room: usize,
     // What a field holds that never had a value.
     empty: Value,
@@ -38,7 +41,7 @@ impl Model for Issue {
 
     ghost view = { λ i. record { history = record { no = i.no; key = i.key; change = i.change; at = i.at; author = i.author; opening = i.opening.items; entries = i.entries.items }; room = i.room } };
 
-    ghost invariant = { λ i. IsKept i.opening.items i.entries.items i.places.items i.empty i.updated (vec_len i.entries + i.room) (vec_capacity i.entries) (vec_len i.places + i.room) (vec_capacity i.places) (record { no = i.no; key = i.key; change = i.change; at = i.at; author = i.author; opening = i.opening.items; entries = i.entries.items }) };
+    ghost invariant = { λ i. IsKept i.opening.items i.entries.items i.places.items i.befores.items i.empty i.updated (vec_len i.entries + i.room) (vec_capacity i.entries) (vec_len i.places + i.room) (vec_capacity i.places) (vec_len i.befores + i.room) (vec_capacity i.befores) (record { no = i.no; key = i.key; change = i.change; at = i.at; author = i.author; opening = i.opening.items; entries = i.entries.items }) };
 }
 
 impl Issue {
@@ -67,6 +70,7 @@ impl Issue {
             opening: values.list,
             entries: Vec::new(alloc),
             places,
+            befores: Vec::new(alloc),
             room: 0,
             empty: Value::Empty,
         })
@@ -100,6 +104,13 @@ impl Issue {
         self.at
     }
 
+    /// The user who created the issue.
+    pub fn author(&self) -> UserNo
+        ensures { result ≡ self.now.history.author }
+    {
+        self.author
+    }
+
     /// The moment of the last change group, the creation among them.
     pub fn updated(&self) -> Moment
         ensures { result ≡ updated self.now.history }
@@ -115,6 +126,28 @@ impl Issue {
             Some(at) => value_at(&self.opening, &self.entries, at).unwrap_or(&self.empty),
             None => &self.empty,
         }
+    }
+
+    /// The value that the issue was opened with, lent.
+    pub fn opening(&self, field: FieldNo) -> &Value
+        ensures { result.now ≡ opening_value self.now.history.opening field }
+    {
+        opening_value(&self.opening, field).unwrap_or(&self.empty)
+    }
+
+    /// Where the last entry stands that changes the field; `None` exactly where none does.
+    pub fn last_entry(&self, field: FieldNo) -> Option<usize>
+        ensures { result ≡ last_of self.now.history.entries field }
+    {
+        entry_place(self.opening.len(), place_of(&self.places, field))
+    }
+
+    /// Where the last entry before entry k stands that changes the same field; `None` exactly where none does, or where there is
+    /// no entry k. No entry of another field is looked at.
+    pub fn entry_before(&self, k: usize) -> Option<usize>
+        ensures { result ≡ before_of self.now.history.entries (slice_get self.now.history.entries k) k }
+    {
+        note_at(&self.befores, k)
     }
 
     /// Entry k of the issue, from 0; `None` exactly where there are at most k.
@@ -145,12 +178,11 @@ impl Issue {
     {
         let end = entry_of(&self.entries, field, k).map(|entry| entry.at);
         if k == 0 {
-            let value = opening_value(&self.opening, field).unwrap_or(&self.empty);
             return Some(Span {
                 begin: self.at,
                 end,
                 author: self.author,
-                value,
+                value: self.opening(field),
             });
         }
         let entry = entry_of(&self.entries, field, k - 1)?;
@@ -169,6 +201,7 @@ impl Issue {
         ensures history { self.new.history ≡ self.old.history }
     {
         self.places.reserve(n)?;
+        self.befores.reserve(n)?;
         self.entries.reserve(n)?;
         self.room = n;
         Ok(())
@@ -184,8 +217,15 @@ impl Issue {
         let entries = group.entries.list;
         self.room -= entries.len();
         self.updated = group.at;
-        let first = self.opening.len() + self.entries.len();
-        set_places(&mut self.places, first, &entries);
+        let opening = self.opening.len();
+        let first = opening + self.entries.len();
+        put_befores(
+            &mut self.befores,
+            &mut self.places,
+            opening,
+            first,
+            &entries,
+        );
         append_all(&mut self.entries, entries);
     }
 }
@@ -252,17 +292,50 @@ fn entry_of(entries: &[Entry], field: FieldNo, k: usize) -> Option<&Entry>
     None
 }
 
-// Sets the places of the fields that these entries change, the first of which will stand at `first`.
-fn set_places(places: &mut Vec<Place>, first: usize, entries: &[Entry])
+// The note of entry k.
+fn note_at(befores: &[Option<usize>], k: usize) -> Option<usize>
+    ensures { result ≡ unwrap_or (slice_get befores.now k) None }
+{
+    match befores.get(k) {
+        Some(before) => *before,
+        None => None,
+    }
+}
+
+// Notes for each of these entries, the first of which will stand at `first`, where the last entry of its field stands, and sets
+// the places of the fields that they change.
+fn put_befores(
+    befores: &mut Vec<Option<usize>>,
+    places: &mut Vec<Place>,
+    opening: usize,
+    first: usize,
+    entries: &[Entry],
+)
     requires room { vec_len places.old + length entries.now ≤ vec_capacity places.old }
+    requires befores { vec_len befores.old + length entries.now ≤ vec_capacity befores.old }
     requires few { first + length entries.now < 2 ^ 64 }
     ensures items { places.new.items ≡ places_after places.old.items first entries.now }
     ensures len { vec_len places.new ≤ vec_len places.old + length entries.now }
     ensures capacity { vec_capacity places.old ≤ vec_capacity places.new }
+    ensures befores_items { befores.new.items ≡ befores.old.items ++ befores_by places.old.items opening first entries.now }
+    ensures befores_len { vec_len befores.new ≡ vec_len befores.old + length entries.now }
+    ensures befores_capacity { vec_capacity befores.old ≤ vec_capacity befores.new }
 {
     for (index, entry) in entries.iter().enumerate() {
+        put_before(befores, entry_place(opening, place_of(places, entry.field)));
         set_place(places, entry.field, first + index);
     }
+}
+
+fn put_before(befores: &mut Vec<Option<usize>>, before: Option<usize>)
+    requires { vec_len befores.old + 1 ≤ vec_capacity befores.old }
+    ensures items { befores.new.items ≡ befores.old.items ++ before ∷ [] }
+    ensures len { vec_len befores.new ≡ vec_len befores.old + 1 }
+    ensures capacity { vec_capacity befores.old ≤ vec_capacity befores.new }
+{
+    let Ok(()) = befores.push(before) else {
+        unreachable!()
+    };
 }
 
 // Puts the entries at the end, where there is room.

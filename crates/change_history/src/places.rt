@@ -1,5 +1,6 @@
 // Where the present value of each field stands: no value is copied, so that a change needs no memory for it.
 ghost use Rattle.std.specs.Prelude.{◌≡◌, ◌+◌, ◌<◌, ◌≤◌, [], ◌∷◌, ◌++◌, length, vec_len, vec_capacity, IfOk, IfSome};
+ghost use Rattle.change_history.specs.Before.{entry_place};
 ghost use Rattle.change_history.specs.Places.{place_of, set_place, index_of, opening_places};
 
 use crate::change::Change;
@@ -38,6 +39,22 @@ pub fn place_of(places: &[Place], field: FieldNo) -> Option<usize>
         }
     }
     None
+}
+
+/// The entry's place, where that of a value is one among the places of so many opening values and of the entries behind them.
+pub fn entry_place(opening: usize, place: Option<usize>) -> Option<usize>
+    ensures { result ≡ entry_place opening place }
+{
+    match place {
+        Some(at) => {
+            if at < opening {
+                None
+            } else {
+                Some(at - opening)
+            }
+        }
+        None => None,
+    }
 }
 
 /// Sets the place of a field's present value. It takes no memory.

@@ -56,7 +56,12 @@ fn an_opened_issue_has_its_values_and_one_span_a_field(rt: HostRuntime) -> Resul
     assert_eq!(rt; issue.updated().seconds(), 0);
     assert!(rt; issue.value(SUMMARY).is_same(&summary(alloc)?));
     assert!(rt; issue.value(POINTS).is_same(&Value::Empty));
+    assert_eq!(rt; issue.author().0, 0);
+    assert!(rt; issue.opening(SUMMARY).is_same(&summary(alloc)?));
+    assert!(rt; issue.opening(POINTS).is_same(&Value::Empty));
     assert!(rt; issue.entry(0).is_none());
+    assert!(rt; issue.last_entry(STATUS).is_none());
+    assert!(rt; issue.entry_before(0).is_none());
     assert_eq!(rt; author_of_span(&issue, 0), Some(0));
     assert_eq!(rt; author_of_span(&issue, 1), None);
     Ok(())

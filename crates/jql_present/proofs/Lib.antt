@@ -1,4 +1,3 @@
 pub mod Staying
 pub mod Firsts
 pub mod Runs
-pub mod Rising

@@ -5,7 +5,7 @@ mod compare;
 mod end;
 mod holds;
 mod mark;
-mod naming;
+mod phase;
 #[cfg(test)]
 mod tests;
 mod words;

@@ -2,11 +2,11 @@
 ghost use Rattle.std.specs.Prelude.{◌≡◌, ◌==◌};
 ghost use Rattle.std.specs.List.{list_any};
 ghost use Rattle.field_values.specs.GroupMembers.{AreRising};
-ghost use Rattle.jql_meaning.specs.Surroundings.{surroundings_of, members_of, phase_of, is_phase, is_in_phase};
+ghost use Rattle.jql_meaning.specs.Surroundings.{surroundings_of, members_of};
 ghost use Rattle.jql_meaning.specs.Naming.{names, names_nothing, names_text, names_number, names_choice, names_user, names_sprint, some_value};
 
 use field_values::{ChoiceNo, GroupNo, SprintNo, Text, UserNo, Value};
-use jql_bound::{Context, Operand, Phase};
+use jql_bound::{Context, Operand};
 
 /// Whether the operand names one of the values that the field's value has.
 pub fn has_value(context: &Context, operand: &Operand, value: &Value) -> bool
@@ -19,32 +19,8 @@ pub fn has_value(context: &Context, operand: &Operand, value: &Value) -> bool
     }
 }
 
-/// Whether a sprint is in that phase.
-pub fn is_in_phase(context: &Context, phase: Phase, sprint: SprintNo) -> bool
-    ensures { result ≡ is_in_phase phase (phase_of (surroundings_of context.now) sprint) }
-{
-    if sprint.0 == 0 {
-        return false;
-    }
-    match context.sprints.get(sprint.0 as usize - 1) {
-        Some(other) => is_phase(phase, *other),
-        None => false,
-    }
-}
-
-fn is_phase(phase: Phase, other: Phase) -> bool
-    ensures { result ≡ is_phase phase other }
-{
-    match (phase, other) {
-        (Phase::Future, Phase::Future) => true,
-        (Phase::Active, Phase::Active) => true,
-        (Phase::Closed, Phase::Closed) => true,
-        _ => false,
-    }
-}
-
-// Whether the operand names the value itself.
-fn is_named(context: &Context, operand: &Operand, value: &Value) -> bool
+/// Whether the operand names the value itself.
+pub fn is_named(context: &Context, operand: &Operand, value: &Value) -> bool
     ensures { result ≡ names (surroundings_of context.now) operand.now value.now }
 {
     match value {
@@ -58,7 +34,8 @@ fn is_named(context: &Context, operand: &Operand, value: &Value) -> bool
     }
 }
 
-fn names_text(operand: &Operand, text: &Text) -> bool
+/// Whether the operand is that label.
+pub fn names_text(operand: &Operand, text: &Text) -> bool
     ensures { result ≡ names_text operand.now text.now }
 {
     match operand {
@@ -76,7 +53,8 @@ fn names_number(operand: &Operand, number: i64) -> bool
     }
 }
 
-fn names_choice(operand: &Operand, choice: ChoiceNo) -> bool
+/// Whether the operand is that choice, or a category of statuses that it is in.
+pub fn names_choice(operand: &Operand, choice: ChoiceNo) -> bool
     ensures { result ≡ names_choice operand.now choice }
 {
     match operand {
@@ -86,7 +64,8 @@ fn names_choice(operand: &Operand, choice: ChoiceNo) -> bool
     }
 }
 
-fn names_user(context: &Context, operand: &Operand, user: UserNo) -> bool
+/// Whether the operand is that user, or a group that the user is in.
+pub fn names_user(context: &Context, operand: &Operand, user: UserNo) -> bool
     ensures { result ≡ names_user (surroundings_of context.now) operand.now user }
 {
     match operand {

@@ -2,8 +2,8 @@ use Rattle.std.proofs.Common.{List, sym, subst}
 use Rattle.field_values.specs.declared.numbers.UserNo.{UserNo}
 use Rattle.field_values.specs.GroupMembers.{AreRising}
 use Rattle.jql_meaning.specs.Surroundings.{surroundings_of}
-use Rattle.jql_present.proofs.Rising.{members-rise}
-use Rattle.jql_present.proofs.naming.names_user.Goals as goal
+use Rattle.jql_naming.proofs.Rising.{members-rise}
+use Rattle.jql_naming.proofs.naming.names_user.Goals as goal
 
 -- a context keeps the users of each group in order
 pub has_user-requires : goal.has_user-requires

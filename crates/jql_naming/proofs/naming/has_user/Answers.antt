@@ -1,7 +1,7 @@
 use Rattle.std.proofs.Common.{rules, ◌∙◌}
 use Rattle.std.proofs.lemmas.List.Sorted.{answers_always}
-use Rattle.jql_present.proofs.Rising.{found_is}
-use Rattle.jql_present.proofs.naming.has_user.Goals as goal
+use Rattle.jql_naming.proofs.Rising.{found_is}
+use Rattle.jql_naming.proofs.naming.has_user.Goals as goal
 
 -- the closure gives a user's number
 pub returns : goal.returns

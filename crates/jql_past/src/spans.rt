@@ -1,0 +1,80 @@
+// WAS: whether one span of the field is such a one.
+ghost use Rattle.std.specs.Prelude.{◌≡◌, ◌&&◌};
+ghost use Rattle.jql_meaning.specs.Surroundings.{surroundings_of};
+ghost use Rattle.jql_meaning.specs.Naming.{has_named};
+ghost use Rattle.jql_meaning.specs.Windows.{is_by_each};
+ghost use Rattle.jql_meaning.specs.Past.{was, span_answers};
+ghost use Rattle.jql_past.specs.Interval.{IsOfWindows};
+
+use crate::changes::is_by_each;
+use crate::naming::has_named;
+use crate::windows::{Interval, common_interval, meets};
+use change_history::{Issue, Span};
+use field_values::{FieldNo, Moment};
+use jql_bound::{Context, Operand, PastPredicate};
+
+/// Whether one of the field's spans is of one of the values, by an author who is asked for, and has a moment in every window.
+pub fn was(
+    context: &Context,
+    issue: &Issue,
+    at: Moment,
+    field: FieldNo,
+    operands: &[Operand],
+    predicates: &[PastPredicate],
+) -> bool
+    ensures { result ≡ was (surroundings_of context.now) issue.now.history at field operands.now predicates.now }
+{
+    let interval = common_interval(context, at, predicates);
+    let mut end = None;
+    let mut place = issue.last_entry(field);
+    while let Some(k) = place {
+        // An entry stands at each of these places.
+        let Some(entry) = issue.entry(k) else {
+            return false;
+        };
+        let span = Span {
+            begin: entry.at,
+            end,
+            author: entry.author,
+            value: &entry.to,
+        };
+        if span_answers(context, at, interval, operands, predicates, &span) {
+            return true;
+        }
+        end = Some(entry.at);
+        place = issue.entry_before(k);
+    }
+    let first = Span {
+        begin: issue.created(),
+        end,
+        author: issue.author(),
+        value: issue.opening(field),
+    };
+    span_answers(context, at, interval, operands, predicates, &first)
+}
+
+fn span_answers(
+    context: &Context,
+    at: Moment,
+    interval: Interval,
+    operands: &[Operand],
+    predicates: &[PastPredicate],
+    span: &Span<'_>,
+) -> bool
+    requires { IsOfWindows (surroundings_of context.now) at predicates.now interval }
+    ensures { result ≡ span_answers (surroundings_of context.now) at operands.now predicates.now (record { begin = span.now.begin; end = span.now.end; author = span.now.author; value = span.now.value.now }) }
+{
+    is_wanted(context, operands, predicates, span) && meets(interval, span.begin, span.end, at)
+}
+
+// Whether the span is of one of the values, and by an author who is asked for.
+fn is_wanted(
+    context: &Context,
+    operands: &[Operand],
+    predicates: &[PastPredicate],
+    span: &Span<'_>,
+) -> bool
+    ensures { result ≡ (has_named (surroundings_of context.now) operands.now span.now.value.now && is_by_each (surroundings_of context.now) predicates.now span.now.author) }
+{
+    has_named(context, operands, span.value) && is_by_each(context, predicates, span.author)
+}

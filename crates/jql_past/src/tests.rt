@@ -1,0 +1,3 @@
+mod parts;
+mod seconds;
+mod truths;
