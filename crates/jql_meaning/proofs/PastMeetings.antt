@@ -246,7 +246,7 @@ module _ (s : Surroundings) (h : History) (edges : List Edge) (t : ℕ) (later :
       ]
 
   -- an edge that goes on is near a mark
-  near_mark : (e : Edge) (mark : ℤ) → Contains edges e → Rises e → IsMark s h mark → (edge_at s e (t - 1) -ℤ pos 1) ≤ℤ mark → mark ≤ℤ (edge_at s e (t - 1) +ℤ pos 2) → Meets
+  pub near_mark : (e : Edge) (mark : ℤ) → Contains edges e → Rises e → IsMark s h mark → (edge_at s e (t - 1) -ℤ pos 1) ≤ℤ mark → mark ≤ℤ (edge_at s e (t - 1) +ℤ pos 2) → Meets
   near_mark e mark is rise of low high =
       by_lt_z (edge_at s e (t - 1)) mark
       (λ less. inl (record {
@@ -269,7 +269,7 @@ module _ (s : Surroundings) (h : History) (edges : List Edge) (t : ℕ) (later :
       }))
 
   -- an edge that goes on is near one that stands
-  near_edge : (e f : Edge) → Contains edges e → Contains edges f → Rises e → Stands f → (edge_at s e (t - 1) -ℤ pos 2) ≤ℤ edge_at s f (t - 1) → edge_at s f (t - 1) ≤ℤ (edge_at s e (t - 1) +ℤ pos 3) → Meets
+  pub near_edge : (e f : Edge) → Contains edges e → Contains edges f → Rises e → Stands f → (edge_at s e (t - 1) -ℤ pos 2) ≤ℤ edge_at s f (t - 1) → edge_at s f (t - 1) ≤ℤ (edge_at s e (t - 1) +ℤ pos 3) → Meets
   near_edge e f is other rise stand low high =
       by_lt_z (edge_at s e (t - 1)) (edge_at s f (t - 1))
       (λ less. inr (inl (record {

@@ -1,1 +1,3 @@
 pub mod Interval
+pub mod Next
+pub mod Near

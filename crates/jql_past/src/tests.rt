@@ -1,3 +1,5 @@
+mod ends;
 mod parts;
 mod seconds;
+mod stories;
 mod truths;

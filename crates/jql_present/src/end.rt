@@ -51,7 +51,8 @@ fn first_of(operands: &[Operand], context: &Context, at: Moment, mark: i64) -> O
     first
 }
 
-fn earlier(one: Option<Moment>, other: Option<Moment>) -> Option<Moment>
+/// The earlier of two moments, where there are both.
+pub fn earlier(one: Option<Moment>, other: Option<Moment>) -> Option<Moment>
     ensures { result ≡ earlier one other }
 {
     match (one, other) {

@@ -10,5 +10,5 @@ mod phase;
 mod tests;
 mod words;
 
-pub use end::next_present;
+pub use end::{earlier, next_present};
 pub use holds::holds_present;
