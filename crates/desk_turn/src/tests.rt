@@ -158,12 +158,40 @@ fn a_refusal_uses_up_a_call_and_leaves_the_value(rt: HostRuntime) -> Result<(), 
         panic!(rt; "no memory")
     };
     let entered = turn.tell(&rt, &mut first, &5);
+    assert!(rt; entered == Ok(Some(5)) && first.left() == 3);
     let refused = turn.tell(&rt, &mut first, &7);
+    assert!(rt; refused == Err(Memory) && first.left() == 2);
     let looked = turn.tell(&rt, &mut first, &0);
-    assert!(rt; entered == Ok(Some(5)) && refused == Err(Memory) && looked == Ok(None));
-    assert!(rt; first.left() == 1);
+    assert!(rt; looked == Ok(None) && first.left() == 1);
     let kept = turn.close(first);
     assert!(rt; kept.sum == 5 && kept.entries.len() == 1);
+    let asked = kept
+        .entries
+        .first()
+        .map(|entry| (entry.by, entry.ask, entry.told));
+    assert!(rt; asked == Some((0, 5, 5)));
+    Ok(())
+}
+
+/// Also where an allocation fails: where it is one of `open`, the value comes back as it was, and where it is the call's own, the
+/// call is refused, and the pass has one less.
+#[test]
+fn a_call_is_made_or_leaves_the_value(rt: HostRuntime) -> Result<(), Fail> {
+    let (turn, mut first) = match Turn::open(rt.alloc(), empty_sums(rt.alloc(), 3), 2) {
+        Ok(made) => made,
+        Err((Memory, value)) => {
+            assert!(rt; value.room == 3 && value.sum == 0 && value.entries.is_empty());
+            return Ok(());
+        }
+    };
+    let answer = turn.tell(&rt, &mut first, &5);
+    let left = first.left();
+    let kept = turn.close(first);
+    let entries = kept.entries.len();
+    let is_made = (answer, kept.sum, entries) == (Ok(Some(5)), 5, 1);
+    let is_refused = (answer, kept.sum, entries) == (Err(Memory), 0, 0);
+    assert!(rt; is_made || is_refused, "{answer:?}");
+    assert_eq!(rt; (left, kept.room), (1, 3));
     Ok(())
 }
 

@@ -1,3 +1,5 @@
 mod ends;
+mod matrix;
 mod parts;
+mod passing;
 mod truths;

@@ -13,6 +13,9 @@ use std::test::Fail;
 /// The field whose value the rows give.
 pub const FIELD: FieldNo = FieldNo(10_001);
 
+/// Midnight of 1 March 2024 by the local clock.
+pub const CREATED: u64 = 1_709_247_600;
+
 /// 01:00 on 1 March 2024 by UTC, and 02:00 by the local clock.
 pub const NOW: u64 = 1_709_254_800;
 
@@ -65,17 +68,24 @@ pub fn value(rt: &impl Abort, alloc: Global, text: &str) -> Result<Value, Memory
     }
 }
 
-/// A date literal, a period or a function's name without an argument.
+/// A date literal, a period, or a function's name with its argument behind it where it has one.
 pub fn term(rt: &impl Abort, text: &str) -> Term {
     match Term::read(text) {
         Some(term) => term,
-        None => match Term::call(text, None) {
+        None => match called(text) {
             TermCall::Is(term) => term,
             _ => {
                 assert!(rt; false, "{text} is a date");
                 Term::Now
             }
         },
+    }
+}
+
+fn called(text: &str) -> TermCall {
+    match text.split_once(' ') {
+        Some((name, argument)) => Term::call(name, Some(argument)),
+        None => Term::call(text, None),
     }
 }
 
@@ -133,8 +143,8 @@ pub fn operator(
     rest: &str,
 ) -> Result<Operator, Memory> {
     match sign {
-        "in" => Ok(Operator::In(operands(rt, alloc, rest)?)),
-        "not in" => Ok(Operator::NotIn(operands(rt, alloc, rest)?)),
+        "=" | "in" => Ok(Operator::In(operands(rt, alloc, rest)?)),
+        "!=" | "not in" => Ok(Operator::NotIn(operands(rt, alloc, rest)?)),
         "<" => Ok(Operator::Compares(Inequality::Less, operand(rt, alloc, rest)?)),
         "<=" => Ok(Operator::Compares(Inequality::LessOrEqual, operand(rt, alloc, rest)?)),
         ">" => Ok(Operator::Compares(Inequality::Greater, operand(rt, alloc, rest)?)),
@@ -146,14 +156,23 @@ pub fn operator(
     }
 }
 
-/// What is compared: the project, the key, a moment, or else the field.
+/// What is compared: the project, the key, a moment, or else a field.
 pub fn subject(text: &str) -> Subject {
     match text {
         "project" => Subject::Project,
         "key" => Subject::Key,
         "created" => Subject::Created,
         "updated" => Subject::Updated,
-        _ => Subject::Field(FIELD),
+        _ => Subject::Field(field(text)),
+    }
+}
+
+/// The field whose number stands before its name, or else the one of the rows without numbers.
+pub fn field(text: &str) -> FieldNo {
+    let (number, _) = kind_of(text);
+    match number.parse::<u16>() {
+        Ok(number) => FieldNo(number),
+        Err(_) => FIELD,
     }
 }
 
@@ -172,8 +191,18 @@ pub fn leaf(
 
 /// The issue OPS-7, which was opened with that value of the field.
 pub fn issue(rt: &impl Abort, alloc: Global, created: u64, to: Value) -> Result<Issue, Memory> {
+    issue_with(rt, alloc, created, Change { field: FIELD, to })
+}
+
+/// The issue OPS-7, which was opened with that one value.
+pub fn issue_with(
+    rt: &impl Abort,
+    alloc: Global,
+    created: u64,
+    only: Change,
+) -> Result<Issue, Memory> {
     let mut values = Changes::new(alloc);
-    values.push(Change { field: FIELD, to })?;
+    values.push(only)?;
     let key = Key::of(alloc, "OPS", 7)?;
     Issue::open(
         alloc,
@@ -194,8 +223,13 @@ pub fn calendar(rt: &impl Abort, alloc: Global) -> Calendar {
     calendar
 }
 
-/// Two users in the first group, and a closed, an active and a future sprint.
+/// Two users in the first group, a closed, an active and a future sprint, and the local clock.
 pub fn context(rt: &impl Abort, alloc: Global) -> Result<Context, Fail> {
+    context_by(alloc, calendar(rt, alloc))
+}
+
+/// The same by another clock.
+pub fn context_by(alloc: Global, calendar: Calendar) -> Result<Context, Fail> {
     let mut sprints = Vec::new(alloc);
     sprints.push(Phase::Closed)?;
     sprints.push(Phase::Active)?;
@@ -208,6 +242,6 @@ pub fn context(rt: &impl Abort, alloc: Global) -> Result<Context, Fail> {
     Ok(Context {
         sprints,
         members,
-        calendar: calendar(rt, alloc),
+        calendar,
     })
 }
