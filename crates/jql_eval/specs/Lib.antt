@@ -1,0 +1,6 @@
+pub mod Told
+pub mod Joined
+pub mod Numbers
+pub mod Standings
+pub mod Sorting
+pub mod Laws

@@ -1,0 +1,16 @@
+//! Whole queries: whether one holds of an issue and until when that stays, and the order in which it lists issues.
+#![tactic(auto)]
+
+mod laws;
+mod number;
+mod order;
+mod query;
+mod standing;
+#[cfg(test)]
+mod tests;
+mod verdict;
+
+pub use laws::{order_of_issues, sorted_issues};
+pub use order::compare;
+pub use query::evaluate;
+pub use verdict::Verdict;

@@ -1,0 +1,143 @@
+// What decides where an issue stands in a list.
+ghost use Rattle.std.specs.Prelude.{◌≡◌, ◌==◌, unwrap_or, slice_get, neg_ℤ, pos, [], if◌then◌else◌};
+ghost use Rattle.std.specs.List.{after_first};
+ghost use Rattle.fields.specs.SetupParts.{parts};
+ghost use Rattle.jql_meaning.specs.Comparison.{project_of};
+ghost use Rattle.jql_meaning.specs.Order.{standing, standing_cmp, value_standing, category_standing, category_place, text_cmp, kind_of};
+ghost use Rattle.jql_eval.specs.Standings.{seen};
+
+use crate::number::number_cmp;
+use change_history::{Issue, Key};
+use field_values::{Category, ChoiceNo, FieldNo, UserNo, Value};
+use fields::Setup;
+use jql_bound::Subject;
+use std::cmp::Ordering;
+
+/// The field whose choices stand from the last to the first: the first priority is the highest.
+const PRIORITY: FieldNo = FieldNo(7);
+
+/// What decides where an issue stands: a size, a text, the project and the number of its key, or nothing.
+#[derive(Drop)]
+pub(crate) enum Standing<'a> {
+    Size(i64),
+    Text(&'a [u8]),
+    Key(&'a [u8], &'a [u8]),
+    Nothing,
+}
+
+/// What decides where the issue stands by a subject.
+pub(crate) fn standing_of<'a>(setup: &'a Setup, issue: &'a Issue, subject: Subject) -> Standing<'a>
+    ensures { seen result ≡ standing (parts setup.now) issue.now.history subject }
+{
+    match subject {
+        Subject::Field(field) => value_standing(setup, field, issue.value(field)),
+        Subject::Project => Standing::Text(key_parts(issue.key()).0),
+        Subject::Key => {
+            let (project, number) = key_parts(issue.key());
+            Standing::Key(project, number)
+        }
+        Subject::Created => Standing::Size(issue.created().seconds() as i64),
+        Subject::Updated => Standing::Size(issue.updated().seconds() as i64),
+    }
+}
+
+/// What decides by the category of the status.
+pub(crate) fn category_standing<'a>(setup: &'a Setup, status: &Value) -> Standing<'a>
+    ensures { seen result ≡ category_standing (parts setup.now) status.now }
+{
+    match status {
+        Value::Choice(choice) => match setup.status.as_slice().get(usize::from(choice.0)) {
+            Some(status) => Standing::Size(category_place(status.category)),
+            None => Standing::Nothing,
+        },
+        _ => Standing::Nothing,
+    }
+}
+
+fn category_place(category: Category) -> i64
+    ensures { result ≡ category_place category }
+{
+    match category {
+        Category::ToDo => 0,
+        Category::InProgress => 1,
+        Category::Done => 2,
+    }
+}
+
+fn value_standing<'a>(setup: &'a Setup, field: FieldNo, value: &'a Value) -> Standing<'a>
+    ensures { seen result ≡ value_standing (parts setup.now) field value.now }
+{
+    match value {
+        Value::Text(text) => Standing::Text(text.as_str().as_bytes()),
+        Value::Number(number) => Standing::Size(*number),
+        Value::Choice(choice) => Standing::Size(choice_place(field, *choice)),
+        Value::User(user) => Standing::Text(user_name(setup, *user)),
+        Value::Date(day) => Standing::Size(i64::from(day.0)),
+        Value::Sprint(sprint) => Standing::Size(i64::from(sprint.0)),
+        Value::Empty | Value::Set(_) | Value::Labels(_) => Standing::Nothing,
+    }
+}
+
+// Choices stand as in the setup, and priorities the other way round.
+fn choice_place(field: FieldNo, choice: ChoiceNo) -> i64
+    ensures { result ≡ if field.0 == 7 then neg_ℤ (pos choice.0) else pos choice.0 }
+{
+    let place = i64::from(choice.0);
+    if field.0 == PRIORITY.0 {
+        -place
+    } else {
+        place
+    }
+}
+
+// The bytes of a user's name, and none of a user who isn't there.
+fn user_name(setup: &Setup, user: UserNo) -> &[u8]
+    ensures { result.now ≡ unwrap_or (slice_get (parts setup.now).users user.0) [] }
+{
+    match setup.users.as_slice().get(usize::from(user.0)) {
+        Some(name) => name.as_str().as_bytes(),
+        None => &[],
+    }
+}
+
+// The project's key before the hyphen, and the number behind it.
+#[tactic(auto, using(std::proofs::lemmas::Str::Pattern::split_once_first))]
+fn key_parts(key: &Key) -> (&[u8], &[u8])
+    ensures project { result.0.now ≡ project_of key.now }
+    ensures number { result.1.now ≡ after_first (λ byte. byte == 45) key.now }
+{
+    match key.as_str().split_once('-') {
+        Some((project, number)) => (project.as_bytes(), number.as_bytes()),
+        None => (key.as_str().as_bytes(), &[]),
+    }
+}
+
+/// How two stand to each other: sizes by size, texts by their bytes, keys by the project and then by the number; nothing stands last.
+pub(crate) fn standing_cmp(one: &Standing<'_>, other: &Standing<'_>) -> Ordering
+    ensures { result ≡ standing_cmp (seen one.now) (seen other.now) }
+{
+    match (one, other) {
+        (Standing::Size(one), Standing::Size(other)) => one.cmp(other),
+        (Standing::Text(one), Standing::Text(other)) => text_cmp(one, other),
+        (Standing::Key(one, number), Standing::Key(other, other_number)) => text_cmp(one, other)
+            .then(number_cmp(number, other_number)),
+        _ => kind_of(one).cmp(&kind_of(other)),
+    }
+}
+
+fn text_cmp(one: &[u8], other: &[u8]) -> Ordering
+    ensures { result ≡ text_cmp one.now other.now }
+{
+    one.cmp(other)
+}
+
+fn kind_of(standing: &Standing<'_>) -> u8
+    ensures { result ≡ kind_of (seen standing.now) }
+{
+    match standing {
+        Standing::Size(_) => 0,
+        Standing::Text(_) => 1,
+        Standing::Key(_, _) => 2,
+        Standing::Nothing => 3,
+    }
+}

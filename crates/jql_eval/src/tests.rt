@@ -1,0 +1,4 @@
+mod ends;
+mod listed;
+mod parts;
+mod truths;

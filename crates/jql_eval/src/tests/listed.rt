@@ -1,0 +1,132 @@
+//! Issues in the order of sort keys, by rows whose answers are known.
+use super::parts::{issue, kind_of, subject};
+use crate::compare;
+use change_history::Issue;
+use field_values::{Memory, Sequence};
+use fields::{BUILT_IN, Setup};
+use jql_bound::{Direction, OrderBy, OrderKey, SortField};
+use std::alloc::{AllocError, Global};
+use std::cmp::Ordering;
+use std::process::Abort;
+use std::test::Fail;
+
+const ISSUES: [&str; 5] = [
+    "OPS 1 | 100 | summary text beta | status choice 3 | assignee user 1 | priority choice 2 | resolution choice 0 | due day 19800 | points number 2000 | sprint sprint 2",
+    "OPS 2 | 200 | summary text alpha | status choice 0",
+    "OPS 10 | 300 | summary text Beta | status choice 2 | assignee user 0 | priority choice 0 | due day 19700 | points number 1000 | sprint sprint 1",
+    "LAB 3 | 150 | summary text alphabet | status choice 1 | assignee user 2 | priority choice 1 | due day 19900 | points number 3000 | sprint sprint 3",
+    "OPS 9 | 50 | status choice 3 | assignee user 0 | priority choice 0 | resolution choice 1 | points number 2000",
+];
+
+/// The issues from the top of the board.
+const RANKS: [u32; 5] = [3, 1, 5, 2, 4];
+
+/// Sort keys, and the numbers of the issues in order.
+const ROWS: &str = "\
+points asc = 3 1 5 4 2
+ = 1 2 3 4 5
+points desc = 2 4 1 5 3
+priority asc = 1 4 3 5 2
+priority desc = 2 3 5 4 1
+assignee asc = 1 4 3 5 2
+assignee desc = 2 3 5 4 1
+status asc = 2 4 3 1 5
+status desc = 1 5 3 4 2
+statusCategory asc = 2 3 4 1 5
+statusCategory desc = 1 5 3 4 2
+resolution asc = 1 5 2 3 4
+resolution desc = 2 3 4 5 1
+summary asc = 3 2 4 1 5
+summary desc = 5 1 4 2 3
+due asc = 3 1 4 2 5
+due desc = 2 5 4 1 3
+sprint asc = 3 1 4 2 5
+sprint desc = 2 5 4 1 3
+project asc = 4 1 2 3 5
+project desc = 1 2 3 5 4
+key asc = 4 1 2 5 3
+key desc = 3 5 2 1 4
+created asc = 5 1 4 2 3
+created desc = 3 2 4 1 5
+updated asc = 5 1 4 2 3
+updated desc = 3 2 4 1 5
+rank asc = 3 1 5 2 4
+rank desc = 4 2 5 1 3
+points asc, priority desc = 3 5 1 4 2
+points desc, key desc = 2 4 5 1 3
+statusCategory asc, rank desc = 2 4 3 5 1
+project desc, points asc = 3 1 5 2 4";
+
+fn sort_field(name: &str) -> SortField {
+    match name {
+        "statusCategory" => SortField::StatusCategory,
+        "rank" => SortField::Rank,
+        _ => SortField::Subject(subject(name)),
+    }
+}
+
+fn order(alloc: Global, text: &str) -> Result<OrderBy, Memory> {
+    let mut keys = Sequence::new(alloc);
+    if text.len() == 0 {
+        return Ok(OrderBy { keys });
+    }
+    for piece in text.split(", ") {
+        let (name, direction) = kind_of(piece);
+        keys.push(OrderKey {
+            field: sort_field(name),
+            direction: if direction == "asc" {
+                Direction::Ascending
+            } else {
+                Direction::Descending
+            },
+        })?;
+    }
+    Ok(OrderBy { keys })
+}
+
+/// The setup of a new tracker, in which the first user has the last name.
+fn setup(rt: &impl Abort, alloc: Global) -> Result<Setup, AllocError> {
+    let mut text = String::new(alloc);
+    let mut pieces = BUILT_IN.split("\"anna\"");
+    text.push_str(pieces.next().unwrap_or(""))?;
+    for piece in pieces {
+        text.push_str("\"zoe\"")?;
+        text.push_str(piece)?;
+    }
+    let setup = Setup::read(alloc, text.as_str().as_bytes());
+    Ok(setup.ok().expect(rt, "a setup"))
+}
+
+fn rank(issue: &Issue) -> usize {
+    RANKS
+        .iter()
+        .position(|no| *no == issue.no().0)
+        .unwrap_or(0)
+}
+
+fn ranks(one: &Issue, other: &Issue) -> Ordering {
+    rank(one).cmp(&rank(other))
+}
+
+#[test]
+fn issues_stand_in_the_order_of_their_sort_keys(rt: HostRuntime) -> Result<(), Fail> {
+    let alloc = rt.alloc();
+    let setup = setup(&rt, alloc)?;
+    let mut issues = Vec::new(alloc);
+    for (no, text) in (1u32..).zip(ISSUES) {
+        issues.push(issue(&rt, alloc, no, text)?)?;
+    }
+    for row in ROWS.split('\n') {
+        let (text, wanted) = row.split_once(" =").unwrap_or(("", ""));
+        let order = order(alloc, text)?;
+        issues.sort_by(|one, other| compare(&order, one, other, ranks(one, other), &setup))?;
+        let mut found = String::new(alloc);
+        for issue in &issues {
+            let no = issue.no().0;
+            let number = format!(in alloc; " {no}")?;
+            found.push_str(number.as_str())?;
+        }
+        assert_eq!(rt; found.as_str(), wanted, "{row}");
+    }
+    Ok(())
+}
