@@ -1,0 +1,13 @@
+pub mod Order
+pub mod Sifting
+pub mod Search
+pub mod Lookups
+pub mod Moves
+pub mod Writes
+pub mod Counting
+pub mod Seen
+pub mod Calls
+pub mod Filters
+pub mod AllRows
+pub mod Takes
+pub mod Truths

@@ -1,0 +1,20 @@
+use Rattle.std.proofs.Common.{sym, ap, subst}
+use Rattle.filter_views.specs.declared.due.Due.{Due}
+use Rattle.filter_views.specs.Views.{IsLeastEnd}
+use Rattle.filter_views.proofs.Seen.{heap_of, least_end, no_end, first_is, none_is}
+use Rattle.filter_views.proofs.views.FilterViews.next_due.Goals as goal
+
+pub returns-in-Some : goal.returns-in-Some
+returns-in-Some c =
+    let kept = c.self.invariant in
+    let ds = c.self.inside.heap.items in
+    let h = heap_of c.self.inside.rows.items ds _ _ c.args.self.now (ap (λ v. v.lines) (sym c.self.view_is)) kept.fit kept.agree kept.heap in
+    let first = first_is ds c.in-Some.due.now (rw c.deref.ensures.value at c.in-Some.ensures.value) in
+    subst (λ (d : Due). IsLeastEnd c.args.self.now d) first.1 (least_end c.args.self.now ds h first.0)
+
+pub returns-in-None : goal.returns-in-None
+returns-in-None c =
+    let kept = c.self.invariant in
+    let ds = c.self.inside.heap.items in
+    let h = heap_of c.self.inside.rows.items ds _ _ c.args.self.now (ap (λ v. v.lines) (sym c.self.view_is)) kept.fit kept.agree kept.heap in
+    no_end c.args.self.now ds h (none_is ds (rw c.deref.ensures.value at c.in-None.ensures.value))
