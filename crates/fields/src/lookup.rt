@@ -5,6 +5,7 @@ ghost use Rattle.field_forms.specs.Names.{place_named};
 ghost use Rattle.field_forms.specs.Known.{names_of, AreFew, field_named, choices_of, value_of, fits, listed_value_of};
 ghost use Rattle.relative_dates.specs.Calendar.{local_day};
 ghost use Rattle.setup_drafts.specs.Offsets.{zone_of};
+ghost use Rattle.field_values.specs.Words.{day_number};
 ghost use Rattle.field_values.specs.GroupMembers.{with_members, is_user_list, AreRising, HaveRising};
 ghost use Rattle.field_forms.specs.ValueTexts.{IsTextOf, IsReadBack};
 ghost use Rattle.fields.specs.SetupParts.{parts, names, choice_named, groups_in, groups_with, has_member, may};
@@ -24,6 +25,7 @@ use field_values::rules::Permission;
 use field_values::sequence::Sequence;
 use field_values::text::Text;
 use field_values::value::Value;
+use relative_dates::Calendar;
 use std::alloc::Global;
 
 fn is_member(members: &[UserNo], user: UserNo) -> bool
@@ -214,6 +216,13 @@ impl Setup {
             Some(offset) => Some((offset.from, offset.minutes)),
             None => None,
         }
+    }
+
+    /// The calendar of local time, lent.
+    pub fn calendar(&self) -> &Calendar
+        ensures { result.now ≡ record { zone = zone_of self.now.utc_offset_minutes self.now.offset; first_day = day_number self.now.week_starts } }
+    {
+        &self.calendar
     }
 
     /// The local day of a moment.

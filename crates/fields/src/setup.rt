@@ -64,7 +64,7 @@ pub struct Setup {
     pub(crate) project_keys: Names,
     pub(crate) transition_names: Names,
     pub(crate) calendar: Calendar,
-    ghost few_users: { length users ≤ 200 },
+    pub ghost few_users: { length users ≤ 200 },
     ghost few_types: { length types ≤ 30 },
     ghost few_priorities: { length priorities ≤ 20 },
     ghost few_resolutions: { length resolutions ≤ 50 },

@@ -191,7 +191,6 @@ impl FilterViews {
     }
 
     /// Whether the filter is there.
-    #[cfg(test)]
     pub(crate) fn is_there(&self, filter: FilterNo) -> bool
         ensures { result ≡ is_there self.now filter.0 }
     {

@@ -1,8 +1,6 @@
 -- What holds of the order in which issues are listed.
-use Rattle.std.specs.Prelude.{◌≡◌, ℕ, List}
+use Rattle.std.specs.Prelude.{◌≡◌, List}
 use Rattle.std.specs.Cmp.{IsTotalOrder}
-use Rattle.std.specs.List.{Contains}
-use Rattle.std.specs.List.Sorted.{IsPermutation, IsSorted}
 use Rattle.std.specs.Ordering.{ordering_reverse}
 use Rattle.std.specs.declared.cmp.Ordering.{Ordering}
 use Rattle.std.specs.declared.cmp.Ordering.TheVariants.{Equal}
@@ -10,7 +8,6 @@ use Rattle.field_values.specs.Parts.{Parts}
 use Rattle.change_history.specs.History.{History}
 use Rattle.jql_bound.specs.declared.order.OrderKey.{OrderKey}
 use Rattle.jql_meaning.specs.Order.{issue_cmp}
-use Rattle.jql_eval.specs.Sorting.{in_order}
 
 -- the order by sort keys, where `ranks` orders issues as they stand on the board
 abbrev pub list_cmp : Parts → List OrderKey → (History → History → Ordering) → History → History → Ordering
@@ -33,23 +30,3 @@ abbrev pub OneNumberTies : Type 0
 OneNumberTies =
     (parts : Parts) (keys : List OrderKey) (ranks : Ordering) (one other : History) →
     issue_cmp parts keys ranks one other ≡ Equal → one.no ≡ other.no
-
--- the issues at these places are issues of different numbers
-abbrev pub HaveOwnNumbers : {X : Type 0} → (X → History) → List X → Type 0
-HaveOwnNumbers {X} issue places = (p q : X) → Contains places p → Contains places q → (issue p).no ≡ (issue q).no → p ≡ q
-
--- such places have one order: whatever sorts them gives that list
-abbrev pub PlacesHaveOneOrder : Type 0
-PlacesHaveOneOrder =
-    (parts : Parts) (keys : List OrderKey) (ranks : History → History → Ordering) → IsTotalOrder ranks →
-    (issue : ℕ → History) (places sorted : List ℕ) → HaveOwnNumbers issue places → IsPermutation places sorted →
-    IsSorted (λ p q. list_cmp parts keys ranks (issue p) (issue q)) sorted →
-    sorted ≡ in_order (λ p q. list_cmp parts keys ranks (issue p) (issue q)) places
-
--- and so have the issues themselves
-abbrev pub IssuesHaveOneOrder : Type 0
-IssuesHaveOneOrder =
-    (parts : Parts) (keys : List OrderKey) (ranks : History → History → Ordering) → IsTotalOrder ranks →
-    (issues sorted : List History) → HaveOwnNumbers (λ h. h) issues → IsPermutation issues sorted →
-    IsSorted (list_cmp parts keys ranks) sorted →
-    sorted ≡ in_order (list_cmp parts keys ranks) issues

@@ -2,5 +2,4 @@ pub mod Told
 pub mod Joined
 pub mod Numbers
 pub mod Standings
-pub mod Sorting
 pub mod Laws

@@ -10,7 +10,7 @@ mod standing;
 mod tests;
 mod verdict;
 
-pub use laws::{order_of_issues, sorted_issues};
+pub use laws::order_of_issues;
 pub use order::compare;
 pub use query::evaluate;
 pub use verdict::Verdict;

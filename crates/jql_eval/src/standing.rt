@@ -83,11 +83,7 @@ fn choice_place(field: FieldNo, choice: ChoiceNo) -> i64
     ensures { result ≡ if field.0 == 7 then neg_ℤ (pos choice.0) else pos choice.0 }
 {
     let place = i64::from(choice.0);
-    if field.0 == PRIORITY.0 {
-        -place
-    } else {
-        place
-    }
+    if field.0 == PRIORITY.0 { -place } else { place }
 }
 
 // The bytes of a user's name, and none of a user who isn't there.
@@ -119,8 +115,9 @@ pub(crate) fn standing_cmp(one: &Standing<'_>, other: &Standing<'_>) -> Ordering
     match (one, other) {
         (Standing::Size(one), Standing::Size(other)) => one.cmp(other),
         (Standing::Text(one), Standing::Text(other)) => text_cmp(one, other),
-        (Standing::Key(one, number), Standing::Key(other, other_number)) => text_cmp(one, other)
-            .then(number_cmp(number, other_number)),
+        (Standing::Key(one, digits), Standing::Key(other, opposite)) => {
+            text_cmp(one, other).then(number_cmp(digits, opposite))
+        }
         _ => kind_of(one).cmp(&kind_of(other)),
     }
 }

@@ -1,12 +1,12 @@
 //! Local time by a table of offsets, its days, and the days on which its weeks begin.
 
-ghost use Rattle.std.specs.Prelude.{◌≡◌, ℕ, ◌+◌, ◌-◌, ◌<◌, ◌≤◌, List, ◌∷◌, ◌++◌, length, take, drop, OnOk, OnErr, IfErr, None, true, AllPairs, All, ℤ, pos, neg_ℤ, ◌+ℤ◌, ◌-ℤ◌, ◌*ℤ◌, ◌≤ℤ◌, ◌<ℤ◌, int_lt};
+ghost use Rattle.std.specs.Prelude.{◌≡◌, ℕ, ◌+◌, ◌-◌, ◌<◌, ◌≤◌, List, ◌∷◌, ◌++◌, length, take, drop, OnOk, OnErr, IfOk, IfErr, None, true, AllPairs, All, ℤ, pos, neg_ℤ, ◌+ℤ◌, ◌-ℤ◌, ◌*ℤ◌, ◌≤ℤ◌, ◌<ℤ◌, int_lt};
 ghost use Rattle.std.specs.Int.{int_div_euclid, int_max};
 ghost use Rattle.std.specs.List.{AllWithin, list_all};
 ghost use Rattle.jiff_core.specs.Calendar.{IsBetween, IsWithin};
 ghost use Rattle.relative_dates.specs.Calendar.{minutes_from, minutes_at, local_second, local_day, first_at, midnight, fixed_calendar, calendar_with, goes_back, step_fault, IsRefusal, IsFirstAt, IsZone, IsCalendar, IsOffset, IsStep, step_at};
 
-use std::alloc::Global;
+use std::alloc::{AllocError, Global};
 use std::marker::Model;
 
 const SECONDS_A_DAY: i64 = 86_400;
@@ -67,6 +67,18 @@ impl Calendar {
             first_day,
             steps: Vec::new(alloc),
         }
+    }
+
+    /// The same calendar once more.
+    pub fn copy(&self, alloc: Global) -> Result<Calendar, AllocError>
+        ensures { IfOk result (λ calendar. calendar ≡ self.now) }
+    {
+        let steps = self.steps.as_slice().to_vec(alloc)?;
+        Ok(Calendar {
+            first_offset: self.first_offset,
+            first_day: self.first_day,
+            steps,
+        })
     }
 
     /// Takes one step more of the local clock. After a refusal the calendar is as before.

@@ -75,6 +75,8 @@ reply_has_no_float (reply.Ok (answer.Show created fields issue updated)) =
     either (members_have_float (with_fields no_members fields) || false) false (either (members_have_float (with_fields no_members fields)) false (fields_without no_members fields refl) refl) refl
 reply_has_no_float (reply.Ok (answer.History entries total)) =
     either (items_have_float (items_of (map entry_data entries)) || false) false (either (items_have_float (items_of (map entry_data entries))) false (entries_without entries) refl) refl
+reply_has_no_float (reply.Ok (answer.Search issues total)) =
+    either (items_have_float (items_of (map string issues)) || false) false (either (items_have_float (items_of (map string issues))) false (texts_without issues) refl) refl
 reply_has_no_float (reply.Refused (refusal.Form name)) = refl
 reply_has_no_float (reply.Refused (refusal.Unknown kind name)) = refl
 reply_has_no_float (reply.Refused (refusal.Forbidden p None)) = refl
@@ -82,6 +84,7 @@ reply_has_no_float (reply.Refused (refusal.Forbidden p (Some project))) = refl
 reply_has_no_float (reply.Refused (refusal.Condition index)) = refl
 reply_has_no_float (reply.Refused (refusal.Validator index)) = refl
 reply_has_no_float (reply.Refused (refusal.Unfit field)) = refl
+reply_has_no_float (reply.Refused (refusal.Query kind place)) = refl
 reply_has_no_float (reply.Refused (refusal.Limit l)) = refl
 reply_has_no_float (reply.Refused (refusal.Earlier kept)) = refl
 reply_has_no_float (reply.Refused refusal.Memory) = refl

@@ -6,7 +6,7 @@ use Rattle.serde_json.specs.Find.{get, as_str, as_number, as_u64, as_object}
 use Rattle.serde_json.specs.Read.{read}
 use Rattle.tracker_calls.specs.Given.{set_at, set_if_there}
 use Rattle.tracker_calls.specs.declared.call.Call.{Call}
-use Rattle.tracker_calls.specs.declared.call.Call.TheVariants.{Create, Edit, Transition, Tick, Show, History}
+use Rattle.tracker_calls.specs.declared.call.Call.TheVariants.{Create, Edit, Transition, Tick, Show, History, Search}
 use Rattle.tracker_calls.specs.Part.{from_if_there, count_if_there}
 use Rattle.tracker_calls.specs.declared.call.CallKind.{CallKind}
 use Rattle.tracker_calls.specs.declared.call.CallKind.TheVariants as kind
@@ -60,7 +60,8 @@ kind_named name =
     (if bytes_eq name (codes "transition") then Some kind.Transition else
     (if bytes_eq name (codes "tick") then Some kind.Tick else
     (if bytes_eq name (codes "show") then Some kind.Show else
-    (if bytes_eq name (codes "history") then Some kind.History else None)))))
+    (if bytes_eq name (codes "history") then Some kind.History else
+    (if bytes_eq name (codes "search") then Some kind.Search else None))))))
 
 abbrev pub is_member : CallKind → List ℕ → Bool
 is_member kind.Create name = is_among name (codes "call" ∷ codes "project" ∷ codes "set" ∷ codes "summary" ∷ codes "type" ∷ codes "user" ∷ [])
@@ -69,6 +70,7 @@ is_member kind.Transition name = is_among name (codes "call" ∷ codes "issue" �
 is_member kind.Tick name = is_among name (codes "call" ∷ codes "to" ∷ codes "user" ∷ [])
 is_member kind.Show name = is_among name (codes "call" ∷ codes "issue" ∷ codes "user" ∷ [])
 is_member kind.History name = is_among name (codes "call" ∷ codes "count" ∷ codes "from" ∷ codes "issue" ∷ codes "user" ∷ [])
+is_member kind.Search name = is_among name (codes "call" ∷ codes "count" ∷ codes "from" ∷ codes "jql" ∷ codes "user" ∷ [])
 
 -- the first name in byte order that is no member of the call
 abbrev pub first_other : CallKind → List (List ℕ) → Option (List ℕ)
@@ -116,6 +118,13 @@ history_of d members user =
     need (count_if_there 50 d) (codes "count") (λ count.
     no_other (first_other kind.History (names_of members)) (Ok (user, History issue (record { from = from; count = count }))))))
 
+abbrev pub search_of : Data → Members → List ℕ → Asked
+search_of d members user =
+    need (text_at (codes "jql") d) (codes "jql") (λ jql.
+    need (from_if_there d) (codes "from") (λ from.
+    need (count_if_there 1000 d) (codes "count") (λ count.
+    no_other (first_other kind.Search (names_of members)) (Ok (user, Search jql (record { from = from; count = count }))))))
+
 abbrev pub asked_by : CallKind → Data → Members → List ℕ → Asked
 asked_by kind.Create d members user = create_of d members user
 asked_by kind.Edit d members user = edit_of d members user
@@ -123,6 +132,7 @@ asked_by kind.Transition d members user = transition_of d members user
 asked_by kind.Tick d members user = tick_of d members user
 asked_by kind.Show d members user = show_of d members user
 asked_by kind.History d members user = history_of d members user
+asked_by kind.Search d members user = search_of d members user
 
 -- the user and the call, or the first fault in the order of the members
 abbrev pub call_of : Data → Asked

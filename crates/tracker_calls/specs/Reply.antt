@@ -108,6 +108,9 @@ abbrev pub history_data : List ToldEntry → ℕ → Data
 history_data entries total = object
     (member (codes "entries") (array (items_of (map entry_data entries))) (member (codes "total") (natural total) no_members))
 
+abbrev pub search_data : List (List ℕ) → ℕ → Data
+search_data issues total = object (member (codes "issues") (texts_data issues) (member (codes "total") (natural total) no_members))
+
 abbrev pub answer_data : Answer → Data
 answer_data (answer.Create already change issue) = create_data already change issue
 answer_data (answer.Edit change issue) = edit_data change issue
@@ -115,6 +118,7 @@ answer_data (answer.Transition change issue) = edit_data change issue
 answer_data (answer.Tick moment) = tick_data moment
 answer_data (answer.Show created fields issue updated) = show_data created fields issue updated
 answer_data (answer.History entries total) = history_data entries total
+answer_data (answer.Search issues total) = search_data issues total
 
 -- the members under `refused`
 abbrev pub form_data : List ℕ → Data
@@ -134,6 +138,9 @@ index_data refusal_number index = object (member (codes "index") (natural index)
 abbrev pub unfit_data : List ℕ → Data
 unfit_data field = object (member (codes "field") (string field) (member (codes "no") (natural 6) no_members))
 
+abbrev pub query_data : ℕ → ℕ → Data
+query_data kind place = object (member (codes "kind") (natural kind) (member (codes "no") (natural 7) (member (codes "place") (natural place) no_members)))
+
 abbrev pub limit_data : Limit → Data
 limit_data l = object (member (codes "limit") (string (limit_name l)) (member (codes "no") (natural 10) (member (codes "number") (natural (limit_number l)) no_members)))
 
@@ -150,6 +157,7 @@ refusal_data (refusal.Forbidden p project) = forbidden_data p project
 refusal_data (refusal.Condition index) = index_data 4 index
 refusal_data (refusal.Validator index) = index_data 5 index
 refusal_data (refusal.Unfit field) = unfit_data field
+refusal_data (refusal.Query kind place) = query_data kind place
 refusal_data (refusal.Limit l) = limit_data l
 refusal_data (refusal.Earlier kept) = earlier_data kept
 refusal_data refusal.Memory = number_data 15

@@ -1,9 +1,9 @@
 // Each call with its members, in the order in which a fault is told.
 ghost use Rattle.std.specs.Prelude.{◌≡◌};
 ghost use Rattle.serde_json.specs.View.{view, members_view};
-ghost use Rattle.tracker_calls.specs.Line.{create_of, edit_of, transition_of, tick_of, show_of, history_of, UnlessMemory};
+ghost use Rattle.tracker_calls.specs.Line.{create_of, edit_of, transition_of, tick_of, show_of, history_of, search_of, UnlessMemory};
 
-use crate::call::{Call, CallKind, MOST_ENTRIES, Part};
+use crate::call::{Call, CallKind, MOST_ENTRIES, MOST_LISTED, Part};
 use crate::given::{set_at, set_if_there};
 use crate::members::{count_if_there, first_other, from_if_there, misses, moment_at, text_at};
 use crate::reply::Refusal;
@@ -202,6 +202,41 @@ pub fn history_of(
         user,
         Call::History {
             issue,
+            part: Part { from, count },
+        },
+    ))
+}
+
+pub fn search_of(
+    alloc: Global,
+    value: &Value,
+    members: &Map<String, Value>,
+    user: &str,
+) -> Result<(UserName, Call), Refusal>
+    ensures { UnlessMemory result (search_of (view value.now) (members_view members.now.entries) user.now) }
+{
+    let Some(jql) = text_at(value, "jql") else {
+        return misses(alloc, "jql");
+    };
+    let Some(from) = from_if_there(value) else {
+        return misses(alloc, "from");
+    };
+    let Some(count) = count_if_there(value, MOST_LISTED) else {
+        return misses(alloc, "count");
+    };
+    if let Some(other) = first_other(CallKind::Search, members) {
+        return misses(alloc, other);
+    }
+    let Ok(user) = UserName::copy_of(alloc, user) else {
+        return Err(Refusal::Memory);
+    };
+    let Ok(jql) = Text::copy_of(alloc, jql) else {
+        return Err(Refusal::Memory);
+    };
+    Ok((
+        user,
+        Call::Search {
+            jql,
             part: Part { from, count },
         },
     ))

@@ -40,6 +40,12 @@ pub enum Call {
         issue: Text,
         part: Part,
     },
+
+    /// A part of the issues of which a query holds, in the query's order.
+    Search {
+        jql: Text,
+        part: Part,
+    },
 }
 
 /// The part of a list that a call asks for: at most `count` of it, behind its first `from`.
@@ -57,6 +63,9 @@ pub const MOST_FROM: u32 = 2_000_000;
 /// The greatest `count` of a part of a history, which is also that of a part that names none.
 pub const MOST_ENTRIES: u32 = 50;
 
+/// The greatest `count` of a part of a list of issues, which is also that of a part that names none.
+pub const MOST_LISTED: u32 = 1_000;
+
 /// A call by its name.
 #[derive(Clone, Copy, Debug, PartialEq, Eq)]
 pub enum CallKind {
@@ -66,4 +75,5 @@ pub enum CallKind {
     Tick,
     Show,
     History,
+    Search,
 }

@@ -13,7 +13,7 @@ mod reply_json;
 mod show_json;
 mod user_name;
 
-pub use call::{Call, CallKind, MOST_ENTRIES, MOST_FROM, Part};
+pub use call::{Call, CallKind, MOST_ENTRIES, MOST_FROM, MOST_LISTED, Part};
 pub use given::{Given, GivenField, GivenFields, has_twins};
 pub use line::read_line;
 pub use reply::{

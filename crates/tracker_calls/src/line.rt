@@ -3,7 +3,7 @@ ghost use Rattle.std.specs.Prelude.{◌≡◌};
 ghost use Rattle.serde_json.specs.View.{view};
 ghost use Rattle.tracker_calls.specs.Line.{line_of, call_of, kind_named, UnlessMemory};
 
-use crate::asked::{create_of, edit_of, history_of, show_of, tick_of, transition_of};
+use crate::asked::{create_of, edit_of, history_of, search_of, show_of, tick_of, transition_of};
 use crate::call::{Call, CallKind};
 use crate::members::{misses, text_at};
 use crate::reply::Refusal;
@@ -57,6 +57,7 @@ fn call_of(alloc: Global, value: &Value) -> Result<(UserName, Call), Refusal>
         CallKind::Tick => tick_of(alloc, value, members, user),
         CallKind::Show => show_of(alloc, value, members, user),
         CallKind::History => history_of(alloc, value, members, user),
+        CallKind::Search => search_of(alloc, value, members, user),
     }
 }
 
@@ -70,6 +71,7 @@ fn kind_named(name: &str) -> Option<CallKind>
         "tick" => Some(CallKind::Tick),
         "show" => Some(CallKind::Show),
         "history" => Some(CallKind::History),
+        "search" => Some(CallKind::Search),
         _ => None,
     }
 }

@@ -96,5 +96,6 @@ fn is_member(kind: CallKind, name: &str) -> bool
         CallKind::Tick => matches!(name, "call" | "to" | "user"),
         CallKind::Show => matches!(name, "call" | "issue" | "user"),
         CallKind::History => matches!(name, "call" | "count" | "from" | "issue" | "user"),
+        CallKind::Search => matches!(name, "call" | "count" | "from" | "jql" | "user"),
     }
 }

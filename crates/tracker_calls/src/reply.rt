@@ -51,6 +51,12 @@ pub enum Answer {
         entries: ToldEntries,
         total: u64,
     },
+
+    /// The keys of some of the issues that were found, and how many were found.
+    Search {
+        issues: Names,
+        total: u64,
+    },
 }
 
 /// An entry of a history; `None` for a value that is empty.
@@ -160,6 +166,13 @@ pub enum Refusal {
     /// Number 6: this field is the first, by its number, whose value doesn't fit.
     Unfit {
         field: Text,
+    },
+
+    /// Number 7: the query's first fault. 1 to 7 are kinds of faults of its text, at the byte `place`; 11 to 15 are kinds of
+    /// faults of what it asks for, in the test of that number from 0, or after all tests in the sort key.
+    Query {
+        kind: u8,
+        place: usize,
     },
 
     /// Number 10: no more are kept than this limit.

@@ -1,11 +1,11 @@
 // The text of a reply: compact JSON, the members of each object in byte order of their names.
 ghost use Rattle.std.specs.Prelude.{◌≡◌, codes, IfOk, option_map};
 ghost use Rattle.serde_json.specs.View.{view};
-ghost use Rattle.tracker_calls.specs.Reply.{reply_text, reply_data, answer_data, create_data, edit_data, tick_data, refusal_data, form_data, unknown_data, forbidden_data, index_data, permission_name, text_or_null, unfit_data, limit_data, earlier_data, number_data, natural_or_null, thing_name, limit_name, limit_number};
+ghost use Rattle.tracker_calls.specs.Reply.{reply_text, reply_data, answer_data, create_data, edit_data, tick_data, search_data, refusal_data, form_data, unknown_data, forbidden_data, index_data, permission_name, text_or_null, unfit_data, query_data, limit_data, earlier_data, number_data, natural_or_null, thing_name, limit_name, limit_number};
 
 use crate::history_json::history_value;
 use crate::reply::{Answer, Limit, Refusal, Reply, Thing};
-use crate::show_json::show_value;
+use crate::show_json::{show_value, texts_value};
 use field_values::{Memory, Moment, Permission, Text};
 use serde_json::{Value, json};
 use std::alloc::Global;
@@ -60,6 +60,7 @@ fn answer_value(alloc: Global, answer: &Answer) -> Result<Value, Memory>
             updated,
         } => show_value(alloc, *created, fields, issue, *updated),
         Answer::History { entries, total } => history_value(alloc, entries.as_slice(), *total),
+        Answer::Search { issues, total } => search_value(alloc, issues.as_slice(), *total),
     }
 }
 
@@ -94,6 +95,13 @@ fn tick_value(alloc: Global, moment: Moment) -> Result<Value, Memory>
     Ok(json!(in alloc; {"moment": moment})?)
 }
 
+fn search_value(alloc: Global, issues: &[Text], total: u64) -> Result<Value, Memory>
+    ensures { IfOk result (λ value. view value ≡ search_data issues.now total) }
+{
+    let issues = texts_value(alloc, issues)?;
+    Ok(json!(in alloc; {"issues": &issues, "total": total})?)
+}
+
 fn refusal_value(alloc: Global, refusal: &Refusal) -> Result<Value, Memory>
     ensures { IfOk result (λ value. view value ≡ refusal_data refusal.now) }
 {
@@ -107,6 +115,7 @@ fn refusal_value(alloc: Global, refusal: &Refusal) -> Result<Value, Memory>
         Refusal::Condition { index } => index_value(alloc, 4, *index),
         Refusal::Validator { index } => index_value(alloc, 5, *index),
         Refusal::Unfit { field } => unfit_value(alloc, field),
+        Refusal::Query { kind, place } => query_value(alloc, *kind, *place),
         Refusal::Limit { limit } => limit_value(alloc, *limit),
         Refusal::Earlier { kept } => earlier_value(alloc, *kept),
         Refusal::Memory => number_value(alloc, 15),
@@ -175,6 +184,12 @@ fn unfit_value(alloc: Global, field: &Text) -> Result<Value, Memory>
 {
     let field = field.as_str();
     Ok(json!(in alloc; {"field": field, "no": 6})?)
+}
+
+fn query_value(alloc: Global, kind: u8, place: usize) -> Result<Value, Memory>
+    ensures { IfOk result (λ value. view value ≡ query_data kind place) }
+{
+    Ok(json!(in alloc; {"kind": kind, "no": 7, "place": place})?)
 }
 
 fn limit_value(alloc: Global, limit: Limit) -> Result<Value, Memory>

@@ -5,4 +5,5 @@ pub mod Holding
 pub mod Keys
 pub mod Performing
 pub mod Sound
+pub mod Surrounding
 pub mod Weights

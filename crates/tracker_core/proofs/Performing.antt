@@ -37,6 +37,7 @@ is_refused due old (refusal.Forbidden p q) is = (is (λ e. cc), refl)
 is_refused due old (refusal.Condition k) is = (is (λ e. cc), refl)
 is_refused due old (refusal.Validator k) is = (is (λ e. cc), refl)
 is_refused due old (refusal.Unfit f) is = (is (λ e. cc), refl)
+is_refused due old (refusal.Query k p) is = (is (λ e. cc), refl)
 is_refused due old (refusal.Limit l) is = (is (λ e. cc), refl)
 is_refused due old (refusal.Earlier k) is = (is (λ e. cc), refl)
 

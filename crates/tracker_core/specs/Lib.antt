@@ -1,4 +1,5 @@
 pub mod Check
+pub mod Found
 pub mod Issues
 pub mod Made
 pub mod State

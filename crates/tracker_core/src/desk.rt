@@ -1,7 +1,7 @@
-ghost use Rattle.std.specs.Prelude.{◌≡◌, ◌<◌, IfOk, length, option_map};
+ghost use Rattle.std.specs.Prelude.{◌≡◌, ◌≤◌, ◌<◌, ◌+◌, IfOk, length, option_map};
 ghost use Rattle.tracker_machine.specs.Machine.{opening};
 ghost use Rattle.tracker_machine.specs.Answer.{answer_of};
-ghost use Rattle.tracker_machine.specs.Step.{IsStep, Performs, changed};
+ghost use Rattle.tracker_machine.specs.Step.{IsStep, Performs, changed, evaluations};
 ghost use Rattle.tracker_calls.specs.Part.{part_fault};
 ghost use Rattle.tracker_machine.specs.Checks.{twins_refusal};
 ghost use Rattle.tracker_machine.specs.Refusal.{form_refusal, call_refusal};
@@ -10,6 +10,7 @@ use crate::check::{malformed, unknown};
 use crate::create::create;
 use crate::edit::edit;
 use crate::history::history;
+use crate::search::search;
 use crate::show::show;
 use crate::state::State;
 use crate::tick::tick;
@@ -19,7 +20,8 @@ use std::alloc::Global;
 use std::marker::Model;
 use std::sync::ledger::Ledger;
 use tracker_calls::{
-    Call, GivenField, MOST_ENTRIES, MOST_FROM, Part, Refusal, Reply, Thing, UserName, has_twins,
+    Call, GivenField, MOST_ENTRIES, MOST_FROM, MOST_LISTED, Part, Refusal, Reply, Thing, UserName,
+    has_twins,
 };
 
 /// What makes the calls, one at a time. Contracts see it as the abstract tracker's state.
@@ -54,7 +56,7 @@ impl Desk {
     #[tactic(auto, using(crate::proofs::Performing::step_refused, crate::proofs::Performing::step_unknown, crate::proofs::Performing::step_of))]
     pub fn call<L: Ledger>(&mut self, caller: &UserName, call: &Call, steps: &mut Steps<L>) -> Reply
         ensures step { IsStep self.old caller.now call.now result self.new }
-        ensures steps { steps.new ≡ steps.old }
+        ensures steps { steps.new ≤ steps.old + evaluations self.old call.now }
     {
         if let Some(member) = fault_of_form(call) {
             return Reply::Refused(malformed(self.alloc, member));
@@ -62,7 +64,7 @@ impl Desk {
         let Some(user) = self.state.user_named(caller.as_str()) else {
             return Reply::Refused(unknown(self.alloc, Thing::User, caller.as_str()));
         };
-        perform(self.alloc, &mut self.state, user, call)
+        perform(self.alloc, &mut self.state, user, call, steps)
     }
 
     /// The state, lent.
@@ -74,11 +76,18 @@ impl Desk {
 }
 
 // Makes a call of that user.
-#[tactic(auto, unfolding(tracker_machine::specs::Step::changed, tracker_machine::specs::Refusal::call_refusal, tracker_machine::specs::Answer::answer_of))]
-fn perform(alloc: Global, state: &mut State, user: UserNo, call: &Call) -> Reply
+#[tactic(auto, unfolding(tracker_machine::specs::Step::changed, tracker_machine::specs::Step::evaluations, tracker_machine::specs::Refusal::call_refusal, tracker_machine::specs::Answer::answer_of))]
+fn perform<L: Ledger>(
+    alloc: Global,
+    state: &mut State,
+    user: UserNo,
+    call: &Call,
+    steps: &mut Steps<L>,
+) -> Reply
     requires { user.0 < length state.old.machine.setup.users }
-    ensures { Performs (call_refusal state.old.machine user.0 call.now) (answer_of state.old.machine user.0 call.now)
+    ensures reply { Performs (call_refusal state.old.machine user.0 call.now) (answer_of state.old.machine user.0 call.now)
         (changed state.old.machine user.0 call.now) state.old.machine result state.new.machine }
+    ensures steps { steps.new ≤ steps.old + evaluations state.old.machine call.now }
 {
     match call {
         Call::Create {
@@ -111,6 +120,7 @@ fn perform(alloc: Global, state: &mut State, user: UserNo, call: &Call) -> Reply
         Call::Tick { to } => tick(state, *to),
         Call::Show { issue } => show(alloc, state, user, issue.as_str()),
         Call::History { issue, part } => history(alloc, state, user, issue.as_str(), *part),
+        Call::Search { jql, part } => search(alloc, state, user, jql.as_str(), *part, steps),
     }
 }
 
@@ -147,6 +157,7 @@ fn fault_of_form(call: &Call) -> Option<&'static str>
         Call::Edit { set, .. } => twins_fault(set.as_slice()),
         Call::Transition { set, .. } => twins_fault(set.as_slice()),
         Call::History { part, .. } => part_fault(*part, MOST_ENTRIES),
+        Call::Search { part, .. } => part_fault(*part, MOST_LISTED),
         Call::Tick { .. } | Call::Show { .. } => None,
     }
 }

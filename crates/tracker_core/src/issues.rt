@@ -69,6 +69,13 @@ impl Issues {
         self.bytes
     }
 
+    /// The issues by place, lent.
+    pub fn as_slice(&self) -> &[Issue]
+        ensures { result.now ≡ self.now.kept }
+    {
+        self.list.as_slice()
+    }
+
     /// The issue at a place.
     pub fn get(&self, place: usize) -> Option<&Issue>
         ensures { option_copied result ≡ slice_get self.now.kept place }

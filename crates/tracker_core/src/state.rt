@@ -4,6 +4,8 @@ ghost use Rattle.field_forms.specs.Names.{place_named};
 ghost use Rattle.tracker_machine.specs.Create.{with_issue};
 ghost use Rattle.fields.specs.SetupParts.{parts, names_in, may};
 ghost use Rattle.change_history.specs.History.{MayAdd};
+ghost use Rattle.jql_meaning.specs.Surroundings.{surroundings_of};
+ghost use Rattle.tracker_machine.specs.Search.{surroundings_in};
 ghost use Rattle.tracker_machine.specs.Machine.{opening};
 ghost use Rattle.tracker_machine.specs.Transition.{transition_names};
 ghost use Rattle.tracker_machine.specs.Known.{name_at, project_keys, issues_of, place_of_issue};
@@ -12,15 +14,17 @@ ghost use Rattle.tracker_core.specs.State.{counts_of, with_key, IsSettled, AllEn
 
 use crate::issues::Issues;
 use crate::project_key::count_key;
+use crate::setting::Setting;
 use change_history::{Group, Issue};
 use fields::{Memory, Moment, Permission, Project, ProjectNo, Setup, UserNo};
+use jql_bound::Context;
 use std::alloc::Global;
 use std::marker::Model;
 
 /// The tracker's state. Contracts see it as the abstract tracker's, and beside it what there is room for.
 #[derive(Debug, Drop)]
 pub struct State {
-    setup: Setup,
+    setting: Setting,
     moment: Moment,
     change: u64,
     issues: Issues,
@@ -35,9 +39,9 @@ impl Model for State {
 
     ghost Value = { Held };
 
-    ghost view = { λ s. record { machine = record { setup = parts s.setup; moment = s.moment; change = s.change; histories = map (λ i. i.history) s.issues.kept }; room = s.issues.room; rooms = map (λ i. i.room) s.issues.kept } };
+    ghost view = { λ s. record { machine = record { setup = parts s.setting.setup; moment = s.moment; change = s.change; histories = map (λ i. i.history) s.issues.kept }; room = s.issues.room; rooms = map (λ i. i.room) s.issues.kept } };
 
-    ghost invariant = { λ s. IsSound (record { setup = parts s.setup; moment = s.moment; change = s.change; histories = map (λ i. i.history) s.issues.kept }) s.counts.items };
+    ghost invariant = { λ s. IsSound (record { setup = parts s.setting.setup; moment = s.moment; change = s.change; histories = map (λ i. i.history) s.issues.kept }) s.counts.items };
 }
 
 /// A new issue with all that is kept of it.
@@ -58,8 +62,9 @@ impl State {
         ensures { IfOk result (λ state. state.machine ≡ opening (parts setup)) }
     {
         let counts = no_counts(alloc, setup.project.as_slice())?;
+        let setting = Setting::of(alloc, setup)?;
         Ok(State {
-            setup,
+            setting,
             moment: Moment::first(),
             change: 0,
             issues: Issues::new(alloc),
@@ -71,7 +76,14 @@ impl State {
     pub fn setup(&self) -> &Setup
         ensures { parts result.now ≡ self.now.machine.setup }
     {
-        &self.setup
+        &self.setting.setup
+    }
+
+    /// What queries ask of beside issues, lent.
+    pub fn context(&self) -> &Context
+        ensures { surroundings_of result.now ≡ surroundings_in self.now.machine.setup }
+    {
+        &self.setting.context
     }
 
     /// The present moment: that of the last accepted tick.
@@ -93,7 +105,7 @@ impl State {
         ensures place { option_map (λ no. no.0) result ≡ place_named name.now self.now.machine.setup.users }
         ensures there { IfSome result (λ no. no.0 < length self.now.machine.setup.users) }
     {
-        self.setup.user_named(name)
+        self.setting.setup.user_named(name)
     }
 
     /// The project of that key, ASCII case ignored; `None` exactly where there is none.
@@ -101,7 +113,7 @@ impl State {
         ensures place { option_map (λ no. no.0) result ≡ place_named name.now (project_keys self.now.machine.setup) }
         ensures there { IfSome result (λ no. no.0 < length self.now.machine.setup.project) }
     {
-        self.setup.project_named(name)
+        self.setting.setup.project_named(name)
     }
 
     /// The place of the transition of that name, ASCII case ignored; `None` exactly where there is none.
@@ -109,14 +121,14 @@ impl State {
         ensures place { result ≡ place_named name.now (transition_names self.now.machine.setup) }
         ensures there { IfSome result (λ place. place < length self.now.machine.setup.transition) }
     {
-        self.setup.transition_named(name)
+        self.setting.setup.transition_named(name)
     }
 
     /// Whether the user has the permission, in the project where it is one of a project.
     pub fn may(&self, user: UserNo, permission: Permission, project: Option<ProjectNo>) -> bool
         ensures { result ≡ may self.now.machine.setup user.0 permission (option_map (λ no. no.0) project) }
     {
-        self.setup.may(user, permission, project)
+        self.setting.setup.may(user, permission, project)
     }
 
     /// How many issues there are.
@@ -149,6 +161,13 @@ impl State {
         self.issues.place_of(key)
     }
 
+    /// The issues by place, lent.
+    pub fn issues(&self) -> &[Issue]
+        ensures { map (λ i. i.history) result.now ≡ self.now.machine.histories }
+    {
+        self.issues.as_slice()
+    }
+
     /// The issue at a place; `None` exactly where there is none.
     pub fn issue_at(&self, place: usize) -> Option<&Issue>
         ensures history { option_map (λ i. i.now.history) result ≡ slice_get self.now.machine.histories place }
@@ -170,7 +189,13 @@ impl State {
     pub fn project_key(&self, project: ProjectNo) -> &str
         ensures { result.now ≡ name_at (project_keys self.now.machine.setup) project.0 }
     {
-        match self.setup.project.as_slice().get(usize::from(project.0)) {
+        match self
+            .setting
+            .setup
+            .project
+            .as_slice()
+            .get(usize::from(project.0))
+        {
             Some(project) => project.key.as_str(),
             None => "",
         }
@@ -181,7 +206,12 @@ impl State {
         ensures { IfOk result (λ counts. counts.items
             ≡ with_key (counts_of self.now.machine.setup.project self.now.machine.histories) self.now.machine.setup.project key.now) }
     {
-        count_key(alloc, &self.counts, self.setup.project.as_slice(), key)
+        count_key(
+            alloc,
+            &self.counts,
+            self.setting.setup.project.as_slice(),
+            key,
+        )
     }
 
     /// Sets the present moment.

@@ -1,2 +1,4 @@
 pub mod Replies
 pub mod Runs
+pub mod InOrder
+pub mod Asking

@@ -49,6 +49,7 @@ unmarked old new line user c (refusal.Forbidden p q) asked step = refused old ne
 unmarked old new line user c (refusal.Condition k) asked step = refused old new line user c (refusal.Condition k) asked step.0 step.1
 unmarked old new line user c (refusal.Validator k) asked step = refused old new line user c (refusal.Validator k) asked step.0 step.1
 unmarked old new line user c (refusal.Unfit f) asked step = refused old new line user c (refusal.Unfit f) asked step.0 step.1
+unmarked old new line user c (refusal.Query k p) asked step = refused old new line user c (refusal.Query k p) asked step.0 step.1
 unmarked old new line user c (refusal.Limit l) asked step = refused old new line user c (refusal.Limit l) asked step.0 step.1
 unmarked old new line user c (refusal.Earlier k) asked step = refused old new line user c (refusal.Earlier k) asked step.0 step.1
 

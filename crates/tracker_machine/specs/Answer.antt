@@ -9,6 +9,7 @@ use Rattle.tracker_machine.specs.Edit.{edit_answer}
 use Rattle.tracker_machine.specs.Transition.{transition_answer}
 use Rattle.tracker_machine.specs.Show.{show_answer}
 use Rattle.tracker_machine.specs.Entries.{history_answer}
+use Rattle.tracker_machine.specs.Search.{search_answer}
 use Rattle.tracker_machine.specs.Tick.{tick_answer}
 
 unfoldable pub answer_of : Machine → ℕ → Call → Answer
@@ -18,3 +19,4 @@ answer_of m user (call.Transition issue transition set) = transition_answer m us
 answer_of m user (call.Tick to) = tick_answer to
 answer_of m user (call.Show issue) = show_answer m issue
 answer_of m user (call.History issue part) = history_answer m issue part
+answer_of m user (call.Search jql part) = search_answer m user jql part

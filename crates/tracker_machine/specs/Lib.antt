@@ -14,3 +14,5 @@ pub mod Refusal
 pub mod Answer
 pub mod Step
 pub mod Run
+pub mod Listing
+pub mod Search

@@ -11,6 +11,7 @@ use Rattle.tracker_machine.specs.Edit.{edit_refusal}
 use Rattle.tracker_machine.specs.Transition.{transition_refusal}
 use Rattle.tracker_machine.specs.Show.{show_refusal}
 use Rattle.tracker_machine.specs.Entries.{history_refusal}
+use Rattle.tracker_machine.specs.Search.{search_refusal}
 use Rattle.tracker_machine.specs.Tick.{tick_refusal}
 
 -- a call that was read from a line has no fault of form
@@ -21,6 +22,7 @@ form_refusal (call.Transition issue transition set) = twins_refusal set
 form_refusal (call.Tick to) = None
 form_refusal (call.Show issue) = None
 form_refusal (call.History issue part) = part_refusal 50 part
+form_refusal (call.Search jql part) = part_refusal 1_000 part
 
 -- the caller by place
 abbrev pub user_of : Machine → List ℕ → ℕ
@@ -34,6 +36,7 @@ call_refusal m user (call.Transition issue transition set) = transition_refusal 
 call_refusal m user (call.Tick to) = tick_refusal m to
 call_refusal m user (call.Show issue) = show_refusal m user issue
 call_refusal m user (call.History issue part) = history_refusal m user issue
+call_refusal m user (call.Search jql part) = search_refusal m user jql
 
 unfoldable pub first_refusal : Machine → List ℕ → Call → Option Refusal
 first_refusal m caller c = or_then (form_refusal c) (or_then (caller_refusal m caller) (call_refusal m (user_of m caller) c))

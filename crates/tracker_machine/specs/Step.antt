@@ -1,5 +1,5 @@
 -- One step of the abstract tracker: the reply to a call, and the state after it.
-use Rattle.std.specs.Prelude.{◌≡◌, ℕ, List, Option, Some, None}
+use Rattle.std.specs.Prelude.{◌≡◌, ℕ, List, length, Option, Some, None}
 use Rattle.tracker_calls.specs.declared.call.Call.{Call}
 use Rattle.tracker_calls.specs.declared.call.Call.TheVariants as call
 use Rattle.tracker_calls.specs.declared.reply.Reply.{Reply}
@@ -23,6 +23,12 @@ changed m user (call.Transition issue transition set) = transitioned m user issu
 changed m user (call.Tick to) = ticked m to
 changed m user (call.Show issue) = m
 changed m user (call.History issue part) = m
+changed m user (call.Search jql part) = m
+
+-- how often at most a call asks whether a query holds of an issue
+unfoldable pub evaluations : Machine → Call → ℕ
+evaluations m (call.Search jql part) = length m.histories
+evaluations m _ = 0
 
 -- a refused call has its refusal as the reply, and leaves all as it is
 abbrev pub refused_or : Option Refusal → Answer → Reply

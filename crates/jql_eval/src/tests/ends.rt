@@ -1,10 +1,10 @@
 //! Ends of truths.
 ghost use Rattle.std.specs.Prelude.{◌≡◌, ◌<◌};
 
-use super::parts::{condition, context, issue, moment, number, query, query_of};
+use super::parts::{condition, context, issue, moment, number, query_of, verdict_on};
 use crate::evaluate;
 use change_history::Issue;
-use field_values::{Memory, Steps};
+use field_values::{Memory, Moment, Steps};
 use jql_bound::{Bound, Cond, Context};
 use std::alloc::Global;
 use std::cmp::Ordering;
@@ -36,32 +36,56 @@ points / is not empty OR created / < / date -1m = 1000 = no = 1060
 due / < / date startOfMonth +1M = 1709251199 = no = 1709251200
 due / < / date startOfMonth +1M = 1709251200 = yes =";
 
+fn end_text(alloc: Global, end: Option<Moment>) -> Result<String, Memory> {
+    let Some(end) = end else {
+        return Ok(String::new(alloc));
+    };
+    let seconds = end.seconds();
+    Ok(format!(in alloc; "{seconds}")?)
+}
+
+fn check_row<L: Ledger>(
+    rt: &impl Abort,
+    alloc: Global,
+    row: &str,
+    issue: &Issue,
+    context: &Context,
+    steps: &mut Steps<L>,
+) -> Result<(), Fail> {
+    let mut parts = row.split(" =");
+    let text = parts.next().unwrap_or("");
+    let at = number(rt, parts.next().unwrap_or("").trim());
+    let holds = parts.next().unwrap_or("").trim();
+    let wanted = parts.next().unwrap_or("").trim();
+    let verdict = verdict_on(rt, alloc, text, issue, context, at, steps)?;
+    assert_eq!(rt; verdict.holds(), holds == "yes", "{row}");
+    let end = end_text(alloc, verdict.until())?;
+    assert_eq!(rt; end.as_str(), wanted, "{row}");
+    Ok(())
+}
+
+fn check_each<L: Ledger>(
+    rt: &impl Abort,
+    alloc: Global,
+    issue: &Issue,
+    context: &Context,
+    steps: &mut Steps<L>,
+) -> Result<(), Fail> {
+    for row in ROWS.split('\n') {
+        check_row(rt, alloc, row, issue, context, steps)?;
+    }
+    Ok(())
+}
+
 fn check_rows<L: Ledger, R: Abort>(rt: &R, alloc: Global, blank: Blank) -> Result<(), Fail>
     requires name { blank.name ≡ L.name }
     requires parts { blank.parts ≡ L.parts }
     requires some { 0 < L.parts }
 {
     let mut steps = Steps::<L>::new(blank);
-    let context = context(alloc);
     let issue = issue(rt, alloc, 1, ISSUE)?;
-    for row in ROWS.split('\n') {
-        let mut parts = row.split(" =");
-        let query = query(rt, alloc, parts.next().unwrap_or(""))?;
-        let at = number(rt, parts.next().unwrap_or("").trim());
-        let holds = parts.next().unwrap_or("").trim();
-        let wanted = parts.next().unwrap_or("").trim();
-        let verdict = evaluate(&query, &issue, &context, moment(rt, at), &mut steps);
-        assert_eq!(rt; verdict.holds(), holds == "yes", "{row}");
-        let end = match verdict.until() {
-            Some(end) => {
-                let seconds = end.seconds();
-                format!(in alloc; "{seconds}")?
-            }
-            None => String::new(alloc),
-        };
-        assert_eq!(rt; end.as_str(), wanted, "{row}");
-    }
-    Ok(())
+    let context = context(alloc);
+    check_each(rt, alloc, &issue, &context, &mut steps)
 }
 
 #[test]
@@ -132,22 +156,32 @@ impl Shape {
             || last.order(one) != last.order(other)
     }
 
+    fn joined(&self, is_any: bool, conds: Vec<Cond>) -> Cond {
+        if is_any {
+            Cond::Any(conds)
+        } else {
+            Cond::All(conds)
+        }
+    }
+
     fn query(&self, rt: &impl Abort, alloc: Global) -> Result<Bound, Memory> {
         let [one, other, last] = self.parts;
-        let mut inner = Vec::new(alloc);
-        inner.push(other.condition(rt, alloc)?)?;
-        inner.push(last.condition(rt, alloc)?)?;
-        let mut outer = Vec::new(alloc);
-        outer.push(one.condition(rt, alloc)?)?;
-        let cond = if self.is_any {
-            outer.push(Cond::All(inner))?;
-            Cond::Any(outer)
-        } else {
-            outer.push(Cond::Any(inner))?;
-            Cond::All(outer)
-        };
-        Ok(query_of(alloc, Some(cond)))
+        let inner = both(
+            alloc,
+            other.condition(rt, alloc)?,
+            last.condition(rt, alloc)?,
+        )?;
+        let inner = self.joined(!self.is_any, inner);
+        let outer = both(alloc, one.condition(rt, alloc)?, inner)?;
+        Ok(query_of(alloc, Some(self.joined(self.is_any, outer))))
     }
+}
+
+fn both(alloc: Global, one: Cond, other: Cond) -> Result<Vec<Cond>, Memory> {
+    let mut conds = Vec::new(alloc);
+    conds.push(one)?;
+    conds.push(other)?;
+    Ok(conds)
 }
 
 /// Each second up to the end of the truth, or the next five minutes.
@@ -167,7 +201,10 @@ fn look<L: Ledger>(
         Some(end) => {
             let end = end.seconds();
             assert!(rt; from < end, "the end is later than {from}");
-            assert!(rt; shape.differs(end.saturating_sub(1), end), "a comparison changes at {end}");
+            assert!(rt;
+                shape.differs(end.saturating_sub(1), end),
+                "a comparison changes at {end}"
+            );
             end
         }
         None => from.saturating_add(300),
@@ -177,32 +214,54 @@ fn look<L: Ledger>(
     }
 }
 
+fn look_at<L: Ledger>(
+    rt: &impl Abort,
+    alloc: Global,
+    pick: u64,
+    issue: &Issue,
+    context: &Context,
+    steps: &mut Steps<L>,
+) -> Result<(), Fail> {
+    let shape = Shape {
+        is_any: pick % 2 == 0,
+        parts: [
+            Compared::of(pick / 2),
+            Compared::of(pick / 32),
+            Compared::of(pick / 512),
+        ],
+    };
+    let query = shape.query(rt, alloc)?;
+    let from = 1_000 + pick / 8_192 % 300;
+    look(rt, &shape, &query, issue, context, from, steps);
+    Ok(())
+}
+
+fn check_each_shape<L: Ledger>(
+    rt: &impl Abort,
+    alloc: Global,
+    issue: &Issue,
+    context: &Context,
+    steps: &mut Steps<L>,
+) -> Result<(), Fail> {
+    let mut state: u64 = 20_240_331;
+    for _ in 0..400 {
+        state = state
+            .wrapping_mul(6_364_136_223_846_793_005)
+            .wrapping_add(1);
+        look_at(rt, alloc, state >> 33, issue, context, steps)?;
+    }
+    Ok(())
+}
+
 fn check_shapes<L: Ledger, R: Abort>(rt: &R, alloc: Global, blank: Blank) -> Result<(), Fail>
     requires name { blank.name ≡ L.name }
     requires parts { blank.parts ≡ L.parts }
     requires some { 0 < L.parts }
 {
     let mut steps = Steps::<L>::new(blank);
-    let context = context(alloc);
     let issue = issue(rt, alloc, 1, ISSUE)?;
-    let mut state: u64 = 20_240_331;
-    for _ in 0..400 {
-        state = state
-            .wrapping_mul(6_364_136_223_846_793_005)
-            .wrapping_add(1);
-        let pick = state >> 33;
-        let shape = Shape {
-            is_any: pick % 2 == 0,
-            parts: [
-                Compared::of(pick / 2),
-                Compared::of(pick / 32),
-                Compared::of(pick / 512),
-            ],
-        };
-        let query = shape.query(rt, alloc)?;
-        look(rt, &shape, &query, &issue, &context, 1_000 + pick / 8_192 % 300, &mut steps);
-    }
-    Ok(())
+    let context = context(alloc);
+    check_each_shape(rt, alloc, &issue, &context, &mut steps)
 }
 
 #[test]

@@ -98,35 +98,56 @@ fn setup(rt: &impl Abort, alloc: Global) -> Result<Setup, AllocError> {
 }
 
 fn rank(issue: &Issue) -> usize {
-    RANKS
-        .iter()
-        .position(|no| *no == issue.no().0)
-        .unwrap_or(0)
+    RANKS.iter().position(|no| *no == issue.no().0).unwrap_or(0)
 }
 
 fn ranks(one: &Issue, other: &Issue) -> Ordering {
     rank(one).cmp(&rank(other))
 }
 
+fn all_issues(rt: &impl Abort, alloc: Global) -> Result<Vec<Issue>, Fail> {
+    let mut issues = Vec::new(alloc);
+    for (no, text) in (1u32..).zip(ISSUES) {
+        issues.push(issue(rt, alloc, no, text)?)?;
+    }
+    Ok(issues)
+}
+
+fn sort(alloc: Global, setup: &Setup, issues: &mut Vec<Issue>, text: &str) -> Result<(), Memory> {
+    let order = order(alloc, text)?;
+    issues.sort_by(|one, other| compare(&order, one, other, ranks(one, other), setup))?;
+    Ok(())
+}
+
+fn numbers(alloc: Global, issues: &[Issue]) -> Result<String, Memory> {
+    let mut found = String::new(alloc);
+    for issue in issues {
+        let no = issue.no().0;
+        let number = format!(in alloc; " {no}")?;
+        found.push_str(number.as_str())?;
+    }
+    Ok(found)
+}
+
+fn check_each(
+    rt: &impl Abort,
+    alloc: Global,
+    setup: &Setup,
+    issues: &mut Vec<Issue>,
+) -> Result<(), Fail> {
+    for row in ROWS.split('\n') {
+        let (text, wanted) = row.split_once(" =").unwrap_or(("", ""));
+        sort(alloc, setup, issues, text)?;
+        let found = numbers(alloc, issues)?;
+        assert_eq!(rt; found.as_str(), wanted, "{row}");
+    }
+    Ok(())
+}
+
 #[test]
 fn issues_stand_in_the_order_of_their_sort_keys(rt: HostRuntime) -> Result<(), Fail> {
     let alloc = rt.alloc();
     let setup = setup(&rt, alloc)?;
-    let mut issues = Vec::new(alloc);
-    for (no, text) in (1u32..).zip(ISSUES) {
-        issues.push(issue(&rt, alloc, no, text)?)?;
-    }
-    for row in ROWS.split('\n') {
-        let (text, wanted) = row.split_once(" =").unwrap_or(("", ""));
-        let order = order(alloc, text)?;
-        issues.sort_by(|one, other| compare(&order, one, other, ranks(one, other), &setup))?;
-        let mut found = String::new(alloc);
-        for issue in &issues {
-            let no = issue.no().0;
-            let number = format!(in alloc; " {no}")?;
-            found.push_str(number.as_str())?;
-        }
-        assert_eq!(rt; found.as_str(), wanted, "{row}");
-    }
-    Ok(())
+    let mut issues = all_issues(&rt, alloc)?;
+    check_each(&rt, alloc, &setup, &mut issues)
 }

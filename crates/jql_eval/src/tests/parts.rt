@@ -1,7 +1,8 @@
 // Issues, queries and what is beside them, by their texts.
+use crate::{Verdict, evaluate};
 use change_history::{Change, Changes, Issue, Key};
 use field_values::{
-    ChoiceNo, Day, FieldNo, IssueNo, Memory, Moment, Sequence, SprintNo, Text, UserNo, Value,
+    ChoiceNo, Day, FieldNo, IssueNo, Memory, Moment, Sequence, SprintNo, Steps, Text, UserNo, Value,
 };
 use jql_bound::{
     Bound, Cond, Context, Inequality, Leaf, Operand, Operator, OrderBy, Phase, Subject, Word,
@@ -9,6 +10,7 @@ use jql_bound::{
 use relative_dates::{Calendar, Term, TermCall};
 use std::alloc::Global;
 use std::process::Abort;
+use std::sync::ledger::Ledger;
 
 pub fn moment(rt: &impl Abort, seconds: u64) -> Moment {
     Moment::new(seconds).expect(rt, "a moment")
@@ -214,4 +216,18 @@ pub fn context(alloc: Global) -> Context {
         members: Vec::new(alloc),
         calendar: Calendar::new(alloc, 0, 1),
     }
+}
+
+/// The verdict on the query of that condition.
+pub fn verdict_on<L: Ledger>(
+    rt: &impl Abort,
+    alloc: Global,
+    text: &str,
+    issue: &Issue,
+    context: &Context,
+    at: u64,
+    steps: &mut Steps<L>,
+) -> Result<Verdict, Memory> {
+    let query = query(rt, alloc, text)?;
+    Ok(evaluate(&query, issue, context, moment(rt, at), steps))
 }

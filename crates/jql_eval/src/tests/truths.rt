@@ -1,9 +1,9 @@
 //! Queries, by rows whose answers are known.
 ghost use Rattle.std.specs.Prelude.{◌≡◌, ◌<◌};
 
-use super::parts::{context, issue, moment, query};
-use crate::evaluate;
-use field_values::Steps;
+use super::parts::{context, issue, verdict_on};
+use field_values::{Memory, Steps};
+use jql_bound::Context;
 use std::alloc::Global;
 use std::marker::Brand;
 use std::process::Abort;
@@ -37,6 +37,59 @@ points / < / number 1000 AND points / > / number 3000 OR points / is empty = 2
 points / is empty OR points / is not empty = 1 2 3 4
 key / in / issue OPS-2; issue OPS-3 AND points / is empty = 2";
 
+fn is_found<L: Ledger>(
+    rt: &impl Abort,
+    alloc: Global,
+    query: &str,
+    no: u32,
+    text: &str,
+    context: &Context,
+    steps: &mut Steps<L>,
+) -> Result<bool, Fail> {
+    let issue = issue(rt, alloc, no, text)?;
+    let verdict = verdict_on(rt, alloc, query, &issue, context, 100, steps)?;
+    assert!(rt; verdict.until().is_none(), "{query}");
+    Ok(verdict.holds())
+}
+
+fn put_number(alloc: Global, found: &mut String, no: u32) -> Result<(), Memory> {
+    let number = format!(in alloc; " {no}")?;
+    found.push_str(number.as_str())?;
+    Ok(())
+}
+
+fn found_by<L: Ledger>(
+    rt: &impl Abort,
+    alloc: Global,
+    query: &str,
+    context: &Context,
+    steps: &mut Steps<L>,
+) -> Result<String, Fail> {
+    let mut found = String::new(alloc);
+    for (no, text) in (1u32..).zip(ISSUES) {
+        if is_found(rt, alloc, query, no, text, context, steps)? {
+            put_number(alloc, &mut found, no)?;
+        }
+    }
+    Ok(found)
+}
+
+fn check_each<L: Ledger>(
+    rt: &impl Abort,
+    alloc: Global,
+    context: &Context,
+    steps: &mut Steps<L>,
+) -> Result<(), Fail> {
+    for row in ROWS.split('\n') {
+        let mut parts = row.split(" =");
+        let query = parts.next().unwrap_or("");
+        let wanted = parts.next().unwrap_or("");
+        let found = found_by(rt, alloc, query, context, steps)?;
+        assert_eq!(rt; found.as_str(), wanted, "{row}");
+    }
+    Ok(())
+}
+
 fn check_rows<L: Ledger, R: Abort>(rt: &R, alloc: Global, blank: Blank) -> Result<(), Fail>
     requires name { blank.name ≡ L.name }
     requires parts { blank.parts ≡ L.parts }
@@ -44,23 +97,7 @@ fn check_rows<L: Ledger, R: Abort>(rt: &R, alloc: Global, blank: Blank) -> Resul
 {
     let mut steps = Steps::<L>::new(blank);
     let context = context(alloc);
-    for row in ROWS.split('\n') {
-        let mut parts = row.split(" =");
-        let query = query(rt, alloc, parts.next().unwrap_or(""))?;
-        let wanted = parts.next().unwrap_or("");
-        let mut found = String::new(alloc);
-        for (no, text) in (1u32..).zip(ISSUES) {
-            let issue = issue(rt, alloc, no, text)?;
-            let verdict = evaluate(&query, &issue, &context, moment(rt, 100), &mut steps);
-            assert!(rt; verdict.until().is_none(), "{row}");
-            if verdict.holds() {
-                let number = format!(in alloc; " {no}")?;
-                found.push_str(number.as_str())?;
-            }
-        }
-        assert_eq!(rt; found.as_str(), wanted, "{row}");
-    }
-    Ok(())
+    check_each(rt, alloc, &context, &mut steps)
 }
 
 #[test]

@@ -360,12 +360,15 @@ fn truths_stay_up_to_their_ends(rt: HostRuntime) -> Result<(), Fail> {
     let context = summer_context(&rt, alloc);
     let mut state: u64 = 20_240_331;
     let mut ends: u64 = 0;
-    for _ in 0..2_000 {
+    for _ in 0..10_000 {
         let issue = story(&rt, alloc, &mut state)?;
         let question = ask(alloc, &mut state)?;
-        let mut at = issue.updated().seconds();
-        let last = at.saturating_add(200);
-        for _ in 0..200 {
+        let mut at = issue
+            .updated()
+            .seconds()
+            .saturating_add(draw(&mut state) % 160);
+        let last = at.saturating_add(40);
+        for _ in 0..40 {
             if at < last {
                 at = stays(&rt, alloc, &context, &issue, &question, at, last)?;
                 ends = ends.saturating_add(1);
@@ -374,7 +377,7 @@ fn truths_stay_up_to_their_ends(rt: HostRuntime) -> Result<(), Fail> {
         assert!(rt; last <= at, "an end is later than the moment");
     }
     // Most of the 400,000 seconds are passed over.
-    assert!(rt; ends < 80_000, "{ends} ends");
+    assert!(rt; ends < 100_000, "{ends} ends");
     Ok(())
 }
 

@@ -21,6 +21,7 @@ its_own (reply.Refused (refusal.Forbidden p q)) e = absurd (apart 49 51 (lit< tt
 its_own (reply.Refused (refusal.Condition k)) e = absurd (apart 105 110 (lit< tt) (ap (λ l. slice_index l 13) e))
 its_own (reply.Refused (refusal.Validator k)) e = absurd (apart 105 110 (lit< tt) (ap (λ l. slice_index l 13) e))
 its_own (reply.Refused (refusal.Unfit f)) e = absurd (apart 102 110 (lit< tt) (ap (λ l. slice_index l 13) e))
+its_own (reply.Refused (refusal.Query k p)) e = absurd (apart 107 110 (lit< tt) (ap (λ l. slice_index l 13) e))
 its_own (reply.Refused (refusal.Limit l)) e = absurd (apart 108 110 (lit< tt) (ap (λ l. slice_index l 13) e))
 its_own (reply.Refused (refusal.Earlier k)) e = absurd (apart 107 110 (lit< tt) (ap (λ l. slice_index l 13) e))
 its_own (reply.Refused refusal.Memory) e = refl

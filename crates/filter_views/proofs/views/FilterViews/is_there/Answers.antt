@@ -1,5 +1,4 @@
-use Rattle.std.proofs.Common.{◌≡◌, ◌∙◌, sym, ap}
-use Rattle.filter_views.specs.Cell.{is_there}
+use Rattle.std.proofs.Common.{sym}
 use Rattle.filter_views.proofs.Lookups.{none_in_list}
 use Rattle.filter_views.proofs.Filters.{there_at, not_there}
 use Rattle.filter_views.proofs.views.FilterViews.is_there.Goals as goal

@@ -1,4 +1,5 @@
-use Rattle.std.proofs.Common.{◌≡◌, [], ap, ◌∙◌, arith}
+use Rattle.std.proofs.Common.{◌≡◌, [], ap, sym, ◌∙◌, arith}
+use Rattle.field_values.specs.Parts.{Parts}
 use Rattle.tracker_core.specs.Issues.{Shelf}
 use Rattle.tracker_core.specs.State.{counts_of}
 use Rattle.tracker_core.proofs.state.State.opening.Goals as goal
@@ -7,7 +8,7 @@ pub invariant_of-result : goal.invariant_of-result
 invariant_of-result c =
     let none : c.new.result.kept ≡ [] = ap (λ (s : Shelf). s.kept) c.new.ensures in
     rw (none) (record {
-      counted = c.in_ok-counts.ensures ∙ ap (λ ps. counts_of ps []) c.as_slice.ensures;
+      counted = c.in_ok-counts.ensures ∙ ap (λ ps. counts_of ps []) (c.as_slice.ensures ∙ ap (λ (p : Parts). p.project) (sym c.in_ok-setting.ensures));
       few_issues = omega arith;
       few_bytes = omega arith;
       few_entries = omega arith;

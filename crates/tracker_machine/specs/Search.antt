@@ -1,0 +1,90 @@
+-- The call `search`: the issues of which a query holds now.
+use Rattle.std.specs.Prelude.{ℕ, Bool, ◌&&◌, List, [], ◌∷◌, map, filter, length, Option, Some, None, Result, Ok, Err}
+use Rattle.std.specs.Ordering.{is_lt}
+use Rattle.std.specs.declared.cmp.Ordering.TheVariants.{Equal}
+use Rattle.field_values.specs.declared.rules.Permission.TheVariants as permission
+use Rattle.field_values.specs.Parts.{Parts}
+use Rattle.field_values.specs.Words.{day_number}
+use Rattle.setup_drafts.specs.Offsets.{zone_of}
+use Rattle.fields.specs.SetupParts.{may}
+use Rattle.change_history.specs.History.{History}
+use Rattle.workflow.specs.Conditions.{project_of}
+use Rattle.jql_syntax.specs.Either.{QueryOrFault, text_is, text_has}
+use Rattle.jql_syntax.specs.Fault.{number_of_kind as number_of_text_fault}
+use Rattle.jql_syntax.proofs.Total.{text_decided}
+use Rattle.jql_bound.specs.Condition.{Condition}
+use Rattle.jql_bound.specs.declared.order.OrderKey.{OrderKey}
+use Rattle.jql_grammar.specs.Bound.{bound_in, number_of_kind}
+use Rattle.jql_grammar.specs.Conditions.{Fault}
+use Rattle.jql_meaning.specs.Surroundings.{Surroundings}
+use Rattle.jql_meaning.specs.Truth.{query_holds}
+use Rattle.jql_meaning.specs.Order.{issue_cmp}
+use Rattle.tracker_calls.specs.Part.{part_of}
+use Rattle.tracker_calls.specs.declared.call.Part.{Part}
+use Rattle.tracker_calls.specs.declared.reply.Answer.{Answer}
+use Rattle.tracker_calls.specs.declared.reply.Answer.TheVariants as answer
+use Rattle.tracker_calls.specs.declared.reply.Refusal.{Refusal}
+use Rattle.tracker_calls.specs.declared.reply.Refusal.TheVariants as refusal
+use Rattle.tracker_machine.specs.Machine.{Machine}
+use Rattle.tracker_machine.specs.Listing.{in_order}
+
+-- ---- what is asked for
+
+-- a condition, if any, and sort keys
+pub record Query : Type 0 where
+  pub condition : Option Condition
+  pub keys : List OrderKey
+
+-- what a text that is read asks for in the setup, or the fault that it has there
+abbrev pub bound_or_fault : Result (Option Condition × List OrderKey) Fault → Result Query Refusal
+bound_or_fault (Ok bound) = Ok (record { condition = bound.0; keys = bound.1 })
+bound_or_fault (Err fault) = Err (refusal.Query (number_of_kind fault.kind) fault.place)
+
+-- what a text asks for when the user asks it, or its first fault
+abbrev pub asked_by : Parts → ℕ → (text : List ℕ) → QueryOrFault text → Result Query Refusal
+asked_by setup user text (text_is q keys is) = bound_or_fault (bound_in (record { setup = setup; caller = record { 0 = user } }) q keys)
+asked_by setup user text (text_has place kind is) = Err (refusal.Query (number_of_text_fault kind) place)
+
+-- each text is a query or has a first fault, and never both
+unfoldable pub asked : Parts → ℕ → List ℕ → Result Query Refusal
+asked setup user text = asked_by setup user text (text_decided text)
+
+abbrev pub fault_of : Result Query Refusal → Option Refusal
+fault_of (Ok query) = None
+fault_of (Err r) = Some r
+
+unfoldable pub search_refusal : Machine → ℕ → List ℕ → Option Refusal
+search_refusal m caller jql = fault_of (asked m.setup caller jql)
+
+-- ---- what is found
+
+-- there are no sprints yet
+abbrev pub surroundings_in : Parts → Surroundings
+surroundings_in setup = record {
+  sprints = [];
+  members = map (λ g. g.members) setup.group;
+  calendar = record { zone = zone_of setup.utc_offset_minutes setup.offset; first_day = day_number setup.week_starts };
+}
+
+-- the user may browse the issue, and the query holds of it now
+abbrev pub is_found : Machine → ℕ → Option Condition → History → Bool
+is_found m caller condition h =
+    may m.setup caller permission.Browse (project_of m.setup h) && query_holds (surroundings_in m.setup) h m.moment condition
+
+unfoldable pub found : Machine → ℕ → Option Condition → List History
+found m caller condition = filter (is_found m caller condition) m.histories
+
+-- the issues in the order of the sort keys, and by number where none of these tells them apart; there are no ranks yet
+abbrev pub comes_before : Parts → List OrderKey → History → History → Bool
+comes_before setup keys one other = is_lt (issue_cmp setup keys Equal one other)
+
+unfoldable pub listed : Parts → List OrderKey → List History → List History
+listed setup keys histories = in_order (comes_before setup keys) histories
+
+abbrev pub search_answer_of : Machine → ℕ → Part → Result Query Refusal → Answer
+search_answer_of m caller part (Err r) = answer.Search [] 0
+search_answer_of m caller part (Ok query) =
+    answer.Search (map (λ h. h.key) (part_of part (listed m.setup query.keys (found m caller query.condition)))) (length (found m caller query.condition))
+
+unfoldable pub search_answer : Machine → ℕ → List ℕ → Part → Answer
+search_answer m caller jql part = search_answer_of m caller part (asked m.setup caller jql)
