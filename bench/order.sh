@@ -9,11 +9,11 @@ work=$(mktemp -d)
 trap 'rm -rf "$work"' EXIT
 mkdir "$work/crates"
 cp "$top/HANDLES" "$work/HANDLES"
-for crate in relative_dates fields rank_strings board; do
+for crate in field_values rank_strings board; do
     cp -a "$top/crates/$crate" "$work/crates/$crate"
     grep "^$crate:" "$top/crates.txt" >> "$work/crates.txt"
 done
-echo "order_bench: fields rank_strings board" >> "$work/crates.txt"
+echo "order_bench: field_values rank_strings board" >> "$work/crates.txt"
 program=$work/crates/order_bench
 mkdir -p "$program/src" "$program/proofs/create" "$program/proofs/move_after"
 (cd "$work" && git init -q .)
@@ -23,7 +23,7 @@ cat > "$program/src/main.rt" <<'RATTLE'
 #![tactic(auto)]
 
 use board::{Order, Place, laws};
-use fields::{IssueNo, Memory};
+use field_values::{IssueNo, Memory};
 use rank_strings::RankFault;
 use std::process::ExitCode;
 use std::time::Instant;
@@ -109,7 +109,7 @@ RATTLE
 cat > "$program/proofs/create/Answers.antt" <<'ANTT'
 use Rattle.std.proofs.Common.{◌≡◌, None, false, refl, sym, ◌∙◌, rules, arith}
 use Rattle.std.proofs.lemmas.Bool.{false≢true}
-use Rattle.fields.specs.declared.numbers.IssueNo.{IssueNo}
+use Rattle.field_values.specs.declared.numbers.IssueNo.{IssueNo}
 use Rattle.board.specs.declared.place.Place.TheVariants.{Last}
 use Rattle.board.specs.Order.{IsIn}
 use Rattle.order_bench.proofs.create.Goals as goal
