@@ -1,8 +1,8 @@
 -- The value that a text stands for in a field is one that the field may hold.
-use Rattle.std.proofs.Common.{◌≡◌, ℕ, ◌+◌, ◌<◌, ◌≤◌, ◌==◌, List, [], ◌∷◌, length, Bool, true, false, not, ◌&&◌, ◌||◌, nat_le, nat_lt, Option, Some, None, option_map, option_and_then, position, refl, arith, inl, inr, ◌⊎◌, ℤ, pos, int_le, sym, Result, Ok, Err, subst, if◌then◌else◌}
+use Rattle.std.proofs.Common.{◌≡◌, ℕ, ◌+◌, ◌<◌, ◌≤◌, ◌==◌, List, [], ◌∷◌, length, Bool, true, false, ◌||◌, nat_le, Option, Some, None, option_map, option_and_then, refl, arith, inl, inr, ℤ, pos, int_le, sym, Result, Ok, Err, subst, if◌then◌else◌}
 use Rattle.std.specs.Prelude.{IfOk, IfSome}
-use Rattle.std.specs.List.{list_all, find}
-use Rattle.std.specs.Option.{option_map_or, option_or}
+use Rattle.std.specs.List.{list_all}
+use Rattle.std.specs.Option.{option_map_or}
 use Rattle.std.specs.Str.{str_eq_ignore_ascii_case}
 use Rattle.std.proofs.lemmas.Bool.{cases_Bool, and_parts}
 use Rattle.std.proofs.lemmas.Grind.{common_steps}
@@ -15,15 +15,14 @@ use Rattle.field_values.specs.declared.value.Value.{Value}
 use Rattle.field_values.specs.declared.value.Value.TheVariants.{Empty, Text as TextValue, Number as NumberValue, Choice as ChoiceValue, User as UserValue, Date as DateValue, Set as SetValue, Labels as LabelsValue, Sprint as SprintValue}
 use Rattle.field_forms.specs.declared.form.Form.{Form}
 use Rattle.field_forms.specs.declared.form.Form.TheVariants.{Line, Prose, Number, Points, Choice, User, Set, Labels, Date, Sprint}
-use Rattle.field_forms.specs.Names.{is_among, place_named, is_from_to}
+use Rattle.field_forms.specs.Names.{is_among, place_named}
 use Rattle.field_forms.specs.Numbers.{number_of, is_number}
-use Rattle.field_forms.specs.Dates.{day_of, is_day}
+use Rattle.civil_dates.specs.Reading.{day_of}
 use Rattle.field_forms.specs.TextLists.{texts_in}
-use Rattle.field_forms.specs.BuiltIn.{built_in_no}
-use Rattle.field_forms.specs.Values.{is_line, is_prose, is_label, is_label_list, are_labels, with_labels, labels_value, label_list_of, chosen, set_value, set_of, is_set, points_of, sprint_of, value_in, has_form}
-use Rattle.field_forms.specs.Known.{Names, own_field, form_by, form_of, choices_of, value_of, may_be_empty, fits_form, fits}
+use Rattle.field_forms.specs.Values.{is_line, is_prose, is_label, is_label_list, are_labels, with_labels, labels_value, chosen, set_value, is_set, sprint_of, value_in, has_form}
+use Rattle.field_forms.specs.Known.{Names, form_by, form_of, choices_of, value_of, may_be_empty, fits_form, fits}
 use Rattle.field_forms.proofs.Sizes.{written_number}
-use Rattle.field_forms.proofs.Days.{written_day}
+use Rattle.civil_dates.proofs.Texts.{read_is_text}
 use Rattle.field_forms.proofs.Labels.{all_in_order, all_short}
 
 -- a form whose text may stand for nothing
@@ -154,7 +153,7 @@ read_formed Labels names text value e = labels_read names (texts_in text) value 
 read_formed Date names text value e = by_day (day_of text) refl e where
   by_day : (day : Option ℤ) → day_of text ≡ day → option_map (λ d. DateValue (record { 0 = d })) day ≡ Some value → has_form_or_nothing Date names value ≡ true
   by_day None d is = absurd (cc)
-  by_day (Some day) d is = same_formed Date names (DateValue (record { 0 = day })) value (cc) (written_day text day d)
+  by_day (Some day) d is = same_formed Date names (DateValue (record { 0 = day })) value (cc) ((read_is_text text day d).0)
 read_formed Sprint names text value e = by_sprint (sprint_of text) refl e where
   by_sprint : (sprint : Option ℕ) → sprint_of text ≡ sprint → option_map (λ n. SprintValue (record { 0 = n })) sprint ≡ Some value → has_form_or_nothing Sprint names value ≡ true
   by_sprint None s is = absurd (cc)

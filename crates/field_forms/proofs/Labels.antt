@@ -1,15 +1,15 @@
 -- Labels that are put in their places stay in the order of their bytes.
-use Rattle.std.proofs.Common.{◌≡◌, ℕ, zero, suc, ◌+◌, ◌<◌, ◌≤◌, List, [], ◌∷◌, ◌++◌, length, take, drop, Bool, true, false, not, ◌&&◌, ◌||◌, nat_lt, nat_le, Option, Some, None, unwrap_or, position, insert, if◌then◌else◌, refl, ap, sym, ◌∙◌, inl, inr, arith}
-use Rattle.std.specs.List.{list_all, list_any, position_or_len, prefix_len}
+use Rattle.std.proofs.Common.{◌≡◌, ℕ, suc, ◌+◌, ◌≤◌, List, [], ◌∷◌, length, true, false, not, insert, if◌then◌else◌, refl, ap, ◌∙◌, inl, inr, arith}
+use Rattle.std.specs.List.{list_all, list_any, position_or_len}
 use Rattle.std.specs.declared.cmp.Ordering.{Ordering}
-use Rattle.std.specs.Ordering.{nat_cmp, is_lt, is_eq, ordering_reverse}
+use Rattle.std.specs.Ordering.{nat_cmp, ordering_reverse}
 use Rattle.std.specs.declared.cmp.Ordering.TheVariants.{Less, Equal, Greater}
 use Rattle.std.specs.Cmp.Lexicographic.{slice_cmp, nat_list_cmp_total}
 use Rattle.std.specs.Str.{bytes_eq}
 use Rattle.std.proofs.lemmas.Bool.{cases_Bool, and_parts}
 use Rattle.std.proofs.lemmas.Grind.{common_steps}
 use Rattle.std.proofs.lemmas.Map.Text.{is_eq-slice_cmp}
-use Rattle.field_forms.specs.Values.{is_label, is_before, place_for, with_label, with_labels, are_labels, is_label_list}
+use Rattle.field_forms.specs.Values.{is_label, is_before, place_for, with_label, with_labels, is_label_list}
 
 -- of two labels that aren't the same, one is before the other
 pub other_way : (one other : List ℕ) → is_before one other ≡ false → bytes_eq one other ≡ false → is_before other one ≡ true

@@ -4,7 +4,6 @@ pub mod Finding
 pub mod Fitting
 pub mod Floats
 pub mod Labels
-pub mod Days
 pub mod Sizes
 pub mod Fits
 pub mod SoundRules

@@ -1,14 +1,13 @@
 -- The shortest text of a number is read as that number.
-use Rattle.std.proofs.Common.{◌≡◌, ℕ, zero, suc, ◌+◌, ◌-◌, ◌*◌, ◌/◌, ◌%◌, ◌^◌, ◌<◌, ◌≤◌, ◌==◌, List, [], ◌∷◌, ◌++◌, length, take, drop, get_or, position, Bool, true, false, ◌&&◌, nat_le, nat_lt, Option, Some, None, option_map, refl, ap, sym, ◌∙◌, subst, arith, inl, inr, ℤ, pos, negsuc, neg_ℤ, int_lt, unsigned_abs, decimal, codes, slice_index}
+use Rattle.std.proofs.Common.{◌≡◌, ℕ, suc, ◌+◌, ◌-◌, ◌*◌, ◌/◌, ◌%◌, ◌^◌, ◌<◌, ◌≤◌, ◌==◌, List, [], ◌∷◌, ◌++◌, length, position, true, false, Some, None, refl, ap, ◌∙◌, arith, inl, inr, ℤ, pos, negsuc, int_lt, decimal, slice_index}
 use Rattle.std.specs.List.{list_all, position_or_len}
-use Rattle.std.specs.Option.{option_map_or}
 use Rattle.std.proofs.lemmas.Bool.{cases_Bool, and_parts}
 use Rattle.std.proofs.lemmas.Grind.{common_steps}
 use Rattle.std.proofs.lemmas.Int.{ints}
 use Rattle.std.proofs.lemmas.List.{append-nil, length-append}
 use Rattle.std.proofs.Math.Seq.{take-append_seam, drop-append_seam}
 use Rattle.std.proofs.lemmas.Fmt.{decimal_by_steps, decimal_digit, length-decimal-le, decimal_nonempty}
-use Rattle.field_forms.specs.Numbers.{read_on, is_digit, is_numeral, whole_of, fraction_of, sum_of, size_of, number_of, fraction_text, sign_of, number_text, is_number}
+use Rattle.field_forms.specs.Numbers.{read_on, is_digit, is_numeral, whole_of, fraction_of, size_of, number_of, fraction_text, number_text, is_number}
 
 -- one digit more at the end
 read_last : (n digit : ℕ) (digits : List ℕ) → read_on n (digits ++ digit ∷ []) ≡ 10 * read_on n digits + (digit - 48)

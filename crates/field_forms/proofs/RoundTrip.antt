@@ -1,5 +1,5 @@
 -- The text of a value is read as that value.
-use Rattle.std.proofs.Common.{◌≡◌, ℕ, zero, suc, ◌+◌, ◌<◌, ◌≤◌, List, [], ◌∷◌, length, get_or, Bool, true, false, Option, Some, None, option_map, option_and_then, position, refl, arith, sym, subst, ◌∙◌, ap, ℤ, pos, int_le, Result, Ok, Err}
+use Rattle.std.proofs.Common.{◌≡◌, ℕ, zero, suc, ◌<◌, List, [], ◌∷◌, length, get_or, true, false, Option, Some, None, option_and_then, refl, arith, sym, subst, ◌∙◌, ap, ℤ, pos, int_le, Result, Ok, Err}
 use Rattle.std.specs.Prelude.{IfOk}
 use Rattle.std.specs.List.{slice_get, position_or_len}
 use Rattle.std.specs.Option.{option_map_or}
@@ -16,8 +16,10 @@ use Rattle.field_values.specs.declared.value.Value.TheVariants.{Empty, Text as T
 use Rattle.field_forms.specs.declared.form.Form.{Form}
 use Rattle.field_forms.specs.declared.form.Form.TheVariants.{Line, Prose, Number, Points, Choice, User, Set, Labels, Date, Sprint}
 use Rattle.field_forms.specs.Names.{AreDistinct, place_named}
-use Rattle.field_forms.specs.Numbers.{number_of, number_text, is_number}
-use Rattle.field_forms.specs.Dates.{day_of}
+use Rattle.field_forms.specs.Numbers.{number_of, is_number}
+use Rattle.civil_dates.specs.Reading.{day_of}
+use Rattle.civil_dates.specs.DateText.{date_text}
+use Rattle.civil_dates.proofs.Texts.{text_reads_back}
 use Rattle.field_forms.specs.Values.{value_in, has_form}
 use Rattle.field_forms.specs.Known.{Names, form_of, choices_of, value_of, fits_form, fits}
 use Rattle.field_forms.specs.ValueTexts.{IsTextOf, IsReadBack}
@@ -79,18 +81,20 @@ user_back Labels names user text distinct h got = absurd (cc)
 user_back Date names user text distinct h got = absurd (cc)
 user_back Sprint names user text distinct h got = absurd (cc)
 
-date_back : (form : Form) (names : List (List ℕ)) (day : DayNo) (text : List ℕ) → has_form form names (DateValue day) ≡ true → day_of text ≡ Some day.0 → value_in form names text ≡ Some (DateValue day)
+date_back : (form : Form) (names : List (List ℕ)) (day : DayNo) (text : List ℕ) → has_form form names (DateValue day) ≡ true → text ≡ date_text day.0 → value_in form names text ≡ Some (DateValue day)
 unfolding value_in
-date_back Date names day text h read = rw read refl
-date_back (Line n) names day text h read = absurd (cc)
-date_back (Prose n) names day text h read = absurd (cc)
-date_back Number names day text h read = absurd (cc)
-date_back Points names day text h read = absurd (cc)
-date_back Choice names day text h read = absurd (cc)
-date_back User names day text h read = absurd (cc)
-date_back Set names day text h read = absurd (cc)
-date_back Labels names day text h read = absurd (cc)
-date_back Sprint names day text h read = absurd (cc)
+date_back Date names day text h is =
+    let read : day_of text ≡ Some day.0 = ap day_of is ∙ text_reads_back day.0 h in
+    rw read refl
+date_back (Line n) names day text h is = absurd (cc)
+date_back (Prose n) names day text h is = absurd (cc)
+date_back Number names day text h is = absurd (cc)
+date_back Points names day text h is = absurd (cc)
+date_back Choice names day text h is = absurd (cc)
+date_back User names day text h is = absurd (cc)
+date_back Set names day text h is = absurd (cc)
+date_back Labels names day text h is = absurd (cc)
+date_back Sprint names day text h is = absurd (cc)
 
 number_read : (form : Form) (names : List (List ℕ)) (z : ℤ) (text : List ℕ) → has_form form names (NumberValue z) ≡ true → number_of text ≡ Some z → value_in form names text ≡ Some (NumberValue z)
 unfolding value_in

@@ -1,11 +1,9 @@
 -- The numbers that texts write are less than a thousand million on either side of zero.
-use Rattle.std.proofs.Common.{◌≡◌, ℕ, suc, ◌+◌, ◌-◌, ◌*◌, ◌^◌, ◌<◌, ◌≤◌, ◌==◌, List, [], ◌∷◌, length, take, drop, position, Bool, true, false, ◌&&◌, nat_le, Option, Some, None, option_map, refl, ap, arith, inl, inr, ℤ, pos, neg_ℤ, int_le, unsigned_abs, slice_index, mul-le-mul_right, sym, ◌∙◌}
+use Rattle.std.proofs.Common.{◌≡◌, ℕ, ◌+◌, ◌-◌, ◌*◌, ◌^◌, ◌<◌, ◌≤◌, ◌==◌, List, [], ◌∷◌, length, take, drop, position, true, Option, Some, None, option_map, refl, ap, arith, inl, inr, ℤ, pos, neg_ℤ, slice_index, mul-le-mul_right, sym, ◌∙◌}
 use Rattle.std.proofs.Math.Nat.{pow-succ', pow-le-pow_right}
 use Rattle.std.proofs.lemmas.Nat.{pow-add}
 use Rattle.std.specs.List.{list_all}
-use Rattle.std.specs.Option.{option_map_or}
 use Rattle.std.proofs.lemmas.Bool.{cases_Bool, and_parts}
-use Rattle.std.proofs.lemmas.Grind.{common_steps}
 use Rattle.std.proofs.lemmas.Int.{ints}
 use Rattle.field_forms.specs.Numbers.{read_on, is_digit, is_numeral, whole_of, fraction_of, sum_of, size_of, number_of, is_number}
 

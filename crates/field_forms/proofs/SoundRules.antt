@@ -1,28 +1,28 @@
 -- The rules that texts state name what is there.
-use Rattle.std.proofs.Common.{◌≡◌, ℕ, ◌+◌, ◌<◌, ◌≤◌, ◌==◌, List, [], ◌∷◌, length, Bool, true, false, not, ◌&&◌, ◌||◌, nat_le, nat_lt, Option, Some, None, is_some, option_map, option_and_then, refl, arith, inl, inr, sym, subst, if◌then◌else◌, codes, ap, ◌∙◌}
-use Rattle.std.specs.List.{list_all, list_any, find, filter_map}
+use Rattle.std.proofs.Common.{◌≡◌, ℕ, ◌+◌, ◌<◌, ◌≤◌, ◌==◌, List, [], ◌∷◌, length, Bool, true, false, Option, Some, None, is_some, option_map, option_and_then, refl, arith, inl, inr, subst, if◌then◌else◌, codes}
+use Rattle.std.specs.List.{list_all, filter_map}
 use Rattle.std.specs.Option.{option_map_or, option_or}
 use Rattle.std.specs.Str.{bytes_eq, str_eq_ignore_ascii_case}
-use Rattle.std.proofs.lemmas.Bool.{cases_Bool, and_parts}
+use Rattle.std.proofs.lemmas.Bool.{cases_Bool}
 use Rattle.std.proofs.lemmas.Grind.{common_steps}
 use Rattle.field_values.specs.declared.field.Field.{Field}
 use Rattle.field_values.specs.declared.value.Value.{Value}
 use Rattle.field_values.specs.declared.value.Value.TheVariants.{Empty}
 use Rattle.field_values.specs.declared.rules.Permission.{Permission}
 use Rattle.field_values.specs.declared.rules.CallerTest.{CallerTest}
-use Rattle.field_values.specs.declared.rules.CallerTest.TheVariants.{IsAssignee, IsReporter, InGroup, HasPermission}
+use Rattle.field_values.specs.declared.rules.CallerTest.TheVariants.{InGroup, HasPermission}
 use Rattle.field_values.specs.declared.rules.Condition.{Condition}
 use Rattle.field_values.specs.declared.rules.Validator.{Validator}
-use Rattle.field_values.specs.declared.rules.Validator.TheVariants.{Required, Changed, Due, Permission as PermissionOf}
+use Rattle.field_values.specs.declared.rules.Validator.TheVariants.{Required, Changed, Permission as PermissionOf}
 use Rattle.field_values.specs.declared.rules.PostFunction.{PostFunction}
-use Rattle.field_values.specs.declared.rules.PostFunction.TheVariants.{Set, Clear, AssignCaller, AssignReporter, AssignLead, Resolution}
+use Rattle.field_values.specs.declared.rules.PostFunction.TheVariants.{Set, Clear, Resolution}
 use Rattle.field_forms.specs.declared.form.Form.{Form}
 use Rattle.field_forms.specs.Cuts.{cut_at, pieces_at}
 use Rattle.field_forms.specs.Names.{place_named}
 use Rattle.field_forms.specs.BuiltIn.{built_in_no}
-use Rattle.field_forms.specs.Known.{Names, own_field, own_field_named, field_named, form_by, form_of, choices_of, value_of, may_be_empty, fits_form, fits}
+use Rattle.field_forms.specs.Known.{Names, own_field, own_field_named, field_named, form_of, choices_of, value_of, may_be_empty, fits_form, fits}
 use Rattle.field_forms.specs.Rules.{after_colon, permission_of, named_test, test_of, all_tests, any_of, tests_of, condition_of, named_validator, validator_of, is_settable, settable_named, set_of, assignee_of, named_post, post_of}
-use Rattle.field_forms.specs.SoundRules.{is_group, test_is_sound, condition_is_sound, is_field, validator_is_sound, post_is_sound}
+use Rattle.field_forms.specs.SoundRules.{test_is_sound, condition_is_sound, is_field, validator_is_sound, post_is_sound}
 use Rattle.field_forms.proofs.Fits.{named_inside, read_fits}
 
 one_more_made : {X Y : Type 0} (make : X → Option Y) (test : Y → Bool) (x : X) (xs : List X) (made : Option Y) → make x ≡ made → ((y : Y) → make x ≡ Some y → test y ≡ true) → list_all test (filter_map make xs) ≡ true → list_all test (filter_map make (x ∷ xs)) ≡ true

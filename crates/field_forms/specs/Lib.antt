@@ -3,7 +3,6 @@ pub mod BuiltIn
 pub mod NameForms
 pub mod Cuts
 pub mod Numbers
-pub mod Dates
 pub mod TextLists
 pub mod Values
 pub mod Known

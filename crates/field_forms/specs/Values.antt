@@ -11,7 +11,8 @@ use Rattle.field_forms.specs.declared.form.Form.{Form}
 use Rattle.field_forms.specs.declared.form.Form.TheVariants.{Line, Prose, Number, Points, Choice, User, Set, Labels, Date, Sprint}
 use Rattle.field_forms.specs.Names.{is_from_to, is_among, place_named, has_controls}
 use Rattle.field_forms.specs.Numbers.{read_on, is_numeral, number_of, is_number}
-use Rattle.field_forms.specs.Dates.{day_of, is_day}
+use Rattle.civil_dates.specs.Reading.{day_of}
+use Rattle.civil_dates.specs.Days.{is_day}
 use Rattle.field_forms.specs.TextLists.{texts_in}
 
 -- not empty, at most so many bytes, no control character below the space

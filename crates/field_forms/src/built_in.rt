@@ -46,7 +46,7 @@ pub(crate) fn is_field_word(name: &str) -> bool
 }
 
 /// The number of the field of that name, if every tracker has it.
-pub(crate) fn built_in_no(name: &str) -> Option<u16>
+pub fn built_in_no(name: &str) -> Option<u16>
     ensures { result ≡ built_in_no name.now }
 {
     if is_same_name("type", name) {

@@ -5,10 +5,10 @@ ghost use Rattle.std.specs.Str.{bytes_eq};
 ghost use Rattle.field_forms.specs.Names.{is_among};
 ghost use Rattle.field_forms.specs.Values.{is_line, is_prose, is_label, is_before, place_for, with_label, with_labels, are_labels, labels_value, chosen, set_value, sprint_of, points_of, set_of, label_list_of, value_in, listed_set, listed_labels, listed_in};
 
-use crate::date_text::day_of;
 use crate::name_form::{has_controls, is_among, place_of};
 use crate::number_text::{is_numeral, number_of, value_of_digits};
 use crate::text_list::texts_in;
+use civil_dates::day_of;
 use field_values::memory::Memory;
 use field_values::names::Names;
 use field_values::numbers::{ChoiceNo, Day, SprintNo, UserNo};
@@ -171,7 +171,8 @@ fn chosen(alloc: Global, names: &[Text], texts: &[Text]) -> Result<Sequence<Choi
     Ok(nos)
 }
 
-fn set_value(nos: Sequence<ChoiceNo>) -> Value
+/// The set of these choices, or no value where there are none.
+pub fn set_value(nos: Sequence<ChoiceNo>) -> Value
     ensures { result ≡ set_value nos }
 {
     if nos.as_slice().is_empty() {

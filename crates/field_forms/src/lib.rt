@@ -3,7 +3,6 @@
 
 pub mod built_in;
 pub mod cut;
-pub mod date_text;
 pub mod fit;
 pub mod form;
 pub mod known;

@@ -28,7 +28,7 @@ fn texts_of(alloc: Global, value: &Value) -> Result<Option<Names>, Memory>
 
 /// The texts of a JSON array of texts; `None` where the text is none.
 #[tactic(auto, unfolding(crate::specs::TextLists::texts_in))]
-pub(crate) fn texts_in(alloc: Global, text: &str) -> Result<Option<Names>, Memory>
+pub fn texts_in(alloc: Global, text: &str) -> Result<Option<Names>, Memory>
     ensures { IfOk result (λ texts. texts ≡ texts_in text.now) }
 {
     match Value::from_str(alloc, text) {

@@ -1,18 +1,18 @@
 // The texts of values.
 ghost use Rattle.std.specs.Prelude.{◌≡◌, ◌<◌, true, length, IfOk, decimal, slice_get, option_map};
 ghost use Rattle.serde_json.specs.View.{view};
-ghost use Rattle.field_forms.specs.Dates.{day_of, is_day};
+ghost use Rattle.civil_dates.specs.DateText.{date_text};
+ghost use Rattle.civil_dates.specs.Days.{is_day};
 ghost use Rattle.field_forms.specs.TextLists.{text_array, array_text};
-ghost use Rattle.field_forms.specs.ValueTexts.{chosen_names, IsInside, IsTextOf};
+ghost use Rattle.field_forms.specs.ValueTexts.{chosen_names, are_inside, IsInside, IsTextOf};
 
-use crate::date_text::day_of;
 use crate::number_text::number_text;
+use civil_dates::date_text;
 use field_values::memory::Memory;
 use field_values::names::Names;
 use field_values::numbers::ChoiceNo;
 use field_values::text::Text;
 use field_values::value::Value;
-use jiff_core::civil::Date;
 use serde_json::Value as Json;
 use std::alloc::Global;
 
@@ -45,40 +45,24 @@ fn name_at(alloc: Global, names: &[Text], place: u16) -> Result<Text, Memory>
     names[usize::from(place)].copy(alloc)
 }
 
-fn name_of(names: &[Text], choice: ChoiceNo) -> Option<&Text>
-    ensures { option_map (λ name. name.now) result ≡ slice_get names.now choice.0 }
-{
-    names.get(usize::from(choice.0))
-}
-
 /// The names of the choices.
 fn chosen_names(alloc: Global, names: &[Text], choices: &[ChoiceNo]) -> Result<Names, Memory>
+    requires { are_inside (length names.now) choices.now ≡ true }
     ensures { IfOk result (λ chosen. chosen ≡ chosen_names names.now choices.now) }
 {
     let mut chosen = Names::new(alloc);
     for choice in choices {
-        // Each choice of a set that fits has a name.
-        let Some(name) = name_of(names, *choice) else {
-            return Err(Memory);
-        };
-        chosen.push(name.copy(alloc)?)?;
+        chosen.push(name_at(alloc, names, choice.0)?)?;
     }
     Ok(chosen)
 }
 
 /// The text of a day, as yyyy-MM-dd.
-fn date_text(alloc: Global, day: i32) -> Result<Text, Memory>
+fn day_text(alloc: Global, day: i32) -> Result<Text, Memory>
     requires { is_day day ≡ true }
-    ensures { IfOk result (λ text. day_of text ≡ Some day) }
+    ensures { IfOk result (λ text. text ≡ date_text day) }
 {
-    let date = Date::from_days_since_min((day + 4_371_587) as u32);
-    let (year, month, day_of_month) = (date.year, date.month, date.day);
-    let text = format!(in alloc; "{year:04}-{month:02}-{day_of_month:02}")?;
-    // Each day of these years is read back from its text.
-    match day_of(text.as_str()) {
-        Some(read) if read == day => Ok(Text::of(text)),
-        _ => Err(Memory),
-    }
+    Ok(Text::of(date_text(alloc, day)?))
 }
 
 fn sprint_text(alloc: Global, number: u32) -> Result<Text, Memory>
@@ -98,7 +82,7 @@ pub fn value_text(alloc: Global, names: &[Text], value: &Value) -> Result<Text, 
         Value::Number(number) => number_text(alloc, *number),
         Value::Choice(choice) => name_at(alloc, names, choice.0),
         Value::User(user) => name_at(alloc, names, user.0),
-        Value::Date(day) => date_text(alloc, day.0),
+        Value::Date(day) => day_text(alloc, day.0),
         Value::Set(choices) => {
             let chosen = chosen_names(alloc, names, choices.as_slice())?;
             array_text(alloc, chosen.as_slice())

@@ -1,9 +1,8 @@
 -- The names that a value of a field may name are distinct.
-use Rattle.std.proofs.Common.{◌≡◌, ℕ, zero, suc, ◌<◌, ◌==◌, List, [], ◌∷◌, length, get_or, Bool, true, false, ◌||◌, Option, Some, None, refl, arith, inl, inr, subst}
+use Rattle.std.proofs.Common.{◌≡◌, ℕ, zero, suc, ◌==◌, List, [], ◌∷◌, Bool, ◌||◌, Option, Some, None, refl, arith, inl, inr, subst}
 use Rattle.std.specs.List.{All, find}
 use Rattle.std.specs.Option.{option_map_or}
 use Rattle.std.proofs.lemmas.Bool.{cases_Bool}
-use Rattle.std.proofs.lemmas.Grind.{common_steps}
 use Rattle.field_values.specs.declared.field.Field.{Field}
 use Rattle.field_values.specs.declared.words.FieldKind.{FieldKind}
 use Rattle.field_values.specs.declared.words.FieldKind.TheVariants as kind

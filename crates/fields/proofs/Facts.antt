@@ -1,18 +1,16 @@
 -- What a setup without faults keeps: names are distinct, and entries are of their form.
-use Rattle.std.proofs.Common.{◌≡◌, ◌≢◌, ℕ, zero, suc, ◌+◌, ◌<◌, ◌≤◌, ◌==◌, List, [], ◌∷◌, ◌++◌, length, map, get_or, Bool, true, false, not, ◌&&◌, nat_lt, nat_le, Option, Some, None, option_map, option_and_then, is_some, unwrap_or, position, refl, ap, sym, ◌∙◌, inl, inr, arith, rules, ℤ, pos, int_le, codes}
-use Rattle.std.specs.List.{list_all, list_any, AllPairs, All, filter_map}
+use Rattle.std.proofs.Common.{◌≡◌, ℕ, zero, suc, ◌<◌, List, [], ◌∷◌, ◌++◌, length, map, get_or, Bool, true, false, not, Option, Some, None, option_map, refl, ap, inl, inr, arith}
+use Rattle.std.specs.List.{list_all, list_any, All}
 use Rattle.std.specs.Option.{option_or, option_map_or}
 use Rattle.std.specs.Str.{str_eq_ignore_ascii_case}
-use Rattle.std.proofs.lemmas.Bool.{cases_Bool, and_parts}
-use Rattle.std.proofs.lemmas.Grind.{common_steps}
+use Rattle.std.proofs.lemmas.Bool.{cases_Bool}
 use Rattle.std.proofs.lemmas.List.{append_assoc, append-nil}
-use Rattle.std.proofs.lemmas.List.Quantifiers.{all_pairs_push, position-Some}
-use Rattle.std.proofs.lemmas.List.Folds.{list_any-from_Any, list_any-append}
-use Rattle.toml.specs.Data.{Data, Members, as_str, as_integer, get_member}
+use Rattle.std.proofs.lemmas.List.Quantifiers.{all_pairs_push}
+use Rattle.toml.specs.Data.{Data, Members, as_str}
 use Rattle.setup_drafts.specs.declared.fault.SetupFault.{SetupFault}
 use Rattle.setup_drafts.specs.declared.fault.SetupFault.TheVariants.{Missing, BadValue, Duplicate}
 use Rattle.field_forms.specs.declared.name_form.NameForm.{NameForm}
-use Rattle.setup_drafts.specs.Faults.{fault_if, first_of}
+use Rattle.setup_drafts.specs.Faults.{fault_if}
 use Rattle.field_forms.specs.Names.{is_among, first_double}
 use Rattle.field_forms.specs.NameForms.{has_form}
 use Rattle.setup_drafts.specs.Cells.{new_name_fault, text_in, names_in, list_fault, names_fault, optional_names_fault, crowd_fault}

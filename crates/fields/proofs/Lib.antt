@@ -5,3 +5,5 @@ pub mod TieFacts
 pub mod Sound
 pub mod Rising
 pub mod Choices
+pub mod Found
+pub mod BuiltIn

@@ -1,6 +1,6 @@
 -- Members that rise, and what a search among them finds.
-use Rattle.std.proofs.Common.{◌≡◌, ℕ, zero, suc, ◌<◌, ◌≤◌, ◌==◌, List, [], ◌∷◌, length, get_or, Bool, true, false, ◌&&◌, nat_lt, Result, Ok, Err, sym, ap, inl, inr, arith, refl}
-use Rattle.std.specs.List.{list_all, list_any, AllPairs, All}
+use Rattle.std.proofs.Common.{◌≡◌, ℕ, zero, suc, ◌<◌, ◌≤◌, ◌==◌, List, [], ◌∷◌, length, get_or, Bool, true, false, nat_lt, Result, Ok, Err, sym, ap, inl, inr, arith, refl}
+use Rattle.std.specs.List.{list_all, list_any, All}
 use Rattle.std.specs.List.Sorted.{IsSearchInRange, IsBinarySearchResult, IsNonDecreasingBy}
 use Rattle.std.specs.Ordering.{nat_cmp, ordering_index}
 use Rattle.std.specs.Result.{is_ok}

@@ -1,5 +1,5 @@
 -- What holds of every setup that is read.
-use Rattle.std.specs.Prelude.{◌≡◌, ◌≢◌, ◌<◌, ℕ, Bool, true, ◌&&◌, nat_lt, List, length, map}
+use Rattle.std.specs.Prelude.{◌≡◌, ◌≢◌, ◌<◌, ℕ, Bool, true, ◌&&◌, nat_lt, length, map}
 use Rattle.std.specs.List.{list_all, AllPairs, All}
 use Rattle.field_values.specs.declared.field.Field.{Field}
 use Rattle.field_values.specs.declared.parts.Group.{Group}

@@ -2,12 +2,16 @@
 //! values, of their forms and of the reading of a setup's text, and gives on what they name.
 #![tactic(auto)]
 
+mod indexed_lists;
 #[cfg(test)]
 mod large_setup;
 mod lookup;
+mod places;
 mod setup;
+mod table_names;
 #[cfg(test)]
 mod tests;
+mod values;
 
 pub use field_values::{
     BoardNo, CallerTest, Category, ChoiceNo, Condition, Day, Field, FieldKind, FieldNo, FilterNo,

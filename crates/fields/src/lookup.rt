@@ -2,24 +2,22 @@
 ghost use Rattle.std.specs.Prelude.{◌≡◌, ◌≢◌, ◌≤◌, true, pos, ◌==◌, ◌+◌, ◌-◌, length, map, option_map, IfOk, slice_get, slice_set};
 ghost use Rattle.std.specs.List.{list_any};
 ghost use Rattle.field_forms.specs.Names.{place_named};
-ghost use Rattle.field_forms.specs.Known.{names_of, AreFew, field_named, choices_of, value_of, fits, listed_value_of};
+ghost use Rattle.field_forms.specs.Known.{names_of, AreFew, own_field_named, field_named, choices_of, value_of, fits};
 ghost use Rattle.relative_dates.specs.Calendar.{local_day};
 ghost use Rattle.setup_drafts.specs.Offsets.{zone_of};
 ghost use Rattle.field_values.specs.Words.{day_number};
 ghost use Rattle.field_values.specs.GroupMembers.{with_members, is_user_list, AreRising, HaveRising};
 ghost use Rattle.field_forms.specs.ValueTexts.{IsTextOf, IsReadBack};
-ghost use Rattle.fields.specs.SetupParts.{parts, names, choice_named, groups_in, groups_with, has_member, may};
+ghost use Rattle.fields.specs.SetupParts.{parts, names, groups_in, groups_with, has_member, may};
 
 use crate::setup::Setup;
+use field_forms::built_in::built_in_no;
 use field_forms::fit;
-use field_forms::form::Form;
-use field_forms::known::{
-    Known, choices_of, field_named, form_of, listed_value_of, text_of, value_of,
-};
-use field_forms::name_form::place_of;
+use field_forms::known::{Known, text_of};
+use field_values::field::Field;
 use field_values::memory::Memory;
 use field_values::moment::Moment;
-use field_values::numbers::{ChoiceNo, Day, FieldNo, GroupNo, ProjectNo, UserNo};
+use field_values::numbers::{Day, FieldNo, GroupNo, ProjectNo, UserNo};
 use field_values::parts::{Group, Project};
 use field_values::rules::Permission;
 use field_values::sequence::Sequence;
@@ -56,6 +54,12 @@ fn has_member_in(groups: &[Group], user: UserNo, wanted: &[GroupNo]) -> bool
     wanted.iter().any(|group| has_member(groups, user, *group))
 }
 
+fn field_at(fields: &[Field], place: usize) -> Option<&Field>
+    ensures { option_map (λ f. f.now) result ≡ slice_get fields.now place }
+{
+    fields.get(place)
+}
+
 /// The groups that have a permission in a project.
 fn groups_in(permission: Permission, project: &Project) -> &[GroupNo]
     ensures { result.now ≡ groups_in permission (Some project.now) }
@@ -72,18 +76,18 @@ fn groups_in(permission: Permission, project: &Project) -> &[GroupNo]
 
 impl Setup {
     /// The lists of names, lent.
-    fn known(&self) -> Known<'_>
+    pub(crate) fn known(&self) -> Known<'_>
         ensures names { names_of result ≡ names self.now }
         ensures few { AreFew (names_of result) }
     {
         Known {
             users: self.users.as_slice(),
             types: self.types.as_slice(),
-            statuses: self.status_names.as_slice(),
+            statuses: self.table_names.statuses.as_slice(),
             priorities: self.priorities.as_slice(),
             resolutions: self.resolutions.as_slice(),
             versions: self.versions.as_slice(),
-            groups: self.group_names.as_slice(),
+            groups: self.table_names.groups.as_slice(),
             fields: self.field.as_slice(),
         }
     }
@@ -92,7 +96,7 @@ impl Setup {
     pub fn user_named(&self, name: &str) -> Option<UserNo>
         ensures { option_map (λ no. no.0) result ≡ place_named name.now self.now.users }
     {
-        let place = place_of(self.users.as_slice(), name)?;
+        let place = self.users.place_of(name)?;
         Some(UserNo(place as u16))
     }
 
@@ -100,7 +104,7 @@ impl Setup {
     pub fn project_named(&self, name: &str) -> Option<ProjectNo>
         ensures { option_map (λ no. no.0) result ≡ place_named name.now (map (λ p. p.key) self.now.project) }
     {
-        let place = place_of(self.project_keys.as_slice(), name)?;
+        let place = self.table_names.projects.place_of(name)?;
         Some(ProjectNo(place as u16))
     }
 
@@ -108,7 +112,7 @@ impl Setup {
     pub fn transition_named(&self, name: &str) -> Option<usize>
         ensures { result ≡ place_named name.now (map (λ t. t.name) self.now.transition) }
     {
-        place_of(self.transition_names.as_slice(), name)
+        self.table_names.transitions.place_of(name)
     }
 
     /// The group of that name, ASCII case ignored; `None` exactly where there is none. Groups count from 1.
@@ -116,28 +120,32 @@ impl Setup {
         ensures { option_map (λ no. no.0) result
             ≡ option_map (λ place. place + 1) (place_named name.now (map (λ g. g.name) self.now.group)) }
     {
-        let place = place_of(self.group_names.as_slice(), name)?;
+        let place = self.table_names.groups.place_of(name)?;
         Some(GroupNo(place as u16 + 1))
     }
 
     /// The field of that name, ASCII case ignored; `None` exactly where there is none.
+    #[tactic(auto, unfolding(field_forms::specs::Known::field_named))]
     pub fn field_named(&self, name: &str) -> Option<FieldNo>
         ensures { option_map (λ no. no.0) result ≡ field_named self.now.field name.now }
     {
-        field_named(self.field.as_slice(), name)
+        if let Some(no) = built_in_no(name) {
+            return Some(FieldNo(no));
+        }
+        match self.own_field_named(name) {
+            Some(field) => Some(field.number),
+            None => None,
+        }
     }
 
-    /// The choice of that name in the field, ASCII case ignored; `None` exactly where there is none.
-    pub fn choice_named(&self, field: FieldNo, name: &str) -> Option<ChoiceNo>
-        ensures { option_map (λ no. no.0) result ≡ choice_named (names self.now) field.0 name.now }
+    /// The field of the setup's own of that name.
+    #[tactic(auto, using(crate::proofs::Found::named_at))]
+    fn own_field_named(&self, name: &str) -> Option<&Field>
+        ensures { option_map (λ f. f.now) result ≡ own_field_named self.now.field name.now }
     {
-        let known = self.known();
-        match form_of(known.fields, field)? {
-            Form::Choice | Form::Set => {
-                let place = place_of(choices_of(&known, field), name)?;
-                Some(ChoiceNo(place as u16))
-            }
-            _ => None,
+        match self.table_names.fields.place_of(name) {
+            Some(place) => field_at(self.field.as_slice(), place),
+            None => None,
         }
     }
 
@@ -146,30 +154,6 @@ impl Setup {
         ensures { result ≡ fits (names self.now) field.0 value.now }
     {
         fit::fits(&self.known(), field, value)
-    }
-
-    /// The value that a text stands for in the field; `None` exactly where it is none of the field's.
-    pub fn value_of(
-        &self,
-        alloc: Global,
-        field: FieldNo,
-        text: &str,
-    ) -> Result<Option<Value>, Memory>
-        ensures { IfOk result (λ value. value ≡ value_of (names self.now) field.0 text.now) }
-    {
-        value_of(alloc, &self.known(), field, text)
-    }
-
-    /// The value that a list of texts stands for in the field, a set or labels; `None` exactly where it is none of the field's.
-    pub fn listed_value_of(
-        &self,
-        alloc: Global,
-        field: FieldNo,
-        texts: &[Text],
-    ) -> Result<Option<Value>, Memory>
-        ensures { IfOk result (λ value. value ≡ listed_value_of (names self.now) field.0 texts.now) }
-    {
-        listed_value_of(alloc, &self.known(), field, texts)
     }
 
     /// Whether one of the groups that have the permission has the user. The permissions of a project are asked of it; those

@@ -6,9 +6,10 @@ ghost use Rattle.field_values.specs.Words.{day_number};
 ghost use Rattle.setup_reading.specs.Reading.{memberless, kept_in};
 ghost use Rattle.fields.specs.Sound.{IsSound};
 
+use crate::indexed_lists::IndexedLists;
+use crate::table_names::TableNames;
 use field_values::field::Field;
 use field_values::memory::Memory;
-use field_values::names::Names;
 use field_values::numbers::{ChoiceNo, GroupNo, UserNo};
 use field_values::offset::Offset;
 use field_values::parts::{Group, Project, Transition};
@@ -16,11 +17,11 @@ use field_values::sequence::Sequence;
 use field_values::status::Status;
 use field_values::text::Text;
 use field_values::words::Weekday;
+use name_index::IndexedNames;
 use relative_dates::Calendar;
 use setup_drafts::draft::Draft;
 use setup_drafts::fault::SetupFault;
 use setup_reading::built_in_text::BUILT_IN;
-use setup_reading::name_lists::{group_names, project_keys, status_names, transition_names};
 use setup_reading::reading::{Reading, read_text};
 use setup_reading::tied::Tied;
 use std::alloc::Global;
@@ -38,13 +39,13 @@ pub struct Setup {
     pub week_starts: Weekday,
     /// The user by whom ranks are balanced.
     pub rebalancer: UserNo,
-    pub users: Names,
+    pub users: IndexedNames,
     /// Issue types.
-    pub types: Names,
+    pub types: IndexedNames,
     /// The highest first.
-    pub priorities: Names,
-    pub resolutions: Names,
-    pub versions: Names,
+    pub priorities: IndexedNames,
+    pub resolutions: IndexedNames,
+    pub versions: IndexedNames,
     /// The status of a new issue.
     pub first_status: ChoiceNo,
     /// The groups that may plan sprints.
@@ -59,10 +60,7 @@ pub struct Setup {
     pub field: Sequence<Field>,
     /// The steps of the offset from UTC, by rising moments.
     pub offset: Sequence<Offset>,
-    pub(crate) status_names: Names,
-    pub(crate) group_names: Names,
-    pub(crate) project_keys: Names,
-    pub(crate) transition_names: Names,
+    pub(crate) table_names: TableNames,
     pub(crate) calendar: Calendar,
     pub ghost few_users: { length users ≤ 200 },
     ghost few_types: { length types ≤ 30 },
@@ -74,10 +72,12 @@ pub struct Setup {
     ghost few_statuses: { length status ≤ 50 },
     pub ghost few_fields: { length field ≤ 30 },
     ghost few_options: { list_all has_few_options field ≡ true },
-    ghost named_statuses: { status_names ≡ map (λ s. s.name) status },
-    ghost named_groups: { group_names ≡ map (λ g. g.name) group },
-    ghost keyed_projects: { project_keys ≡ map (λ p. p.key) project },
-    ghost named_transitions: { transition_names ≡ map (λ t. t.name) transition },
+    ghost named_statuses: { table_names.statuses ≡ map (λ s. s.name) status },
+    ghost named_groups: { table_names.groups ≡ map (λ g. g.name) group },
+    ghost keyed_projects: { table_names.projects ≡ map (λ p. p.key) project },
+    ghost named_transitions: { table_names.transitions ≡ map (λ t. t.name) transition },
+    ghost named_fields: { table_names.fields ≡ map (λ f. f.name) field },
+    ghost listed_options: { table_names.options ≡ map (λ f. f.options) field },
     ghost clock: { calendar ≡ record { zone = zone_of utc_offset_minutes offset; first_day = day_number week_starts } },
     ghost reads: { kept_in text ≡ Ok (memberless (record { utc_offset_minutes = utc_offset_minutes; week_starts = week_starts; rebalancer = rebalancer; users = users; types = types; priorities = priorities; resolutions = resolutions; versions = versions; first_status = first_status; plan = plan; administer = administer; group = group; project = project; status = status; transition = transition; field = field; offset = offset })) },
     pub ghost sound: { IsSound (record { utc_offset_minutes = utc_offset_minutes; week_starts = week_starts; rebalancer = rebalancer; users = users; types = types; priorities = priorities; resolutions = resolutions; versions = versions; first_status = first_status; plan = plan; administer = administer; group = group; project = project; status = status; transition = transition; field = field; offset = offset }) },
@@ -111,7 +111,8 @@ impl Setup {
     {
         match Setup::read(alloc, BUILT_IN.as_bytes()) {
             Ok(setup) => Ok(setup),
-            Err(_) => Err(Memory),
+            // The text is a setup, so no other fault comes.
+            Err(fault) => Err(memory_alone(fault)),
         }
     }
 
@@ -139,10 +140,13 @@ impl Setup {
             rights,
             tables: tied,
         } = numbers;
-        let status_names = status_names(alloc, tables.statuses.as_slice())?;
-        let group_names = group_names(alloc, tied.groups.as_slice())?;
-        let project_keys = project_keys(alloc, tied.projects.as_slice())?;
-        let transition_names = transition_names(alloc, tied.transitions.as_slice())?;
+        let table_names = TableNames::of(
+            alloc,
+            tables.statuses.as_slice(),
+            tables.fields.as_slice(),
+            &tied,
+        )?;
+        let lists = IndexedLists::of(alloc, lists)?;
         Ok(Setup {
             text,
             utc_offset_minutes: head.utc_offset_minutes,
@@ -162,11 +166,16 @@ impl Setup {
             transition: tied.transitions,
             field: tables.fields,
             offset: steps.offsets,
-            status_names,
-            group_names,
-            project_keys,
-            transition_names,
+            table_names,
             calendar: steps.calendar,
         })
     }
+}
+
+// Want of memory, where the fault is nothing else.
+fn memory_alone(fault: SetupFault) -> Memory
+    requires { fault ≡ SetupFault.Memory }
+{
+    let _fault = fault;
+    Memory
 }

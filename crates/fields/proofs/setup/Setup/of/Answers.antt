@@ -1,23 +1,21 @@
 use Rattle.std.proofs.Common.{◌∙◌, ap, map}
-use Rattle.fields.proofs.setup.Setup.of.Goals as goal
-use Rattle.fields.proofs.Sound.{sound_setup, at_offset}
-use Rattle.setup_reading.specs.Reading.{parts_of}
+use Rattle.field_values.specs.declared.field.Field.{Field}
 use Rattle.field_values.specs.declared.status.Status.{Status}
-use Rattle.field_values.specs.declared.parts.Group.{Group}
-use Rattle.field_values.specs.declared.parts.Project.{Project}
-use Rattle.field_values.specs.declared.parts.Transition.{Transition}
+use Rattle.setup_reading.specs.Reading.{parts_of}
+use Rattle.fields.proofs.Sound.{sound_setup, at_offset}
+use Rattle.fields.proofs.setup.Setup.of.Goals as goal
 
 pub invariant_of-result-clause-sound : goal.invariant_of-result-clause-sound
-invariant_of-result-clause-sound c = at_offset (parts_of c.args.reading.draft c.args.reading.numbers) _ (sound_setup _ (parts_of c.args.reading.draft c.args.reading.numbers) c.requires.reads)
+invariant_of-result-clause-sound c =
+    let lists = c.in_ok-lists.ensures in
+    rw (lists.users, lists.types, lists.priorities, lists.resolutions, lists.versions)
+    (at_offset (parts_of c.args.reading.draft c.args.reading.numbers) _ (sound_setup _ (parts_of c.args.reading.draft c.args.reading.numbers) c.requires.reads))
 
 pub invariant_of-result-clause-named_statuses : goal.invariant_of-result-clause-named_statuses
-invariant_of-result-clause-named_statuses c = c.in_ok-status_names.ensures ∙ ap (map (λ (x : Status). x.name)) c.as_slice.ensures
+invariant_of-result-clause-named_statuses c = c.in_ok-table_names.ensures.statuses ∙ ap (map (λ (s : Status). s.name)) c.as_slice.ensures
 
-pub invariant_of-result-clause-named_groups : goal.invariant_of-result-clause-named_groups
-invariant_of-result-clause-named_groups c = c.in_ok-group_names.ensures ∙ ap (map (λ (x : Group). x.name)) c.as_slice-2.ensures
+pub invariant_of-result-clause-named_fields : goal.invariant_of-result-clause-named_fields
+invariant_of-result-clause-named_fields c = c.in_ok-table_names.ensures.fields ∙ ap (map (λ (f : Field). f.name)) c.as_slice-2.ensures
 
-pub invariant_of-result-clause-keyed_projects : goal.invariant_of-result-clause-keyed_projects
-invariant_of-result-clause-keyed_projects c = c.in_ok-project_keys.ensures ∙ ap (map (λ (x : Project). x.key)) c.as_slice-3.ensures
-
-pub invariant_of-result-clause-named_transitions : goal.invariant_of-result-clause-named_transitions
-invariant_of-result-clause-named_transitions c = c.in_ok-transition_names.ensures ∙ ap (map (λ (x : Transition). x.name)) c.as_slice-4.ensures
+pub invariant_of-result-clause-listed_options : goal.invariant_of-result-clause-listed_options
+invariant_of-result-clause-listed_options c = c.in_ok-table_names.ensures.options ∙ ap (map (λ (f : Field). f.options)) c.as_slice-2.ensures

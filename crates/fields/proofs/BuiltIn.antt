@@ -1,0 +1,43 @@
+-- The built-in text is a setup.
+use Rattle.std.proofs.Common.{◌≡◌, ◌≢◌, ◌∙◌, Bool, true, false, Result, Ok, Err, refl, sym, ap}
+use Rattle.std.specs.Str.{chars}
+use Rattle.toml.proofs.OnLiterals.{toml_on_literals}
+use Rattle.field_forms.specs.Known.{field_named, form_of, choices_of, value_of, fits}
+use Rattle.field_forms.specs.Values.{value_in}
+use Rattle.field_forms.specs.Rules.{test_of, tests_of, condition_of, validator_of, post_of}
+use Rattle.setup_drafts.specs.declared.fault.SetupFault.{SetupFault}
+use Rattle.setup_drafts.specs.declared.fault.SetupFault.TheVariants.{BadToml, Missing, Duplicate, Unknown, TooMany, BadValue, Memory}
+use Rattle.setup_drafts.specs.Drafts.{head_fault, head_of, lists_fault, lists_of, rights_fault, rights_of, groups_fault, groups_of, projects_fault, projects_of, statuses_fault, statuses_of, transitions_fault, transitions_of, fields_fault, fields_of, tables_fault, tables_of, draft_fault, draft_of}
+use Rattle.setup_drafts.specs.Groups.{group_fault, group_draft}
+use Rattle.setup_drafts.specs.Projects.{project_fault, project_draft}
+use Rattle.setup_drafts.specs.Statuses.{status_fault, status_of}
+use Rattle.setup_drafts.specs.Transitions.{transition_fault, transition_draft}
+use Rattle.setup_drafts.specs.Offsets.{offsets_fault, offsets_in}
+use Rattle.setup_drafts.specs.Keys.{strange_in_tables, key_fault}
+use Rattle.setup_reading.specs.Ties.{group_unknown, project_unknown, transition_unknown, rights_unknown, tables_unknown, tie_fault_by, tie_fault}
+use Rattle.setup_reading.specs.Reading.{first_fault, parts_in, parts_or_fault, setup_in}
+use Rattle.setup_reading.specs.declared.built_in_text.TheConstants.{BUILT_IN}
+use Rattle.field_values.specs.Parts.{Parts}
+
+abbrev is_setup : Result Parts SetupFault → Bool
+is_setup (Ok parts) = true
+is_setup (Err fault) = false
+
+computed : is_setup (setup_in BUILT_IN.now) ≡ true
+unfolding chars toml_on_literals field_named form_of choices_of value_of fits value_in test_of tests_of condition_of validator_of post_of head_fault head_of lists_fault lists_of rights_fault rights_of groups_fault groups_of projects_fault projects_of statuses_fault statuses_of transitions_fault transitions_of fields_fault fields_of tables_fault tables_of draft_fault draft_of group_fault group_draft project_fault project_draft status_fault status_of transition_fault transition_draft offsets_fault offsets_in strange_in_tables key_fault group_unknown project_unknown transition_unknown rights_unknown tables_unknown tie_fault_by tie_fault first_fault parts_in parts_or_fault setup_in
+computed = refl
+
+-- so a fault of it could only be want of memory
+pub no_fault : (fault : SetupFault) → (fault ≢ Memory → setup_in BUILT_IN.now ≡ Err fault) → fault ≡ Memory
+no_fault fault told = by_case fault (λ other. false_is (sym (ap is_setup (told other)) ∙ computed)) where
+  false_is : false ≡ true → ⊥
+  false_is e = cc
+
+  by_case : (f : SetupFault) → (f ≢ Memory → ⊥) → f ≡ Memory
+  by_case Memory denied = refl
+  by_case BadToml denied = absurd (denied (λ e. cc))
+  by_case (Missing name) denied = absurd (denied (λ e. cc))
+  by_case (Duplicate name) denied = absurd (denied (λ e. cc))
+  by_case (Unknown name) denied = absurd (denied (λ e. cc))
+  by_case (TooMany name n) denied = absurd (denied (λ e. cc))
+  by_case (BadValue name) denied = absurd (denied (λ e. cc))

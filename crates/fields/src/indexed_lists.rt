@@ -1,0 +1,35 @@
+// The lists of names of a setup, with their indexes.
+ghost use Rattle.std.specs.Prelude.{◌≡◌, IfOk};
+
+use field_values::memory::Memory;
+use name_index::IndexedNames;
+use setup_drafts::draft::lists::Lists;
+use std::alloc::Global;
+
+/// The setup's lists of names.
+#[derive(Debug, Drop)]
+pub(crate) struct IndexedLists {
+    pub(crate) users: IndexedNames,
+    pub(crate) types: IndexedNames,
+    pub(crate) priorities: IndexedNames,
+    pub(crate) resolutions: IndexedNames,
+    pub(crate) versions: IndexedNames,
+}
+
+impl IndexedLists {
+    pub(crate) fn of(alloc: Global, lists: Lists) -> Result<IndexedLists, Memory>
+        ensures users { IfOk result (λ indexed. indexed.users ≡ lists.users) }
+        ensures types { IfOk result (λ indexed. indexed.types ≡ lists.types) }
+        ensures priorities { IfOk result (λ indexed. indexed.priorities ≡ lists.priorities) }
+        ensures resolutions { IfOk result (λ indexed. indexed.resolutions ≡ lists.resolutions) }
+        ensures versions { IfOk result (λ indexed. indexed.versions ≡ lists.versions) }
+    {
+        Ok(IndexedLists {
+            users: IndexedNames::of(alloc, lists.users)?,
+            types: IndexedNames::of(alloc, lists.types)?,
+            priorities: IndexedNames::of(alloc, lists.priorities)?,
+            resolutions: IndexedNames::of(alloc, lists.resolutions)?,
+            versions: IndexedNames::of(alloc, lists.versions)?,
+        })
+    }
+}
