@@ -1,5 +1,5 @@
 -- The next moments of several things.
-use Rattle.std.proofs.Common.{◌≡◌, ◌⊎◌, ℕ, zero, suc, ◌+◌, ◌<◌, ◌≤◌, min, List, [], ◌∷◌, ◌++◌, length, take, get_or, arith, inl, inr, refl, sym, ◌∙◌, ap, subst, Option, Some, None}
+use Rattle.std.proofs.Common.{◌≡◌, ◌⊎◌, ℕ, zero, suc, ◌+◌, ◌<◌, ◌≤◌, min, List, [], ◌∷◌, ◌++◌, length, take, get_or, arith, inl, inr, refl, append_assoc, append-nil, sym, ◌∙◌, ap, subst, Option, Some, None}
 use Rattle.std.proofs.lemmas.Bool.{cases_lt}
 use Rattle.std.proofs.lemmas.List.{take_more}
 use Rattle.std.specs.Prelude.{slice_index_or}
@@ -119,3 +119,30 @@ module _ {X : Type 0} (P : X → ℕ → Type 0) where
       (λ t low high e. to_either (take i xs) (x ∷ []) t e)
       (next_of_both (ToOne P (take i xs)) (ToOne P (x ∷ [])) at one other f (next_of_one x at other g)) in
       subst (λ r. IsNext (ToOne P (take (i + 1) xs)) at r) (sym both) (subst (λ l. IsNext (ToOne P l) at (earlier one other)) list joined)
+
+-- ---- walks from the last to the first
+
+-- those that a walk has passed and those that are left are all, and this is the next moment at which it happens to one passed
+pub record HasPassed {X : Type 0} (P : X → ℕ → Type 0) (all left : List X) (at : ℕ) (next : Option ℕ) : Type 0 where
+  pub passed : List X
+  pub all_are : all ≡ left ++ passed
+  pub is_next : IsNext (ToOne P passed) at next
+
+module _ {X : Type 0} (P : X → ℕ → Type 0) (all : List X) (at : ℕ) where
+  pub none_passed : (left : List X) → left ≡ all → HasPassed P all left at None
+  none_passed left is = record {
+    passed = [];
+    all_are = sym is ∙ sym (append-nil left);
+    is_next = λ t low high happens. happens;
+  }
+
+  pub one_more_passed : (left before : List X) (x : X) (one other result : Option ℕ) → left ≡ before ++ x ∷ [] → result ≡ earlier one other → IsNext (P x) at one → HasPassed P all left at other → HasPassed P all before at result
+  one_more_passed left before x one other result is both f g = record {
+    passed = x ∷ g.passed;
+    all_are = g.all_are ∙ ap (λ l. l ++ g.passed) is ∙ append_assoc before (x ∷ []) g.passed;
+    is_next = subst (λ r. IsNext (ToOne P (x ∷ g.passed)) at r) (sym both) (next_of_both (P x) (ToOne P g.passed) at one other f g.is_next);
+  }
+
+  pub all_passed : (left : List X) (next : Option ℕ) → left ≡ [] → HasPassed P all left at next → IsNext (ToOne P all) at next
+  all_passed left next is g =
+      subst (λ l. IsNext (ToOne P l) at next) (sym (g.all_are ∙ ap (λ l. l ++ g.passed) is)) g.is_next

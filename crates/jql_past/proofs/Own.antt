@@ -2,9 +2,10 @@
 use Rattle.std.proofs.Common.{◌≡◌, ◌≢◌, ℕ, ◌+◌, ◌-◌, ◌==◌, true, false, not, List, [], ◌∷◌, length, inl, inr, refl, sym, ◌∙◌, ap, Option, Some, eqb, eq-eqb}
 use Rattle.std.specs.Prelude.{slice_get, option_map, if◌then◌else◌}
 use Rattle.std.specs.Option.{option_map_or}
-use Rattle.std.specs.List.{list_any}
+use Rattle.std.specs.List.{list_any, Contains}
 use Rattle.std.proofs.lemmas.Bool.{cases_Bool, cases_eq, ne_eqb, true≢false}
 use Rattle.std.proofs.lemmas.Option.{none-some}
+use Rattle.std.proofs.lemmas.List.Elements.{All-contains, All-contains_itself, All-filter}
 use Rattle.field_values.specs.declared.numbers.UserNo.{UserNo}
 use Rattle.field_values.specs.declared.numbers.FieldNo.{FieldNo}
 use Rattle.field_values.specs.declared.numbers.Day.{Day}
@@ -22,7 +23,6 @@ use Rattle.jql_meaning.specs.Comparison.{midnight_of}
 use Rattle.jql_meaning.specs.Moments.{some_from}
 use Rattle.jql_meaning.specs.Marks.{value_mark}
 use Rattle.jql_meaning.specs.Past.{span_answers, was, entry_answers, changed, test_holds, holds_past}
-use Rattle.jql_past.specs.Next.{ToOne}
 
 -- the creation, the field's opening value and its own changes
 abbrev pub own : History → FieldNo → History
@@ -87,14 +87,10 @@ own_holds s h leaf t = own_test s h t leaf.field leaf.predicates leaf.test
 
 -- ---- the marks
 
--- what happens to one of the field's changes
-pub own_entry : (Happens : Entry → ℕ → Type 0) (entries : List Entry) (field : FieldNo) (t : ℕ) → ToOne Happens (entries_of entries field) t → ToOne (λ entry t. (entry.field.0 ≡ field.0) × Happens entry t) entries t
-own_entry Happens [] field t happens = happens
-own_entry Happens (e ∷ entries) field t happens =
-    elim (cases_Bool (eqb e.field.0 field.0)) [
-      | inl is ↦ elim (rw is at happens) [ inl here ↦ inl (is_field e field is, here) | inr later ↦ inr (own_entry Happens entries field t later) ]
-      | inr other ↦ inr (own_entry Happens entries field t (rw other at happens))
-    ]
+-- the field's entries are among all
+pub own_among : (entries : List Entry) (field : FieldNo) (entry : Entry) → Contains (entries_of entries field) entry → Contains entries entry
+own_among entries field entry among =
+    All-contains (Contains entries) (entries_of entries field) entry (All-filter (λ e. e.field.0 == field.0) (Contains entries) entries (All-contains_itself entries)) among
 
 changed_here : (value : Value) (e : Entry) (entries : List Entry) (field : FieldNo) → eqb e.field.0 field.0 ≡ true → value_after value (e ∷ entries) field ≡ value_after e.to entries field
 changed_here value e entries field is = ap (λ b. value_after (if b then e.to else value) entries field) is

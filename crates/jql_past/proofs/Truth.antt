@@ -8,6 +8,7 @@ use Rattle.std.proofs.lemmas.List.Elements.{Contains-append_right}
 use Rattle.jiff_core.proofs.SignedLemmas.{signed_arith}
 use Rattle.field_values.specs.declared.value.Value.{Value}
 use Rattle.change_history.specs.History.{History, present}
+use Rattle.change_history.specs.Span.{entries_of}
 use Rattle.relative_dates.specs.declared.term.Term.{Term}
 use Rattle.relative_dates.specs.Calendar.{IsZone}
 use Rattle.jql_bound.specs.declared.past.PastLeaf.{PastLeaf}
@@ -21,9 +22,9 @@ use Rattle.jql_meaning.proofs.Differing.{same_or_not}
 use Rattle.jql_meaning.proofs.PastMeetings.{near_mark, near_edge}
 use Rattle.jql_meaning.proofs.PastChanges.{past_changes_are_critical}
 use Rattle.jql_past.specs.Next.{IsNext}
-use Rattle.jql_past.specs.Near.{ahead, IsNear, OneIsNear, IsDisturbed, IsNearOwn, IsNearMark, MayChange}
+use Rattle.jql_past.specs.Near.{ahead, IsNear, OneIsNear, IsDisturbed, IsNearMark, IsNearChange, MayChange}
 use Rattle.jql_past.proofs.Nexts.{to_member, which, to_nested, from_nested}
-use Rattle.jql_past.proofs.Own.{own, own_holds, own_entry, own_date}
+use Rattle.jql_past.proofs.Own.{own, own_holds, own_among, own_date}
 
 -- ---- whole numbers
 
@@ -133,9 +134,7 @@ module _ (s : Surroundings) (h : History) (leaf : PastLeaf) (at : ℕ) (zone : I
   at_own_mark : (mark : ℤ) (t : ℕ) → IsMark s (own h leaf.field) mark → OneIsNear leaf.predicates mark (pos 1) t → May t
   at_own_mark mark t (of_creation is) near = inl (inl (subst (λ m. OneIsNear leaf.predicates m (pos 1) t) is near))
   at_own_mark mark t (of_change entry among is) near =
-      let near_it : OneIsNear leaf.predicates (pos entry.at) (pos 1) t = subst (λ m. OneIsNear leaf.predicates m (pos 1) t) is near in
-      inr (inl (own_entry (λ entry. OneIsNear leaf.predicates (pos entry.at) (pos 1)) h.entries leaf.field t
-      (to_member (λ entry. OneIsNear leaf.predicates (pos entry.at) (pos 1)) (own h leaf.field).entries entry t among near_it)))
+      inr (inl (to_member (IsNearChange leaf.predicates) (entries_of h.entries leaf.field) entry t among (subst (λ m. OneIsNear leaf.predicates m (pos 1) t) is near)))
   at_own_mark mark t (of_date field on here is) near =
       let date_mark : value_mark s (present h leaf.field) ≡ Some mark = own_date s h leaf.field field on here ∙ ap (λ (m : ℤ). Some m) (sym is) in
       inl (inr (rw date_mark near))
@@ -275,8 +274,8 @@ module _ (s : Surroundings) (h : History) (leaf : PastLeaf) (at : ℕ) (zone : I
             ]
             | inr rest ↦ elim rest [
               | inl changed ↦
-                  let one = which (IsNearOwn leaf.predicates leaf.field) h.entries t changed in
-                  at_mark (pos one.0.at) (of_change one.0 one.1 refl) one.2.1
+                  let one = which (IsNearChange leaf.predicates) (entries_of h.entries leaf.field) t changed in
+                  at_mark (pos one.0.at) (of_change one.0 (own_among h.entries leaf.field one.0 one.1) refl) one.2
               | inr other ↦
                   let one = which (IsDisturbed s leaf.predicates at) (flat_map window_edges leaf.predicates) t (from_nested (IsDisturbed s leaf.predicates at) window_edges leaf.predicates t other) in
                   at_edge one.0 (behind one.0 one.1) one.2

@@ -243,6 +243,11 @@ of_field es f place k e is stands there =
     let same : here.0 ≡ e = cc (here.1, there) in
     subst (λ (x : Entry). (x.field.0 == f.0) ≡ true) same here.2
 
+-- where the walk has come to its end, no entry is left
+pub none_left : (es : List Entry) (f : FieldNo) (place : Option ℕ) → ((k : ℕ) → place ≡ Some k → ⊥) → up_to es f place ≡ []
+none_left es f (Some k) none = absurd (none k refl)
+none_left es f None none = refl
+
 -- where the walk has come to its end, the first span alone is left
 pub at_the_end : (p : SpanOf → Bool) (h : History) (f : FieldNo) (place end : Option ℕ) → ((k : ℕ) → place ≡ Some k → ⊥) → end ≡ end_of h f (length (up_to h.entries f place)) →
     some_span p h f (length (up_to h.entries f place)) ≡ p (record { begin = h.at; end = end; author = h.author; value = opening_value h.opening f })

@@ -1,8 +1,8 @@
 -- When the edges of a comparison with the past come near a mark or near each other.
 use Rattle.std.specs.Prelude.{◌≡◌, ◌≢◌, ◌⊎◌, ℕ, false, List, Option, Some, None, ℤ, pos, ◌+ℤ◌, ◌-ℤ◌, ◌*ℤ◌, ◌≤ℤ◌}
-use Rattle.field_values.specs.declared.numbers.FieldNo.{FieldNo}
 use Rattle.change_history.specs.declared.entry.Entry.{Entry}
 use Rattle.change_history.specs.History.{History, present}
+use Rattle.change_history.specs.Span.{entries_of}
 use Rattle.relative_dates.specs.declared.term.Term.{Term}
 use Rattle.jql_bound.specs.declared.past.PastPredicate.{PastPredicate}
 use Rattle.jql_bound.specs.declared.past.PastLeaf.{PastLeaf}
@@ -44,9 +44,9 @@ abbrev pub OneIsDisturbed : Surroundings → List PastPredicate → ℕ → ℕ 
 OneIsDisturbed s predicates at t =
     ToOne (λ predicate. ToOne (IsDisturbed s predicates at) (window_edges predicate)) predicates t
 
--- an edge is near the moment of a change of the field
-abbrev pub IsNearOwn : List PastPredicate → FieldNo → Entry → ℕ → Type 0
-IsNearOwn predicates field entry t = (entry.field.0 ≡ field.0) × OneIsNear predicates (pos entry.at) (pos 1) t
+-- an edge is near the moment of a change
+abbrev pub IsNearChange : List PastPredicate → Entry → ℕ → Type 0
+IsNearChange predicates entry t = OneIsNear predicates (pos entry.at) (pos 1) t
 
 -- an edge is near a mark that there may be
 abbrev pub IsNearMark : List PastPredicate → Option ℤ → ℕ → Type 0
@@ -58,4 +58,4 @@ IsNearMark predicates (Some mark) t = OneIsNear predicates mark (pos 1) t
 abbrev pub MayChange : Surroundings → History → PastLeaf → ℕ → ℕ → Type 0
 MayChange s h leaf at t =
     (OneIsNear leaf.predicates (pos h.at) (pos 1) t ⊎ IsNearMark leaf.predicates (value_mark s (present h leaf.field)) t)
-    ⊎ (ToOne (IsNearOwn leaf.predicates leaf.field) h.entries t ⊎ OneIsDisturbed s leaf.predicates at t)
+    ⊎ (ToOne (IsNearChange leaf.predicates) (entries_of h.entries leaf.field) t ⊎ OneIsDisturbed s leaf.predicates at t)

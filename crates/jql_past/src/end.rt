@@ -2,16 +2,17 @@
 ghost use Rattle.std.specs.Prelude.{pos};
 ghost use Rattle.jql_meaning.specs.Surroundings.{surroundings_of};
 ghost use Rattle.change_history.specs.History.{present};
+ghost use Rattle.change_history.specs.Span.{entries_of};
 ghost use Rattle.jql_meaning.specs.Past.{holds_past};
 ghost use Rattle.jql_meaning.specs.Critical.{IsCriticalPast};
 ghost use Rattle.jql_meaning.specs.Marks.{value_mark};
 ghost use Rattle.jql_meaning.specs.Ends.{Stays};
 ghost use Rattle.jql_past.specs.Next.{IsNext, ToOne};
-ghost use Rattle.jql_past.specs.Near.{OneIsNear, IsNearOwn, IsNearMark, MayChange};
+ghost use Rattle.jql_past.specs.Near.{OneIsNear, IsNearMark, IsNearChange, MayChange};
 
 use crate::moving::next_near;
 use crate::standing::{next_disturbance, start_of};
-use change_history::{Entry, Issue};
+use change_history::Issue;
 use field_values::{FieldNo, Moment, Value};
 use jql_bound::{Context, PastLeaf, PastPredicate};
 use jql_present::earlier;
@@ -34,10 +35,10 @@ fn next_change(leaf: &PastLeaf, issue: &Issue, context: &Context, at: Moment) ->
         near_creation(predicates, issue, at),
         near_date(predicates, context, at, issue.value(leaf.field)),
     );
-    let entries = near_entries(predicates, issue.part(0, issue.entries()), leaf.field, at);
+    let changes = near_changes(predicates, issue, leaf.field, at);
     earlier(
         marks,
-        earlier(entries, next_disturbance(predicates, context, at)),
+        earlier(changes, next_disturbance(predicates, context, at)),
     )
 }
 
@@ -70,32 +71,24 @@ fn near_date(
     }
 }
 
-// The same of the field's changes.
-fn near_entries(
+// The same of the field's changes, from the last to the first.
+fn near_changes(
     predicates: &[PastPredicate],
-    entries: &[Entry],
+    issue: &Issue,
     field: FieldNo,
     at: Moment,
 ) -> Option<Moment>
-    ensures { IsNext (ToOne (IsNearOwn predicates.now field) entries.now) at result }
+    ensures { IsNext (ToOne (IsNearChange predicates.now) (entries_of issue.now.history.entries field)) at result }
 {
     let mut first = None;
-    for entry in entries {
-        first = earlier(first, near_entry(predicates, entry, field, at));
+    let mut place = issue.last_entry(field);
+    while let Some(k) = place {
+        // An entry stands at each of these places.
+        let Some(entry) = issue.entry(k) else {
+            return None;
+        };
+        first = earlier(near_moment(predicates, at, entry.at), first);
+        place = issue.entry_before(k);
     }
     first
-}
-
-fn near_entry(
-    predicates: &[PastPredicate],
-    entry: &Entry,
-    field: FieldNo,
-    at: Moment,
-) -> Option<Moment>
-    ensures { IsNext (IsNearOwn predicates.now field entry.now) at result }
-{
-    if entry.field.0 != field.0 {
-        return None;
-    }
-    near_moment(predicates, at, entry.at)
 }
