@@ -11,11 +11,11 @@ use std::process::Abort;
 use std::test::Fail;
 
 const ISSUES: [&str; 5] = [
-    "OPS 1 | 100 | summary text beta | status choice 3 | assignee user 1 | priority choice 2 | resolution choice 0 | due day 19800 | points number 2000 | sprint sprint 2",
-    "OPS 2 | 200 | summary text alpha | status choice 0",
-    "OPS 10 | 300 | summary text Beta | status choice 2 | assignee user 0 | priority choice 0 | due day 19700 | points number 1000 | sprint sprint 1",
-    "LAB 3 | 150 | summary text alphabet | status choice 1 | assignee user 2 | priority choice 1 | due day 19900 | points number 3000 | sprint sprint 3",
-    "OPS 9 | 50 | status choice 3 | assignee user 0 | priority choice 0 | resolution choice 1 | points number 2000",
+    "OPS 1 | 100 | summary text beta | status choice 3 | assignee user 1 | priority choice 2 | resolution choice 0 | due day 19800 | points number 2000 | sprint sprint 2 | type choice 1 | description text Zeta | reporter user 3 | note text b | effort number -1500 | tester user 0",
+    "OPS 2 | 200 | summary text alpha | status choice 0 | type choice 0 | reporter user 0 | note text B | effort number 0 | severity choice 2 | release day 20000",
+    "OPS 10 | 300 | summary text Beta | status choice 2 | assignee user 0 | priority choice 0 | due day 19700 | points number 1000 | sprint sprint 1 | description text alpha, beta | reporter user 1 | effort number 250 | severity choice 0 | tester user 2 | release day 19000",
+    "LAB 3 | 150 | summary text alphabet | status choice 1 | assignee user 2 | priority choice 1 | due day 19900 | points number 3000 | sprint sprint 3 | type choice 0 | description text alpha | note text a b | severity choice 1 | tester user 1 | release day 20000",
+    "OPS 9 | 50 | status choice 3 | assignee user 0 | priority choice 0 | resolution choice 1 | points number 2000 | type choice 1 | description text ärger | reporter user 3 | note text a | effort number -20 | severity choice 0 | tester user 0 | release day 19999",
 ];
 
 /// The issues from the top of the board.
@@ -42,6 +42,22 @@ due asc = 3 1 4 2 5
 due desc = 2 5 4 1 3
 sprint asc = 3 1 4 2 5
 sprint desc = 2 5 4 1 3
+type asc = 2 4 1 5 3
+type desc = 3 1 5 2 4
+description asc = 1 4 3 5 2
+description desc = 2 5 3 4 1
+reporter asc = 3 1 5 2 4
+reporter desc = 4 2 1 5 3
+note asc = 2 5 4 1 3
+note desc = 3 1 4 5 2
+effort asc = 1 5 2 3 4
+effort desc = 4 3 2 5 1
+severity asc = 3 5 4 2 1
+severity desc = 1 2 4 3 5
+tester asc = 4 3 1 5 2
+tester desc = 2 1 5 3 4
+release asc = 3 5 2 4 1
+release desc = 1 2 4 5 3
 project asc = 4 1 2 3 5
 project desc = 1 2 3 5 4
 key asc = 4 1 2 5 3
@@ -55,7 +71,10 @@ rank desc = 4 2 5 1 3
 points asc, priority desc = 3 5 1 4 2
 points desc, key desc = 2 4 5 1 3
 statusCategory asc, rank desc = 2 4 3 5 1
-project desc, points asc = 3 1 5 2 4";
+project desc, points asc = 3 1 5 2 4
+type asc, reporter desc = 4 2 1 5 3
+severity desc, effort asc = 1 2 4 5 3
+release asc, tester asc = 3 5 4 2 1";
 
 fn sort_field(name: &str) -> SortField {
     match name {
@@ -84,7 +103,32 @@ fn order(alloc: Global, text: &str) -> Result<OrderBy, Memory> {
     Ok(OrderBy { keys })
 }
 
-/// The setup of a new tracker, in which the first user has the last name.
+/// A field of each kind, of the setup's own.
+const OWN_FIELDS: &str = r#"
+[[field]]
+number = 10000
+name = "note"
+kind = "text"
+[[field]]
+number = 10001
+name = "effort"
+kind = "number"
+[[field]]
+number = 10002
+name = "severity"
+kind = "choice"
+options = ["minor", "major", "fatal"]
+[[field]]
+number = 10003
+name = "tester"
+kind = "user"
+[[field]]
+number = 10004
+name = "release"
+kind = "date"
+"#;
+
+/// The setup of a new tracker with fields of its own, in which the first user has the last name.
 fn setup(rt: &impl Abort, alloc: Global) -> Result<Setup, AllocError> {
     let mut text = String::new(alloc);
     let mut pieces = BUILT_IN.split("\"anna\"");
@@ -93,6 +137,7 @@ fn setup(rt: &impl Abort, alloc: Global) -> Result<Setup, AllocError> {
         text.push_str("\"zoe\"")?;
         text.push_str(piece)?;
     }
+    text.push_str(OWN_FIELDS)?;
     let setup = Setup::read(alloc, text.as_str().as_bytes());
     Ok(setup.ok().expect(rt, "a setup"))
 }

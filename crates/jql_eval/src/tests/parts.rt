@@ -31,14 +31,29 @@ pub fn kind_of(text: &str) -> (&str, &str) {
 
 pub fn field(name: &str) -> FieldNo {
     match name {
+        "type" => FieldNo(1),
         "summary" => FieldNo(2),
+        "description" => FieldNo(3),
         "status" => FieldNo(4),
         "assignee" => FieldNo(5),
+        "reporter" => FieldNo(6),
         "priority" => FieldNo(7),
         "resolution" => FieldNo(8),
         "due" => FieldNo(11),
         "points" => FieldNo(12),
-        _ => FieldNo(13),
+        "sprint" => FieldNo(13),
+        _ => own_field(name),
+    }
+}
+
+// A field of the setup's own, of each kind.
+fn own_field(name: &str) -> FieldNo {
+    match name {
+        "note" => FieldNo(10_000),
+        "effort" => FieldNo(10_001),
+        "severity" => FieldNo(10_002),
+        "tester" => FieldNo(10_003),
+        _ => FieldNo(10_004),
     }
 }
 
@@ -56,7 +71,7 @@ fn value(rt: &impl Abort, alloc: Global, text: &str) -> Result<Value, Memory> {
     let (kind, rest) = kind_of(text);
     match kind {
         "text" => Ok(Value::Text(Text::copy_of(alloc, rest)?)),
-        "number" => Ok(Value::Number(i64::from(small(rt, rest)))),
+        "number" => Ok(Value::Number(rest.parse::<i64>().expect(rt, "a number"))),
         "choice" => Ok(Value::Choice(ChoiceNo(small(rt, rest)))),
         "user" => Ok(Value::User(UserNo(small(rt, rest)))),
         "day" => Ok(Value::Date(Day(i32::from(small(rt, rest))))),
