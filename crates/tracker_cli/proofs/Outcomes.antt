@@ -4,7 +4,7 @@ use Rattle.std.specs.Prelude.{◌⊎◌}
 use Rattle.std.specs.Io.KnownBytes.{Appends}
 use Rattle.std.proofs.lemmas.Option.{IfSome_then}
 use Rattle.request_lines.specs.Lines.{lines, StopsAtLong, StopsAtMany}
-use Rattle.request_lines.specs.Run.{AreAnswered, HasServed, IsCutShort, IsFrontOfNext, Ends}
+use Rattle.request_lines.specs.Run.{AreAnswered, IsCutShort, IsFrontOfNext, Ends}
 use Rattle.request_lines.specs.declared.run.End.{End}
 use Rattle.request_lines.specs.declared.run.End.TheVariants.{Done, ReadFault, WriteFault, Memory, LongLine, ManyLines}
 use Rattle.request_lines.proofs.Known.{Appends-trans}

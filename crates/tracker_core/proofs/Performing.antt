@@ -1,5 +1,5 @@
 -- A call that was prepared is performed as the abstract tracker performs it.
-use Rattle.std.proofs.Common.{◌≡◌, ◌≢◌, ℕ, ◌+◌, List, length, slice_get, true, false, Option, Some, None, Ok, Err, refl, sym, ◌∙◌, subst, ap}
+use Rattle.std.proofs.Common.{◌≡◌, ℕ, ◌+◌, List, slice_get, false, Option, Some, None, refl, sym, ◌∙◌, subst}
 use Rattle.field_forms.specs.Names.{place_named}
 use Rattle.fields.specs.SetupParts.{names_in}
 use Rattle.change_history.specs.declared.change.Change.{Change}

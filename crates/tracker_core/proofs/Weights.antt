@@ -1,12 +1,11 @@
 -- Text bytes, counted in running totals.
 use Rattle.std.proofs.Common.{◌≡◌, ℕ, ◌+◌, List, [], ◌∷◌, ◌++◌, map, set, slice_get, get_or, Some, refl, ap, arith}
 use Rattle.std.specs.Prelude.{sum_by}
-use Rattle.std.proofs.lemmas.Grind.{common_steps}
 use Rattle.std.proofs.lemmas.List.Sums.{sum_by_push, sum_by-set, sum_by-cons, sum_by-append}
 use Rattle.std.proofs.lemmas.Option.{slice_get_within, get_or_from_slice_get}
 use Rattle.change_history.specs.declared.entry.Entry.{Entry}
 use Rattle.change_history.specs.History.{Kept, History}
-use Rattle.tracker_machine.specs.Checks.{text_bytes, entry_bytes, history_bytes, bytes_kept}
+use Rattle.tracker_machine.specs.Checks.{entry_bytes, history_bytes, bytes_kept}
 use Rattle.tracker_core.specs.Issues.{total_bytes}
 
 -- those of a history with entries more

@@ -1,5 +1,5 @@
 -- What a call wants of an issue's fields.
-use Rattle.std.specs.Prelude.{◌≡◌, ℕ, List, Option, Some, None, decimal}
+use Rattle.std.specs.Prelude.{ℕ, decimal}
 use Rattle.field_values.specs.Parts.{Parts}
 use Rattle.fields.specs.SetupParts.{names_in}
 use Rattle.tracker_calls.specs.declared.reply.Refusal.{Refusal}

@@ -1,6 +1,6 @@
 -- What a text asks for, by what it was read as.
-use Rattle.std.proofs.Common.{◌≡◌, ℕ, List, refl, sym, ◌∙◌, ap, Option}
-use Rattle.std.specs.Prelude.{Result, Ok, Err}
+use Rattle.std.proofs.Common.{◌≡◌, ℕ, List, ◌∙◌, ap, Option}
+use Rattle.std.specs.Prelude.{Err}
 use Rattle.field_values.specs.Parts.{Parts}
 use Rattle.jql_syntax.specs.Tree.{Tree}
 use Rattle.jql_syntax.specs.Tokens.{tokens, words}
@@ -13,9 +13,8 @@ use Rattle.jql_syntax.proofs.Fronts.{one_text_fault, not_query}
 use Rattle.jql_syntax.proofs.Total.{text_decided}
 use Rattle.jql_grammar.specs.Bound.{bound_in}
 use Rattle.jql_grammar.specs.Scope.{Scope}
-use Rattle.tracker_calls.specs.declared.reply.Refusal.{Refusal}
 use Rattle.tracker_calls.specs.declared.reply.Refusal.TheVariants as refusal
-use Rattle.tracker_machine.specs.Search.{Query, asked, asked_by, bound_or_fault}
+use Rattle.tracker_machine.specs.Search.{asked, asked_by, bound_or_fault}
 
 abbrev scope : Parts → ℕ → Scope
 scope setup user = record { setup = setup; caller = record { 0 = user } }

@@ -1,5 +1,5 @@
 -- Checks, the first of which that fails refuses a call.
-use Rattle.std.specs.Prelude.{ℕ, ◌+◌, ◌*◌, Bool, List, [], ◌∷◌, Option, Some, None, if◌then◌else◌, not, option_map, option_and_then, length, nat_lt, nat_le, sum_by, decimal, slice_get, codes}
+use Rattle.std.specs.Prelude.{ℕ, ◌+◌, ◌*◌, Bool, List, [], ◌∷◌, Option, Some, None, if◌then◌else◌, option_map, option_and_then, length, nat_lt, nat_le, sum_by, decimal, codes}
 use Rattle.field_values.specs.declared.field.Field.{Field}
 use Rattle.field_values.specs.declared.value.Value.{Value}
 use Rattle.field_values.specs.declared.value.Value.TheVariants as value

@@ -5,7 +5,7 @@ use Rattle.change_history.specs.History.{History}
 use Rattle.tracker_calls.specs.Part.{part_of}
 use Rattle.tracker_calls.specs.declared.call.Part.{Part}
 use Rattle.tracker_calls.specs.declared.reply.Answer.TheVariants as answer
-use Rattle.tracker_machine.specs.Search.{listed, found}
+use Rattle.tracker_machine.specs.Search.{listed}
 use Rattle.tracker_core.proofs.search.told.Goals as goal
 
 part_of-map : {X Y : Type 0} (f : X → Y) (part : Part) (xs : List X) → part_of part (map f xs) ≡ map f (part_of part xs)

@@ -1,7 +1,6 @@
-use Rattle.std.proofs.Common.{◌≡◌, ◌<◌, ℕ, length, slice_get, Some, refl, subst, rules}
+use Rattle.std.proofs.Common.{◌≡◌, length, slice_get, Some, refl, subst, rules}
 use Rattle.std.proofs.lemmas.Option.{slice_get_read}
 use Rattle.field_values.specs.Parts.{Parts}
-use Rattle.field_values.specs.declared.parts.Transition.{Transition}
 use Rattle.fields.specs.SetupParts.{parts}
 use Rattle.workflow.specs.Laws.{IsSound}
 use Rattle.workflow.proofs.SoundSetups.{sound_transition}
