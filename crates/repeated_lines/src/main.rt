@@ -8,6 +8,7 @@ ghost use Rattle.std.specs.Prelude.{◌≡◌, ◌<◌};
 use field_values::Text;
 use fields::{Setup, Steps};
 use std::alloc::Global;
+use std::io;
 use std::marker::Brand;
 use std::process::ExitCode;
 use std::sync::ledger::{Blank, Ledger};
@@ -40,9 +41,9 @@ fn play_lines<L: Ledger>(
     requires some { 0 < L.parts }
 {
     let mut steps = Steps::<L>::new(blank);
-    for line in rt.lines(alloc) {
-        let line = line.ok()?;
-        let text = last_reply(alloc, desk, line.as_str(), &mut steps)?;
+    let input = io::read_to_string(alloc, rt.reader()).ok()?;
+    for line in input.lines() {
+        let text = last_reply(alloc, desk, line, &mut steps)?;
         let text = text.as_str();
         println!(rt; "{text}").ok()?;
     }
@@ -66,14 +67,11 @@ fn last_reply<L: Ledger>(
     let (count, texts) = line.split_once('\t')?;
     let count = count.parse::<u32>().ok()?;
     let requests = requests_of(alloc, texts)?;
-    for _ in 1..count {
-        for request in &requests {
-            make(desk, request, steps);
-        }
-    }
     let mut last = None;
-    for request in &requests {
-        last = Some(reply_to(alloc, desk, request, steps)?);
+    for _ in 0..count {
+        for request in &requests {
+            last = Some(reply_to(alloc, desk, request, steps)?);
+        }
     }
     last
 }
@@ -90,11 +88,6 @@ fn requests_of(alloc: Global, texts: &str) -> Option<Vec<Request>> {
 fn request_of(alloc: Global, text: &str) -> Option<Request> {
     let (user, call) = read_line(alloc, text.as_bytes()).ok()?;
     Some(Request { user, call })
-}
-
-// Lets the reply go, here alone.
-fn make<L: Ledger>(desk: &mut Desk, request: &Request, steps: &mut Steps<L>) {
-    desk.call(&request.user, &request.call, steps);
 }
 
 fn reply_to<L: Ledger>(
