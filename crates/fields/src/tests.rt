@@ -148,14 +148,6 @@ fn check_values(rt: &impl Abort, alloc: Global, setup: &Setup, cases: &str) -> R
     Ok(count)
 }
 
-#[test]
-fn values_of_texts(rt: HostRuntime) -> Result<(), Fail> {
-    let setup = Setup::built_in(rt.alloc())?;
-    let count = check_values(&rt, rt.alloc(), &setup, VALUES)?;
-    assert_eq!(rt; count, 67);
-    Ok(())
-}
-
 /// Each line has a field's number, a kind of value, its number, and whether the field may hold it.
 const FITTING: &str = r#"
 11 | date | 47481 | yes
@@ -202,13 +194,6 @@ fn check_fits(rt: &impl Abort, setup: &Setup, cases: &str) -> Result<usize, Fail
         count = count.checked_add(1).ok_or("many")?;
     }
     Ok(count)
-}
-
-#[test]
-fn values_that_fit(rt: HostRuntime) -> Result<(), Fail> {
-    let setup = Setup::built_in(rt.alloc())?;
-    assert_eq!(rt; check_fits(&rt, &setup, FITTING)?, 12);
-    Ok(())
 }
 
 /// Each line has a kind of thing, a name, and the number of the thing of that name, or `none`.
@@ -282,14 +267,6 @@ fn check_names(rt: &impl Abort, setup: &Setup, cases: &str) -> Result<usize, Fai
     Ok(count)
 }
 
-#[test]
-fn things_by_name(rt: HostRuntime) -> Result<(), Fail> {
-    let setup = Setup::built_in(rt.alloc())?;
-    let count = check_names(&rt, &setup, NAMES)?;
-    assert_eq!(rt; count, 23);
-    Ok(())
-}
-
 /// Each line has a user, a permission, a project, or `none`, and whether the user has it there.
 const PERMISSIONS: &str = r#"
 cy | browse | OPS | yes
@@ -332,14 +309,6 @@ fn check_permissions(rt: &impl Abort, setup: &Setup, cases: &str) -> Result<usiz
     Ok(count)
 }
 
-#[test]
-fn permissions(rt: HostRuntime) -> Result<(), Fail> {
-    let setup = Setup::built_in(rt.alloc())?;
-    let count = check_permissions(&rt, &setup, PERMISSIONS)?;
-    assert_eq!(rt; count, 9);
-    Ok(())
-}
-
 /// Rows of the same kind of a group's new members.
 const AFTER: &str = r#"
 cy | administer | none | yes
@@ -357,15 +326,6 @@ fn with_cy(alloc: Global, setup: &mut Setup) -> Result<bool, Fail> {
     }
     setup.set_members(GroupNo(2), members);
     Ok(true)
-}
-
-#[test]
-fn members_that_change(rt: HostRuntime) -> Result<(), Fail> {
-    let mut setup = Setup::built_in(rt.alloc())?;
-    assert!(rt; with_cy(rt.alloc(), &mut setup)?);
-    assert_eq!(rt; check_permissions(&rt, &setup, AFTER)?, 3);
-    assert_eq!(rt; setup.text.as_str(), BUILT_IN);
-    Ok(())
 }
 
 /// Names of the largest setup.
@@ -398,9 +358,35 @@ fn large_setup(alloc: Global) -> Result<Setup, Fail> {
     }
 }
 
+fn check_members(rt: &impl Abort, alloc: Global, setup: &mut Setup) -> Result<(), Fail> {
+    assert!(rt; with_cy(alloc, setup)?);
+    assert_eq!(rt; check_permissions(rt, setup, AFTER)?, 3);
+    assert_eq!(rt; setup.text.as_str(), BUILT_IN);
+    Ok(())
+}
+
+fn check_all(rt: &impl Abort, alloc: Global, setup: &mut Setup) -> Result<(), Fail> {
+    assert_eq!(rt; check_values(rt, alloc, setup, VALUES)?, 67);
+    assert_eq!(rt; check_fits(rt, setup, FITTING)?, 12);
+    assert_eq!(rt; check_names(rt, setup, NAMES)?, 23);
+    assert_eq!(rt; check_permissions(rt, setup, PERMISSIONS)?, 9);
+    check_members(rt, alloc, setup)
+}
+
+// Where a setup is let go, each of its parts is looked at, which takes a proof its time: so it is once in each of these tests.
+#[test]
+fn the_setup_of_a_new_tracker(rt: HostRuntime) -> Result<(), Fail> {
+    let mut setup = Setup::built_in(rt.alloc())?;
+    check_all(&rt, rt.alloc(), &mut setup)
+}
+
+fn check_large(rt: &impl Abort, setup: &Setup) -> Result<(), Fail> {
+    assert_eq!(rt; check_names(rt, setup, LARGE_NAMES)?, 9);
+    check_steps(rt, setup)
+}
+
 #[test]
 fn a_large_setup(rt: HostRuntime) -> Result<(), Fail> {
     let setup = large_setup(rt.alloc())?;
-    assert_eq!(rt; check_names(&rt, &setup, LARGE_NAMES)?, 9);
-    check_steps(&rt, &setup)
+    check_large(&rt, &setup)
 }
