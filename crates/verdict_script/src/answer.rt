@@ -1,7 +1,7 @@
 // The answer to a row.
 use crate::fault::Fault;
 use crate::names::{moment_of, user_of};
-use crate::row::row_of;
+use crate::row::{Row, row_of};
 use crate::setting::Setting;
 use crate::story::issue_of;
 use change_history::Issue;
@@ -58,13 +58,24 @@ pub fn answer_to<L: Ledger>(
         return Err(Fault::NoRow);
     };
     let issue = issue_of(alloc, setting.setup(), row.key, row.story)?;
+    answer_of(alloc, setting, row, &issue, steps)
+}
+
+// The answer to the row of that issue.
+fn answer_of<L: Ledger>(
+    alloc: Global,
+    setting: &Setting,
+    row: Row<'_>,
+    issue: &Issue,
+    steps: &mut Steps<L>,
+) -> Result<Answer, Fault> {
     let at = moment_of(row.at)?;
     if at.seconds() < issue.updated().seconds() {
         return Err(Fault::NoRow);
     }
     let caller = user_of(setting.setup(), row.user)?;
     let query = query_of(alloc, setting.setup(), caller, row.query)?;
-    Ok(asked(&query, &issue, &setting.context, at, steps))
+    Ok(asked(&query, issue, &setting.context, at, steps))
 }
 
 // What the text asks for when that user asks it.

@@ -10,10 +10,11 @@ use tracker_core::Desk;
 /// How far the sprints have come, by number from 1.
 const SPRINTS: [Phase; 3] = [Phase::Closed, Phase::Active, Phase::Future];
 
-/// A new tracker's desk, and what its queries ask of, with sprints beside.
+/// A new tracker's desk, and what its queries ask of, with sprints beside. The desk is in a box, since letting it go is then
+/// one call wherever a setting ends.
 #[derive(Drop)]
 pub struct Setting {
-    desk: Desk,
+    desk: Box<Desk>,
     pub context: Context,
 }
 
@@ -21,10 +22,10 @@ impl Setting {
     /// What rows go by under the setup.
     pub fn of(alloc: Global, setup: Setup) -> Result<Setting, Memory> {
         let desk = Desk::fresh(alloc, setup)?;
-        Setting::over(alloc, desk)
+        Setting::over(alloc, Box::new(alloc, desk)?)
     }
 
-    fn over(alloc: Global, desk: Desk) -> Result<Setting, Memory> {
+    fn over(alloc: Global, desk: Box<Desk>) -> Result<Setting, Memory> {
         match with_sprints(alloc, desk.state().context()) {
             Ok(context) => Ok(Setting { desk, context }),
             Err(fault) => Err(fault),
