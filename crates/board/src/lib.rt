@@ -14,6 +14,3 @@ mod shift;
 pub use board::Board;
 pub use order::Order;
 pub use place::Place;
-
-#[cfg(test)]
-mod tests;

@@ -7,8 +7,6 @@ mod issue;
 mod key;
 mod places;
 mod span;
-#[cfg(test)]
-mod tests;
 
 pub use change::{Change, Changes};
 pub use entry::{Entries, Entry, Group};

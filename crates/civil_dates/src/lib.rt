@@ -3,8 +3,6 @@
 
 pub mod laws;
 mod read;
-#[cfg(test)]
-mod tests;
 mod write;
 
 pub use read::day_of;

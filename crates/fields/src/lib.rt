@@ -3,14 +3,10 @@
 #![tactic(auto)]
 
 mod indexed_lists;
-#[cfg(test)]
-mod large_setup;
 mod lookup;
 mod places;
 mod setup;
 mod table_names;
-#[cfg(test)]
-mod tests;
 mod values;
 
 pub use field_values::{

@@ -4,6 +4,3 @@
 mod check;
 
 pub use check::{check_line, one_reply, some_reply};
-
-#[cfg(test)]
-mod tests;

@@ -6,8 +6,6 @@ mod number;
 mod order;
 mod query;
 mod standing;
-#[cfg(test)]
-mod tests;
 mod verdict;
 
 pub use laws::order_of_issues;

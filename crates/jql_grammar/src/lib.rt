@@ -18,8 +18,6 @@ mod predicates;
 mod present;
 mod scope;
 mod sorting;
-#[cfg(test)]
-mod tests;
 mod values;
 mod words;
 

@@ -8,8 +8,6 @@ mod moving;
 mod naming;
 mod spans;
 mod standing;
-#[cfg(test)]
-mod tests;
 mod windows;
 
 pub use end::next_past;

@@ -6,8 +6,6 @@ mod end;
 mod holds;
 mod mark;
 mod phase;
-#[cfg(test)]
-mod tests;
 mod words;
 
 pub use end::{earlier, next_present};

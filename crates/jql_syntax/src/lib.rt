@@ -21,6 +21,3 @@ pub use query::{
 pub use reader::{JqlFault, MOST_BYTES, one_fault, one_query, parse, query_or_fault};
 pub use scan::keyword;
 pub use token::{Kind, Mark, Placed, Token};
-
-#[cfg(test)]
-mod tests;

@@ -4,8 +4,6 @@
 mod folded;
 mod indexed_names;
 mod places;
-#[cfg(test)]
-mod tests;
 
 pub use indexed_names::IndexedNames;
 pub use places::Places;

@@ -10,6 +10,3 @@ mod step;
 pub use balance::{Balance, BalanceIs};
 pub use search::pick;
 pub use step::{StepPlan, apply, plan_step};
-
-#[cfg(test)]
-mod tests;

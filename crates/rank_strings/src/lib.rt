@@ -16,6 +16,3 @@ pub use choice::between;
 pub use fault::RankFault;
 pub use rank::Rank;
 pub use text::{Memory, Text};
-
-#[cfg(test)]
-mod tests;

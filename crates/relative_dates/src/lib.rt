@@ -13,8 +13,3 @@ mod term;
 pub use calendar::{Calendar, OffsetStep, StepFault};
 pub use call::TermCall;
 pub use term::{Boundary, Edge, LocalSecond, Months, Period, Shift, Term};
-
-#[cfg(test)]
-mod berlin;
-#[cfg(test)]
-mod tests;

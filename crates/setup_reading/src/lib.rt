@@ -1,13 +1,9 @@
 //! The reading of a setup's text: its draft, and the numbers of all that its names name; or its first fault.
 #![tactic(auto)]
 
-#[cfg(test)]
-mod bad_setups;
 pub mod built_in_text;
 pub mod name_lists;
 pub mod reading;
-#[cfg(test)]
-mod tests;
 pub mod tie;
 pub mod tie_transition;
 pub mod tied;

@@ -9,6 +9,3 @@ mod state;
 pub use sprint::Sprint;
 pub use sprints::Sprints;
 pub use state::{SprintFault, SprintState};
-
-#[cfg(test)]
-mod tests;

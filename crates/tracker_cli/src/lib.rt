@@ -5,8 +5,6 @@ mod adapters;
 mod check;
 mod command;
 mod exec;
-#[cfg(test)]
-mod tests;
 
 pub use adapters::{Reading, Writing};
 pub use check::Checks;

@@ -10,8 +10,6 @@ mod planning;
 mod post_functions;
 mod project;
 mod same;
-#[cfg(test)]
-mod tests;
 mod validators;
 
 pub use conditions::failing_condition;

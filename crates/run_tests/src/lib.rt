@@ -1,0 +1,5 @@
+//! Tests of whole runs over sources and sinks in memory.
+#![tactic(auto)]
+
+#[cfg(test)]
+mod runs;

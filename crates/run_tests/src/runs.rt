@@ -1,0 +1,194 @@
+use std::alloc::{AllocError, Global};
+use std::test::Fail;
+use tracker_calls::{MemorySink, MemorySource};
+use tracker_cli::run;
+
+const TICKS: &[u8] =
+    b"{\"user\":\"anna\",\"call\":\"tick\",\"to\":5}\n \t\n{\"user\":\"bo\",\"call\":\"tick\",\"to\":4}\n{}\n{\"user\":\"zed\",\"call\":\"tick\",\"to\":9}";
+
+const REPLIES: &[u8] =
+    b"{\"ok\":{\"moment\":5}}\n{\"refused\":{\"kept\":5,\"no\":11}}\n{\"refused\":{\"member\":\"user\",\"no\":1}}\n{\"refused\":{\"kind\":\"user\",\"name\":\"zed\",\"no\":2}}\n";
+
+/// The bytes of the first reply, of the first two, and of the first three, with their line feeds.
+const ENDS: [usize; 3] = [20, 51, 88];
+
+fn words(alloc: Global, word: &str) -> Result<Vec<String>, AllocError> {
+    let mut words = Vec::new(alloc);
+    words.push(String::from_str(alloc, word)?)?;
+    Ok(words)
+}
+
+// The status and the output of a run over the ticks, read in pieces of that length.
+fn played(
+    alloc: Global,
+    piece: usize,
+    bad_reads: Vec<u64>,
+    room: usize,
+    bad_writes: Vec<u64>,
+) -> Result<(u8, Vec<u8>), AllocError> {
+    let mut pieces = Vec::new(alloc);
+    for _ in 0..TICKS.len() {
+        pieces.push(piece)?;
+    }
+    let mut source = MemorySource::new(TICKS.to_vec(alloc)?, pieces, bad_reads);
+    let mut sink = MemorySink::new(alloc, room, bad_writes)?;
+    let status = run(alloc, &words(alloc, "exec")?, &mut source, &mut sink);
+    Ok((status, sink.taken().to_vec(alloc)?))
+}
+
+#[test]
+fn an_input_is_answered_however_it_is_cut(rt: HostRuntime) -> Result<(), Fail> {
+    let alloc = rt.alloc();
+    for piece in 1..40 {
+        let (status, out) = played(alloc, piece, Vec::new(alloc), 1_000, Vec::new(alloc))?;
+        assert_eq!(rt; status, 0);
+        assert_eq!(rt; out.as_slice(), REPLIES);
+    }
+    Ok(())
+}
+
+#[test]
+fn a_read_that_fails_leaves_the_whole_lines_before(rt: HostRuntime) -> Result<(), Fail> {
+    let alloc = rt.alloc();
+    // The first request ends in the third read of 16 bytes, the second and third in the fifth; the last
+    // line's end is seen by the ninth alone.
+    let shown = [0, 0, 0, 20, 20, 88, 88, 88, 88];
+    for place in 0..shown.len() {
+        let bad_reads = [place as u64 + 1].to_vec(alloc)?;
+        let (status, out) = played(alloc, 16, bad_reads, 1_000, Vec::new(alloc))?;
+        assert_eq!(rt; status, 2);
+        assert_eq!(rt; out.len(), shown[place]);
+        assert!(rt; REPLIES.starts_with(&out));
+    }
+    Ok(())
+}
+
+#[test]
+fn a_write_that_fails_leaves_a_front(rt: HostRuntime) -> Result<(), Fail> {
+    let alloc = rt.alloc();
+    for place in 0..ENDS.len() {
+        let bad_writes = [place as u64 + 2].to_vec(alloc)?;
+        let (status, out) = played(alloc, 100, Vec::new(alloc), 1_000, bad_writes)?;
+        assert_eq!(rt; status, 3);
+        assert_eq!(rt; out.len(), ENDS[place]);
+    }
+    for room in 0..REPLIES.len() {
+        let (status, out) = played(alloc, 100, Vec::new(alloc), room, Vec::new(alloc))?;
+        assert_eq!(rt; status, 3);
+        assert_eq!(rt; out.as_slice(), &REPLIES[..room]);
+    }
+    Ok(())
+}
+
+#[test]
+fn words_that_are_no_command_are_a_usage_error(rt: HostRuntime) -> Result<(), Fail> {
+    let alloc = rt.alloc();
+    for word in ["", "Exec", "exec ", "Check", "help", "-h"] {
+        let mut source = MemorySource::new(Vec::new(alloc), Vec::new(alloc), Vec::new(alloc));
+        let mut sink = MemorySink::new(alloc, 100, Vec::new(alloc))?;
+        let status = run(alloc, &words(alloc, word)?, &mut source, &mut sink);
+        assert_eq!(rt; status, 1);
+        assert_eq!(rt; sink.taken(), b"usage: exec, check\n".as_slice());
+    }
+    Ok(())
+}
+
+// The status and the output of a run over one line of that many bytes after a tick.
+fn long_line(alloc: Global, len: usize) -> Result<(u8, Vec<u8>), AllocError> {
+    let mut bytes = b"{\"user\":\"anna\",\"call\":\"tick\",\"to\":5}\n".to_vec(alloc)?;
+    for _ in 0..len {
+        bytes.push(b'x')?;
+    }
+    let mut source = MemorySource::new(bytes, Vec::new(alloc), Vec::new(alloc));
+    let mut sink = MemorySink::new(alloc, 100, Vec::new(alloc))?;
+    let status = run(alloc, &words(alloc, "exec")?, &mut source, &mut sink);
+    Ok((status, sink.taken().to_vec(alloc)?))
+}
+
+#[test]
+fn a_line_passes_its_limit_by_one_byte(rt: HostRuntime) -> Result<(), Fail> {
+    let alloc = rt.alloc();
+    let (status, out) = long_line(alloc, 65_536)?;
+    assert_eq!(rt; status, 0);
+    assert_eq!(rt;
+        out.as_slice(),
+        b"{\"ok\":{\"moment\":5}}\n{\"refused\":{\"member\":\"line\",\"no\":1}}\n".as_slice()
+    );
+    let (status, out) = long_line(alloc, 65_537)?;
+    assert_eq!(rt; status, 7);
+    assert_eq!(rt;
+        out.as_slice(),
+        b"{\"ok\":{\"moment\":5}}\nlimit line\n".as_slice()
+    );
+    Ok(())
+}
+
+// The status and the output of a run over that many blank lines.
+fn many_lines(alloc: Global, count: usize) -> Result<(u8, Vec<u8>), AllocError> {
+    let mut bytes = Vec::with_capacity(alloc, count)?;
+    for _ in 0..count {
+        bytes.push(b'\n')?;
+    }
+    let mut source = MemorySource::new(bytes, Vec::new(alloc), Vec::new(alloc));
+    let mut sink = MemorySink::new(alloc, 100, Vec::new(alloc))?;
+    let status = run(alloc, &words(alloc, "exec")?, &mut source, &mut sink);
+    Ok((status, sink.taken().to_vec(alloc)?))
+}
+
+#[test]
+fn the_lines_pass_their_limit_by_one(rt: HostRuntime) -> Result<(), Fail> {
+    let alloc = rt.alloc();
+    let (status, out) = many_lines(alloc, 1_000_000)?;
+    assert_eq!(rt; status, 0);
+    assert_eq!(rt; out.as_slice(), b"".as_slice());
+    let (status, out) = many_lines(alloc, 1_000_001)?;
+    assert_eq!(rt; status, 7);
+    assert_eq!(rt; out.as_slice(), b"limit lines\n".as_slice());
+    Ok(())
+}
+
+// The status and the output of `check` over the bytes, read in pieces of that length.
+fn checked(
+    alloc: Global,
+    bytes: &[u8],
+    piece: usize,
+    bad_reads: Vec<u64>,
+) -> Result<(u8, Vec<u8>), AllocError> {
+    let mut pieces = Vec::new(alloc);
+    for _ in 0..bytes.len() {
+        pieces.push(piece)?;
+    }
+    let mut source = MemorySource::new(bytes.to_vec(alloc)?, pieces, bad_reads);
+    let mut sink = MemorySink::new(alloc, 1_000, Vec::new(alloc))?;
+    let status = run(alloc, &words(alloc, "check")?, &mut source, &mut sink);
+    Ok((status, sink.taken().to_vec(alloc)?))
+}
+
+#[test]
+fn each_line_is_checked(rt: HostRuntime) -> Result<(), Fail> {
+    let alloc = rt.alloc();
+    let mut bytes = b"a=b\n\na = \xff\nstatus =\n".to_vec(alloc)?;
+    for _ in 0..4_097 {
+        bytes.push(b' ')?;
+    }
+    let replies = b"ok a = \"b\"\nok\nfault 4 1\nfault 8 3\nfault 4096 5\n";
+    for piece in [1, 7, 5_000] {
+        let (status, out) = checked(alloc, &bytes, piece, Vec::new(alloc))?;
+        assert_eq!(rt; status, 0);
+        assert_eq!(rt; out.as_slice(), replies.as_slice());
+    }
+    // The second read fails: the first line alone was whole.
+    let (status, out) = checked(alloc, &bytes, 4, [2].to_vec(alloc)?)?;
+    assert_eq!(rt; status, 2);
+    assert_eq!(rt; out.as_slice(), b"ok a = \"b\"\n".as_slice());
+    for _ in 0..65_536 {
+        bytes.push(b' ')?;
+    }
+    let (status, out) = checked(alloc, &bytes, 5_000, Vec::new(alloc))?;
+    assert_eq!(rt; status, 7);
+    assert_eq!(rt;
+        out.as_slice(),
+        b"ok a = \"b\"\nok\nfault 4 1\nfault 8 3\nlimit line\n".as_slice()
+    );
+    Ok(())
+}
