@@ -6,7 +6,7 @@ use crate::order::Order;
 use field_values::{BoardNo, FilterNo, IssueNo, Memory, Text};
 
 /// A board shows the issues of a saved filter.
-#[derive(Debug, Drop)]
+#[derive(Drop)]
 pub struct Board {
     pub no: BoardNo,
     pub name: Text,

@@ -16,7 +16,7 @@ use std::marker::Model;
 /// All issues by rank, the least rank first, which is the top of a board.
 ///
 /// Contracts see the list of pairs of a rank and an issue, and beside it how many issues there is room for.
-#[derive(Debug, Drop)]
+#[derive(Drop)]
 pub struct Order {
     pairs: Vec<(Rank, IssueNo)>,
     // By the issue's number, its place among the pairs.

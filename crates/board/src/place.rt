@@ -3,7 +3,7 @@
 use field_values::IssueNo;
 
 /// A place in the order of issues, which runs from the least rank, the top of a board, to the greatest.
-#[derive(Clone, Copy, Debug, PartialEq, Eq)]
+#[derive(Clone, Copy, PartialEq, Eq)]
 pub enum Place {
     /// Just before this issue.
     Before(IssueNo),

@@ -16,7 +16,7 @@ use std::marker::Model;
 /// What remains of each sprint, in thousandths of points, and which change groups changed it while the sprint was active.
 ///
 /// Contracts see it as a list of sprints, each with its total, its stage, its rows, and the number of rows that there is room for.
-#[derive(Debug, Drop)]
+#[derive(Drop)]
 pub struct Burndown {
     // The sprints that have room, by number.
     totals: Vec<(SprintNo, i64)>,

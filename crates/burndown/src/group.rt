@@ -6,7 +6,7 @@ use crate::share::Share;
 use field_values::{IssueNo, Moment, SprintNo};
 
 /// A change group: its number, moment and issue, and what the issue's share was and is. There was none before a creation.
-#[derive(Clone, Copy, Debug, PartialEq, Eq)]
+#[derive(Clone, Copy, PartialEq, Eq)]
 pub struct Group {
     pub change: u64,
     pub at: Moment,

@@ -9,7 +9,7 @@ use field_values::{Memory, SprintNo};
 use std::alloc::Global;
 
 /// Whether a sprint has begun and ended, with its total at the begin.
-#[derive(Clone, Copy, Debug, PartialEq, Eq)]
+#[derive(Clone, Copy, PartialEq, Eq)]
 pub enum Stage {
     Ahead,
     Running { start: i64 },
@@ -17,7 +17,7 @@ pub enum Stage {
 }
 
 /// What is kept of a sprint beside its total.
-#[derive(Debug, Drop)]
+#[derive(Drop)]
 pub struct Progress {
     pub stage: Stage,
     pub rows: Vec<BurnRow>,

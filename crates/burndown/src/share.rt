@@ -5,7 +5,7 @@ ghost use Rattle.burndown.specs.Share.{counts_for, counted_before};
 use field_values::{IssueNo, Moment, SprintNo};
 
 /// What remaining work depends on in an issue. Points are in thousandths, 0 where the issue has none.
-#[derive(Clone, Copy, Debug, PartialEq, Eq)]
+#[derive(Clone, Copy, PartialEq, Eq)]
 pub struct Share {
     /// The issue's sprint.
     pub sprint: Option<SprintNo>,
@@ -15,7 +15,7 @@ pub struct Share {
 }
 
 /// A change group that changed a sprint's remaining work.
-#[derive(Clone, Copy, Debug, PartialEq, Eq)]
+#[derive(Clone, Copy, PartialEq, Eq)]
 pub struct BurnRow {
     pub at: Moment,
     /// The change group's number.

@@ -5,14 +5,14 @@ use std::alloc::Global;
 use std::marker::Model;
 
 /// A field, and what it is to hold.
-#[derive(Debug, Drop)]
+#[derive(Drop)]
 pub struct Change {
     pub field: FieldNo,
     pub to: Value,
 }
 
 /// Changes in an order, which contracts see as the list of them.
-#[derive(Debug, Drop)]
+#[derive(Drop)]
 pub struct Changes {
     pub(crate) list: Vec<Change>,
 }

@@ -5,7 +5,7 @@ use std::alloc::Global;
 use std::marker::Model;
 
 /// One field's change in a history. `change` is the number of its change group.
-#[derive(Debug, Drop)]
+#[derive(Drop)]
 pub struct Entry {
     pub change: u64,
     pub at: Moment,
@@ -16,7 +16,7 @@ pub struct Entry {
 }
 
 /// Entries in an order, which contracts see as the list of them.
-#[derive(Debug, Drop)]
+#[derive(Drop)]
 pub struct Entries {
     pub(crate) list: Vec<Entry>,
 }
@@ -31,7 +31,7 @@ impl Model for Entries {
 }
 
 /// What one edit or transition changed. Groups are numbered from 1 over the whole tracker.
-#[derive(Debug, Drop)]
+#[derive(Drop)]
 pub struct Group {
     pub change: u64,
     pub at: Moment,

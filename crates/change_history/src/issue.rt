@@ -14,7 +14,7 @@ use std::alloc::Global;
 use std::marker::Model;
 
 /// An issue with its whole history. Contracts see it as that history, and beside it how many entries there is room for.
-#[derive(Debug, Drop)]
+#[derive(Drop)]
 pub struct Issue {
     no: IssueNo,
     key: Key,

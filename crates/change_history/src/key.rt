@@ -6,7 +6,7 @@ use std::marker::Model;
 
 /// An issue's key, as `OPS-7`: the project's key, a hyphen and the project's number of the issue. Contracts see
 /// it as its bytes.
-#[derive(Debug, Drop)]
+#[derive(Drop)]
 pub struct Key {
     text: Text,
 }

@@ -8,7 +8,7 @@ use field_values::{FieldNo, Memory};
 use std::alloc::Global;
 
 /// The place of a field's present value: an opening value's place, or, past all these, an entry's.
-#[derive(Clone, Copy, Debug)]
+#[derive(Clone, Copy)]
 pub struct Place {
     pub field: FieldNo,
     pub at: usize,

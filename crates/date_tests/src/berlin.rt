@@ -293,7 +293,7 @@ fn berlin(alloc: Global) -> Option<Calendar> {
 fn agrees_with_berlin(rt: HostRuntime) -> Result<(), Fail> {
     let calendar = berlin(rt.alloc()).ok_or("no calendar")?;
     for row in &BERLIN {
-        assert_eq!(rt; agrees(&calendar, row), Some(true), "{row:?}");
+        assert!(rt; agrees(&calendar, row) == Some(true));
     }
     Ok(())
 }

@@ -3,7 +3,7 @@ ghost use Rattle.desk_turn.specs.Answer.{IfTold, IfNothing};
 ghost use Rattle.desk_turn.specs.declared.entry.Entry.{Entry};
 
 /// There was no memory.
-#[derive(Clone, Copy, Debug, PartialEq, Eq)]
+#[derive(Clone, Copy, PartialEq, Eq)]
 pub struct Memory;
 
 /// A value that is called through `enter` alone, and keeps the history of these calls.

@@ -190,7 +190,7 @@ fn a_call_is_made_or_leaves_the_value(rt: HostRuntime) -> Result<(), Fail> {
     let entries = kept.entries.len();
     let is_made = (answer, kept.sum, entries) == (Ok(Some(5)), 5, 1);
     let is_refused = (answer, kept.sum, entries) == (Err(Memory), 0, 0);
-    assert!(rt; is_made || is_refused, "{answer:?}");
+    assert!(rt; is_made || is_refused);
     assert_eq!(rt; (left, kept.room), (1, 3));
     Ok(())
 }

@@ -18,7 +18,7 @@ use field_values::value::Value;
 use std::alloc::Global;
 
 /// What a field holds, and the limits of it.
-#[derive(Clone, Copy, Debug)]
+#[derive(Clone, Copy)]
 pub enum Form {
     /// A text of at most so many bytes on one line.
     Line(usize),

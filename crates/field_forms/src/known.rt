@@ -20,7 +20,7 @@ use field_values::words::FieldKind;
 use std::alloc::Global;
 
 /// The lists of names of the setup, lent.
-#[derive(Clone, Copy, Debug)]
+#[derive(Clone, Copy)]
 pub struct Known<'a> {
     pub users: &'a [Text],
     pub types: &'a [Text],

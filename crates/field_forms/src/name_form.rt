@@ -11,7 +11,7 @@ use crate::built_in::is_field_word;
 use field_values::text::Text;
 
 /// What a name is of, which says what form it has.
-#[derive(Clone, Copy, Debug)]
+#[derive(Clone, Copy)]
 pub enum NameForm {
     User,
     Plain,

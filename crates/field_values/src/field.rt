@@ -4,7 +4,7 @@ use crate::text::Text;
 use crate::words::FieldKind;
 
 /// A field of the setup's own. Where its kind is a choice, it has at least one option; else it has none.
-#[derive(Debug, Drop)]
+#[derive(Drop)]
 pub struct Field {
     /// 10000 to 19999.
     pub number: FieldNo,

@@ -1,7 +1,7 @@
 use crate::moment::Moment;
 
 /// From a moment on, local time is that many minutes ahead of UTC.
-#[derive(Debug, Drop)]
+#[derive(Drop)]
 pub struct Offset {
     pub from: Moment,
     /// -840 to 840.

@@ -4,7 +4,7 @@ use crate::sequence::Sequence;
 use crate::text::Text;
 
 /// A group of users.
-#[derive(Debug, Drop)]
+#[derive(Drop)]
 pub struct Group {
     pub name: Text,
     /// In the setup's order of users, each once.
@@ -12,7 +12,7 @@ pub struct Group {
 }
 
 /// A project, and the groups that have each permission in it.
-#[derive(Debug, Drop)]
+#[derive(Drop)]
 pub struct Project {
     pub key: Text,
     pub lead: UserNo,
@@ -24,7 +24,7 @@ pub struct Project {
 }
 
 /// A way from some statuses to one.
-#[derive(Debug, Drop)]
+#[derive(Drop)]
 pub struct Transition {
     pub name: Text,
     pub from: Sequence<ChoiceNo>,

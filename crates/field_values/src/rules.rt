@@ -3,7 +3,7 @@ use crate::sequence::Sequence;
 use crate::value::Value;
 
 /// What a user may do: the first five in a project, the last two in the whole tracker.
-#[derive(Clone, Copy, Debug, PartialEq, Eq)]
+#[derive(Clone, Copy, PartialEq, Eq)]
 pub enum Permission {
     Browse,
     Create,
@@ -15,7 +15,7 @@ pub enum Permission {
 }
 
 /// What a condition asks of the caller.
-#[derive(Clone, Copy, Debug, PartialEq, Eq)]
+#[derive(Clone, Copy, PartialEq, Eq)]
 pub enum CallerTest {
     /// The caller is the issue's assignee.
     IsAssignee,
@@ -28,13 +28,13 @@ pub enum CallerTest {
 }
 
 /// A condition of a transition, which holds where one of its tests does. There is at least one.
-#[derive(Debug, Drop)]
+#[derive(Drop)]
 pub struct Condition {
     pub any_of: Sequence<CallerTest>,
 }
 
 /// What a validator of a transition asks of the issue after the inputs.
-#[derive(Clone, Copy, Debug, PartialEq, Eq)]
+#[derive(Clone, Copy, PartialEq, Eq)]
 pub enum Validator {
     /// The field isn't empty.
     Required(FieldNo),
@@ -47,7 +47,7 @@ pub enum Validator {
 }
 
 /// What a transition does after its status is set.
-#[derive(Debug, Drop)]
+#[derive(Drop)]
 pub enum PostFunction {
     /// The field gets the value.
     Set(FieldNo, Value),

@@ -2,7 +2,7 @@ use crate::text::Text;
 use crate::words::Category;
 
 /// A status that an issue may have.
-#[derive(Debug, Drop)]
+#[derive(Drop)]
 pub struct Status {
     pub name: Text,
     pub category: Category,

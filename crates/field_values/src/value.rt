@@ -8,7 +8,7 @@ use crate::text::Text;
 use std::alloc::Global;
 
 /// What a field of an issue holds.
-#[derive(Debug, Drop)]
+#[derive(Drop)]
 pub enum Value {
     Empty,
     Text(Text),

@@ -3,7 +3,7 @@ ghost use Rattle.std.specs.Prelude.{◌≡◌, ◌≤◌};
 ghost use Rattle.field_values.specs.Words.{day_number, weekday_of, category_of, kind_of};
 
 /// A day of the week.
-#[derive(Clone, Copy, Debug, PartialEq, Eq)]
+#[derive(Clone, Copy, PartialEq, Eq)]
 pub enum Weekday {
     Monday,
     Tuesday,
@@ -34,7 +34,7 @@ impl Weekday {
 }
 
 /// What a status says of how far an issue is.
-#[derive(Clone, Copy, Debug, PartialEq, Eq)]
+#[derive(Clone, Copy, PartialEq, Eq)]
 pub enum Category {
     ToDo,
     InProgress,
@@ -42,7 +42,7 @@ pub enum Category {
 }
 
 /// What a field of the setup's own holds.
-#[derive(Clone, Copy, Debug, PartialEq, Eq)]
+#[derive(Clone, Copy, PartialEq, Eq)]
 pub enum FieldKind {
     Text,
     Number,

@@ -7,7 +7,7 @@ use setup_drafts::draft::lists::Lists;
 use std::alloc::Global;
 
 /// The setup's lists of names.
-#[derive(Debug, Drop)]
+#[derive(Drop)]
 pub(crate) struct IndexedLists {
     pub(crate) users: IndexedNames,
     pub(crate) types: IndexedNames,

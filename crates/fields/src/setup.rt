@@ -29,7 +29,7 @@ use std::str;
 
 /// Who and what the tracker knows, and who may do what: one field for each key of the text that was read. Lists and
 /// tables stand in the text's order.
-#[derive(Debug, Drop)]
+#[derive(Drop)]
 pub struct Setup {
     /// The text that was read.
     pub text: Text,

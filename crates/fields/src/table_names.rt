@@ -13,7 +13,7 @@ use setup_reading::tied::TiedTables;
 use std::alloc::Global;
 
 /// The names of what the tables hold, in the tables' order, and the options of each field.
-#[derive(Debug, Drop)]
+#[derive(Drop)]
 pub(crate) struct TableNames {
     pub(crate) statuses: IndexedNames,
     pub(crate) groups: IndexedNames,

@@ -6,7 +6,7 @@ use field_values::{FilterNo, IssueNo, Moment};
 
 /// The moment at which a filter's verdict on an issue ends. Ends are in order by moment, and those of one moment by filter and
 /// then by issue.
-#[derive(Clone, Copy, Debug, PartialEq, Eq, PartialOrd, Ord)]
+#[derive(Clone, Copy, PartialEq, Eq, PartialOrd, Ord)]
 pub struct Due {
     pub end: Moment,
     pub filter: FilterNo,

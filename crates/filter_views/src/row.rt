@@ -11,7 +11,7 @@ use std::marker::Model;
 pub(crate) const NO_PLACE: usize = usize::MAX;
 
 /// A filter's row: by the issue's number, whether the filter holds of it, and the place of the cell's end in the heap.
-#[derive(Debug, Drop)]
+#[derive(Drop)]
 pub struct Row {
     filter: FilterNo,
     truths: Vec<bool>,

@@ -5,7 +5,7 @@ use std::process::Abort;
 use std::test::Fail;
 
 /// A cell of the plain table.
-#[derive(Clone, Copy, Debug, PartialEq, Eq)]
+#[derive(Clone, Copy, PartialEq, Eq)]
 struct Plain {
     filter: FilterNo,
     issue: IssueNo,
@@ -35,7 +35,7 @@ impl Plain {
 }
 
 /// The definition as a program: a list of cells, which is searched from its front.
-#[derive(Debug, Drop)]
+#[derive(Drop)]
 struct Table {
     filters: Vec<FilterNo>,
     issues: u32,
@@ -125,7 +125,7 @@ impl Table {
 }
 
 /// Numbers from a fixed seed.
-#[derive(Debug, Drop)]
+#[derive(Drop)]
 struct Numbers {
     seed: u32,
 }

@@ -17,7 +17,7 @@ use std::marker::Model;
 ///
 /// Contracts see it as a cell for each filter and issue, with the number of issues, and beside it for how many filters and issues
 /// there is room.
-#[derive(Debug, Drop)]
+#[derive(Drop)]
 pub struct FilterViews {
     // The filters' rows, by number.
     rows: Vec<Row>,

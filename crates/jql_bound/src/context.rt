@@ -6,7 +6,7 @@ use field_values::{Sequence, UserNo};
 use relative_dates::Calendar;
 
 /// How far a sprint has come.
-#[derive(Clone, Copy, Debug, PartialEq, Eq)]
+#[derive(Clone, Copy, PartialEq, Eq)]
 pub enum Phase {
     Future,
     Active,
@@ -14,7 +14,7 @@ pub enum Phase {
 }
 
 /// What decides beside an issue and the moment: the sprints, the groups and the calendar.
-#[derive(Debug, Drop)]
+#[derive(Drop)]
 pub struct Context {
     /// The phase of each sprint, by number from 1.
     pub sprints: Vec<Phase>,

@@ -3,7 +3,7 @@ use crate::operand::Operand;
 use field_values::{FieldNo, Sequence, Text};
 
 /// What of an issue is compared.
-#[derive(Clone, Copy, Debug, PartialEq, Eq)]
+#[derive(Clone, Copy, PartialEq, Eq)]
 pub enum Subject {
     /// The value that the field holds.
     Field(FieldNo),
@@ -18,7 +18,7 @@ pub enum Subject {
 }
 
 /// How the field stands to an operand.
-#[derive(Clone, Copy, Debug, PartialEq, Eq)]
+#[derive(Clone, Copy, PartialEq, Eq)]
 pub enum Inequality {
     Less,
     LessOrEqual,
@@ -27,7 +27,7 @@ pub enum Inequality {
 }
 
 /// A word that is looked for in a text.
-#[derive(Debug, Drop)]
+#[derive(Drop)]
 pub struct Word {
     pub text: Text,
     /// Whether it may be the beginning of a word.
@@ -35,7 +35,7 @@ pub struct Word {
 }
 
 /// What is asked of the field.
-#[derive(Debug, Drop)]
+#[derive(Drop)]
 pub enum Operator {
     /// One of the operands is the field's value, or one of its values. `=` has one operand.
     In(Sequence<Operand>),
@@ -52,7 +52,7 @@ pub enum Operator {
 
 /// A present comparison: of what, and what is asked of it. The category of a status is asked of the field status, by the
 /// statuses of the category.
-#[derive(Debug, Drop)]
+#[derive(Drop)]
 pub struct Leaf {
     pub subject: Subject,
     pub operator: Operator,

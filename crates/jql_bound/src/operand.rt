@@ -3,7 +3,7 @@ use field_values::{ChoiceNo, GroupNo, Sequence, SprintNo, Text, UserNo};
 use relative_dates::Term;
 
 /// What a field is compared with. It stands for one value, or for several that it names together.
-#[derive(Debug, Drop)]
+#[derive(Drop)]
 pub enum Operand {
     /// That there is no value.
     Empty,

@@ -4,7 +4,7 @@ use field_values::{FieldNo, Sequence};
 use relative_dates::Term;
 
 /// A window of moments, or the authors of what is looked for.
-#[derive(Debug, Drop)]
+#[derive(Drop)]
 pub enum PastPredicate {
     /// Later than the date's second.
     After(Term),
@@ -19,7 +19,7 @@ pub enum PastPredicate {
 }
 
 /// A side of a change.
-#[derive(Debug, Drop)]
+#[derive(Drop)]
 pub enum Endpoint {
     /// Away from one of these.
     From(Sequence<Operand>),
@@ -28,7 +28,7 @@ pub enum Endpoint {
 }
 
 /// What is looked for in the field's history.
-#[derive(Debug, Drop)]
+#[derive(Drop)]
 pub enum PastTest {
     /// A span of one of the operands.
     Was(Sequence<Operand>),
@@ -41,7 +41,7 @@ pub enum PastTest {
 }
 
 /// A comparison with the past: the one span or change that is looked for, or looked for in vain, meets all predicates.
-#[derive(Debug, Drop)]
+#[derive(Drop)]
 pub struct PastLeaf {
     pub field: FieldNo,
     pub test: PastTest,

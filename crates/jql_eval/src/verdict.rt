@@ -4,7 +4,7 @@ use field_values::Moment;
 use std::marker::Model;
 
 /// Whether a query holds of an issue, and until when that stays. It is made by [`evaluate`](crate::evaluate) alone.
-#[derive(Clone, Copy, Debug)]
+#[derive(Clone, Copy)]
 pub struct Verdict {
     holds: bool,
     until: Option<Moment>,

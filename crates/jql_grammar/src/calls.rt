@@ -15,7 +15,7 @@ use jql_syntax::Call;
 use relative_dates::{Term, TermCall};
 
 /// A function that stands for a list.
-#[derive(Clone, Copy, Debug, PartialEq, Eq)]
+#[derive(Clone, Copy, PartialEq, Eq)]
 pub(crate) enum ListFunction {
     /// The members of a group.
     Members,

@@ -10,7 +10,7 @@ use jql_bound::{SortField, Subject};
 use jql_syntax::Field;
 
 /// What a field is compared with. Choices and numbers go by the field's number.
-#[derive(Clone, Copy, Debug, PartialEq, Eq)]
+#[derive(Clone, Copy, PartialEq, Eq)]
 pub(crate) enum ValueKind {
     Text,
     Choice(FieldNo),
@@ -28,7 +28,7 @@ pub(crate) enum ValueKind {
 }
 
 /// What a comparison looks at.
-#[derive(Clone, Copy, Debug, PartialEq, Eq)]
+#[derive(Clone, Copy, PartialEq, Eq)]
 pub(crate) struct Column {
     pub(crate) subject: Subject,
     pub(crate) kind: ValueKind,

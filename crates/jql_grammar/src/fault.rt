@@ -8,7 +8,7 @@ use fields::Memory;
 use std::alloc::{AllocError, AllocFailed};
 
 /// What is wrong with a test or a sort key.
-#[derive(Clone, Copy, Debug, PartialEq, Eq)]
+#[derive(Clone, Copy, PartialEq, Eq)]
 pub(crate) enum Kind {
     UnknownField,
     UnknownValue,
@@ -33,7 +33,7 @@ impl Kind {
 }
 
 /// Why a test or a sort key wasn't tied.
-#[derive(Clone, Copy, Debug, PartialEq, Eq)]
+#[derive(Clone, Copy, PartialEq, Eq)]
 pub(crate) enum Stop {
     Memory,
     At(Kind),
@@ -64,7 +64,7 @@ impl<T: Drop> From<AllocFailed<T>> for Stop {
 }
 
 /// Why a query can't be tied to a setup.
-#[derive(Clone, Copy, Debug, PartialEq, Eq)]
+#[derive(Clone, Copy, PartialEq, Eq)]
 pub enum BindFault {
     /// The first test at fault, counted from 0 and from the left, or the first sort key at fault, counted on after all tests; and what is
     /// wrong: 11 no such field, 12 no such value in the field, 13 an operator or an order that the field hasn't, 14 no such function, or one that

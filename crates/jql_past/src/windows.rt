@@ -12,7 +12,7 @@ use jql_bound::{Context, PastPredicate};
 use relative_dates::Term;
 
 /// The seconds from `first` on before `end`; there are none where `end` isn't later.
-#[derive(Clone, Copy, Debug)]
+#[derive(Clone, Copy)]
 pub struct Interval {
     pub first: i64,
     pub end: i64,

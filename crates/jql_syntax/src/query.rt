@@ -7,7 +7,7 @@ use field_values::{Sequence, Text};
 use std::marker::Model;
 
 /// A field, as a query names it.
-#[derive(Debug, Drop)]
+#[derive(Drop)]
 pub enum Field {
     Named(Text),
     /// The number of an own field, in a query from 10000 to 19999.
@@ -15,42 +15,42 @@ pub enum Field {
 }
 
 /// A function's name, and its argument.
-#[derive(Debug, Drop)]
+#[derive(Drop)]
 pub struct Call {
     pub name: Text,
     pub argument: Option<Text>,
 }
 
 /// A text or a call. A date is one too, and in a query its text is a date literal or a period.
-#[derive(Debug, Drop)]
+#[derive(Drop)]
 pub enum Value {
     Text(Text),
     Call(Call),
 }
 
 /// What a field is compared with.
-#[derive(Debug, Drop)]
+#[derive(Drop)]
 pub enum Item {
     Value(Value),
     Empty,
 }
 
 /// What stands behind IN: a list of items, in a query at least one, or a call.
-#[derive(Debug, Drop)]
+#[derive(Drop)]
 pub enum Members {
     Items(Sequence<Item>),
     Call(Call),
 }
 
 /// What stands behind BY, FROM and TO: one item, or a list in parentheses, in a query of at least one. In a query BY has no `Empty`.
-#[derive(Debug, Drop)]
+#[derive(Drop)]
 pub enum Choice {
     One(Item),
     Several(Sequence<Item>),
 }
 
 /// What is asked of a change's moment or its author.
-#[derive(Debug, Drop)]
+#[derive(Drop)]
 pub enum Predicate {
     After(Value),
     Before(Value),
@@ -60,7 +60,7 @@ pub enum Predicate {
 }
 
 /// What is asked of a change.
-#[derive(Debug, Drop)]
+#[derive(Drop)]
 pub enum Aspect {
     Predicate(Predicate),
     From(Choice),
@@ -68,7 +68,7 @@ pub enum Aspect {
 }
 
 /// The signs of comparisons that EMPTY has no place in.
-#[derive(Clone, Copy, Debug, PartialEq, Eq)]
+#[derive(Clone, Copy, PartialEq, Eq)]
 pub enum Comparison {
     Greater,
     GreaterOrEqual,
@@ -79,7 +79,7 @@ pub enum Comparison {
 }
 
 /// What is asked of a field.
-#[derive(Debug, Drop)]
+#[derive(Drop)]
 pub enum Test {
     Equals(Item),
     NotEquals(Item),
@@ -96,7 +96,7 @@ pub enum Test {
 }
 
 /// A test of one field.
-#[derive(Debug, Drop)]
+#[derive(Drop)]
 pub struct Leaf {
     pub field: Field,
     pub test: Test,
@@ -112,14 +112,14 @@ pub enum Expr {
 }
 
 /// The way of a sort key; `Ascending` where the text names none.
-#[derive(Clone, Copy, Debug, PartialEq, Eq)]
+#[derive(Clone, Copy, PartialEq, Eq)]
 pub enum Direction {
     Ascending,
     Descending,
 }
 
 /// A field that issues are sorted by.
-#[derive(Debug, Drop)]
+#[derive(Drop)]
 pub struct SortKey {
     pub field: Field,
     pub direction: Direction,

@@ -1,7 +1,7 @@
 use field_values::Text;
 
 /// A sign or a keyword of a query's text.
-#[derive(Clone, Copy, Debug, PartialEq, Eq)]
+#[derive(Clone, Copy, PartialEq, Eq)]
 pub enum Mark {
     Equals,
     NotEquals,
@@ -35,7 +35,7 @@ pub enum Mark {
 }
 
 /// What is wrong at a place in a text.
-#[derive(Clone, Copy, Debug, PartialEq, Eq)]
+#[derive(Clone, Copy, PartialEq, Eq)]
 pub enum Kind {
     /// No token begins with this character, or no escape is spelled so.
     Character,
@@ -54,7 +54,7 @@ pub enum Kind {
 }
 
 /// A token of a query's text.
-#[derive(Debug, Drop)]
+#[derive(Drop)]
 pub enum Token {
     Marked(Mark),
     /// A word that no parenthesis follows.
@@ -70,7 +70,7 @@ pub enum Token {
 }
 
 /// A token, and the byte of the text at which it begins.
-#[derive(Debug, Drop)]
+#[derive(Drop)]
 pub struct Placed {
     pub place: usize,
     pub token: Token,

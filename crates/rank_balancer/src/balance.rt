@@ -3,7 +3,7 @@ ghost use Rattle.std.specs.Prelude.{◌≡◌, ◌<◌, MatchResult};
 ghost use Rattle.rank_balancer.specs.Balance.{next_bucket, after_start, IsInCircle};
 
 /// The balance of an order. Buckets are 0, 1 and 2.
-#[derive(Clone, Copy, Debug, PartialEq, Eq)]
+#[derive(Clone, Copy, PartialEq, Eq)]
 pub enum Balance {
     /// All ranks are in this bucket.
     Idle(u8),
@@ -12,7 +12,7 @@ pub enum Balance {
 }
 
 /// The balance is moving already.
-#[derive(Clone, Copy, Debug, PartialEq, Eq)]
+#[derive(Clone, Copy, PartialEq, Eq)]
 pub struct BalanceIs(pub Balance);
 
 /// The next bucket in the circle 0, 1, 2, 0.

@@ -14,7 +14,7 @@ use std::alloc::Global;
 use std::marker::Model;
 
 /// The moves of a step, in their order. Contracts see the list of issues and their new ranks.
-#[derive(Debug, Drop)]
+#[derive(Drop)]
 pub struct StepPlan {
     moves: Vec<(IssueNo, Rank)>,
 }

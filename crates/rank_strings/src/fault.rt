@@ -6,7 +6,7 @@ use crate::rank::Rank;
 use std::alloc::AllocError;
 
 /// Why there is no rank between two neighbours.
-#[derive(Debug, Drop)]
+#[derive(Drop)]
 pub enum RankFault {
     /// No rank of the bucket lies strictly between these two.
     Exhausted {

@@ -14,7 +14,7 @@ pub(crate) const MAX_FURTHER: usize = 245;
 /// A rank: a bucket, six digits in front and up to 245 further digits.
 ///
 /// Most ranks have no further digits; those take no memory beside the value itself, which has 32 bytes.
-#[derive(Debug, Drop)]
+#[derive(Drop)]
 pub struct Rank {
     bucket: u8,
     front: [u8; 6],

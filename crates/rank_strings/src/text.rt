@@ -7,7 +7,7 @@ use std::marker::Model;
 pub type Memory = AllocError;
 
 /// The text of a rank, seen as its bytes.
-#[derive(Debug, Drop)]
+#[derive(Drop)]
 pub struct Text {
     text: String,
 }

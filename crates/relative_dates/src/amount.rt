@@ -4,7 +4,7 @@ ghost use Rattle.std.specs.Prelude.{◌≡◌, ◌+◌, ◌*◌, ◌<◌, ◌≤
 ghost use Rattle.relative_dates.specs.Reading.{number_up_to, months_of, amount_of, term_of, terms_of, plus, first_space, is_negative, after_sign, IsUpTo};
 
 /// The units of an amount.
-#[derive(Clone, Copy, Debug, PartialEq, Eq)]
+#[derive(Clone, Copy, PartialEq, Eq)]
 pub(crate) enum Units {
     /// Weeks, days, hours and minutes.
     Clock,
@@ -13,7 +13,7 @@ pub(crate) enum Units {
 }
 
 /// Months, days and minutes, each counted on its own.
-#[derive(Clone, Copy, Debug, PartialEq, Eq)]
+#[derive(Clone, Copy, PartialEq, Eq)]
 pub(crate) struct Amount {
     pub months: u32,
     pub days: u32,

@@ -18,14 +18,14 @@ const MOST_MINUTES: i64 = 840;
 
 /// A step of the local clock: from the moment `from` on, in seconds since 1970-01-01 00:00:00 UTC,
 /// it is `minutes` ahead of UTC, or behind it where they are negative.
-#[derive(Clone, Copy, Debug, PartialEq, Eq)]
+#[derive(Clone, Copy, PartialEq, Eq)]
 pub struct OffsetStep {
     pub from: i64,
     pub minutes: i32,
 }
 
 /// Why a calendar takes no further step.
-#[derive(Clone, Copy, Debug, PartialEq, Eq)]
+#[derive(Clone, Copy, PartialEq, Eq)]
 pub enum StepFault {
     /// It doesn't come after the last one.
     NotLater,
@@ -37,7 +37,7 @@ pub enum StepFault {
 }
 
 /// The local clock of one place, and the day on which its weeks begin.
-#[derive(Debug, Drop)]
+#[derive(Drop)]
 pub struct Calendar {
     first_offset: i32,
     first_day: u8,

@@ -10,7 +10,7 @@ use crate::reading::signed;
 use crate::term::{Boundary, Edge, Months, Period, Shift, Term};
 
 /// What a call in a query stands for.
-#[derive(Clone, Copy, Debug, PartialEq, Eq)]
+#[derive(Clone, Copy, PartialEq, Eq)]
 pub enum TermCall {
     Is(Term),
     /// No function of dates has the name.
@@ -20,7 +20,7 @@ pub enum TermCall {
 }
 
 /// A function that stands for a date.
-#[derive(Clone, Copy, Debug, PartialEq, Eq)]
+#[derive(Clone, Copy, PartialEq, Eq)]
 pub(crate) enum Function {
     Moment,
     EdgeOf(Edge, Period),

@@ -6,7 +6,7 @@ ghost use Rattle.jiff_core.specs.Calendar.{IsWithin};
 use std::marker::Model;
 
 /// A period of the local calendar.
-#[derive(Clone, Copy, Debug, PartialEq, Eq)]
+#[derive(Clone, Copy, PartialEq, Eq)]
 pub enum Period {
     Day,
     Week,
@@ -15,14 +15,14 @@ pub enum Period {
 }
 
 /// Which end of a period.
-#[derive(Clone, Copy, Debug, PartialEq, Eq)]
+#[derive(Clone, Copy, PartialEq, Eq)]
 pub enum Edge {
     Start,
     End,
 }
 
 /// Months that a date is moved by: at most 48,000, forward or back.
-#[derive(Clone, Copy, Debug, PartialEq, Eq)]
+#[derive(Clone, Copy, PartialEq, Eq)]
 pub struct Months {
     count: i32,
 }
@@ -58,7 +58,7 @@ impl Months {
 }
 
 /// How far a date is moved: by months with the day cut to the month's length, then by days, then by minutes.
-#[derive(Clone, Copy, Debug, PartialEq, Eq)]
+#[derive(Clone, Copy, PartialEq, Eq)]
 pub struct Shift {
     pub months: Months,
     pub days: i32,
@@ -66,7 +66,7 @@ pub struct Shift {
 }
 
 /// The start or the end of the present period, moved.
-#[derive(Clone, Copy, Debug, PartialEq, Eq)]
+#[derive(Clone, Copy, PartialEq, Eq)]
 pub struct Boundary {
     pub edge: Edge,
     pub period: Period,
@@ -74,14 +74,14 @@ pub struct Boundary {
 }
 
 /// A second of the local calendar: a day, in days since 1970-01-01, and a second of it.
-#[derive(Clone, Copy, Debug, PartialEq, Eq)]
+#[derive(Clone, Copy, PartialEq, Eq)]
 pub struct LocalSecond {
     pub day: i32,
     pub second: u32,
 }
 
 /// A date in a query.
-#[derive(Clone, Copy, Debug, PartialEq, Eq)]
+#[derive(Clone, Copy, PartialEq, Eq)]
 pub enum Term {
     /// The present moment.
     Now,

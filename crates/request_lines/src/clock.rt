@@ -14,7 +14,7 @@ pub trait Clock {
 }
 
 /// A clock in memory.
-#[derive(Debug, Drop)]
+#[derive(Drop)]
 pub struct ListClock {
     readings: Vec<u64>,
     at: usize,

@@ -8,7 +8,7 @@ use crate::outside::{Failed, Sink};
 use std::alloc::{AllocError, Global};
 
 /// A room of bytes that is taken when the sink is made.
-#[derive(Debug, Drop)]
+#[derive(Drop)]
 pub struct MemorySink {
     taken: Vec<u8>,
     room: usize,

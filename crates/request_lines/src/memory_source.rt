@@ -7,7 +7,7 @@ ghost use Rattle.request_lines.specs.Causes.{HasCause, FailsAt, is_listed, next_
 use crate::outside::{Failed, Source};
 
 /// Bytes that come in pieces of these lengths, each at least 1, and after the last piece as many as there is room for.
-#[derive(Debug, Drop)]
+#[derive(Drop)]
 pub struct MemorySource {
     bytes: Vec<u8>,
     at: usize,

@@ -15,7 +15,7 @@ use std::marker::Model;
 const ROOM: usize = 16_384;
 
 /// What stood next in the input.
-#[derive(Clone, Copy, Debug, PartialEq, Eq)]
+#[derive(Clone, Copy, PartialEq, Eq)]
 pub enum Next {
     /// A line with its line feed.
     Line,
@@ -37,7 +37,7 @@ pub enum Next {
 }
 
 /// What the bytes at hand gave for a line.
-#[derive(Clone, Copy, Debug, PartialEq, Eq)]
+#[derive(Clone, Copy, PartialEq, Eq)]
 pub enum Piece {
     /// The rest of the line, and its line feed.
     Ended,

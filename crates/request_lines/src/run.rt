@@ -25,7 +25,7 @@ pub trait Responder {
 }
 
 /// How a run over lines ends.
-#[derive(Clone, Copy, Debug, PartialEq, Eq)]
+#[derive(Clone, Copy, PartialEq, Eq)]
 pub enum End {
     /// The input was read to its end.
     Done,
@@ -47,7 +47,7 @@ pub enum End {
 }
 
 /// Why a line has no whole answer.
-#[derive(Clone, Copy, Debug, PartialEq, Eq)]
+#[derive(Clone, Copy, PartialEq, Eq)]
 pub enum Halt {
     /// The sink failed.
     Write,

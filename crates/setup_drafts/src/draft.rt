@@ -26,7 +26,7 @@ use std::alloc::Global;
 use toml::Table;
 
 /// The setup as its text writes it.
-#[derive(Debug, Drop)]
+#[derive(Drop)]
 pub struct Draft {
     pub head: Head,
     pub lists: Lists,

@@ -7,7 +7,7 @@ use field_values::text::Text;
 use std::alloc::Global;
 
 /// Why a text is no setup: the first fault, where the checks are made in the order of the setup's keys.
-#[derive(Debug, Drop)]
+#[derive(Drop)]
 pub enum SetupFault {
     /// The text isn't TOML.
     BadToml,

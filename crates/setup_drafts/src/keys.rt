@@ -16,7 +16,7 @@ use std::alloc::Global;
 use toml::Table;
 
 /// A kind of table, by its keys.
-#[derive(Clone, Copy, Debug)]
+#[derive(Clone, Copy)]
 pub enum KeySet {
     Top,
     Group,

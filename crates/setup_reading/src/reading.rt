@@ -17,7 +17,7 @@ use std::alloc::Global;
 use toml::Table;
 
 /// What is written in a setup's table, and the numbers of what it names.
-#[derive(Debug, Drop)]
+#[derive(Drop)]
 pub struct Reading {
     pub draft: Draft,
     pub numbers: Tied,

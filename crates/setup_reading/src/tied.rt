@@ -21,7 +21,7 @@ use setup_drafts::fault::SetupFault;
 use std::alloc::Global;
 
 /// What names outside tables name.
-#[derive(Debug, Drop)]
+#[derive(Drop)]
 pub struct TiedRights {
     pub rebalancer: UserNo,
     pub first_status: ChoiceNo,
@@ -30,7 +30,7 @@ pub struct TiedRights {
 }
 
 /// Tables with numbers in place of names.
-#[derive(Debug, Drop)]
+#[derive(Drop)]
 pub struct TiedTables {
     pub groups: Sequence<Group>,
     pub projects: Sequence<Project>,
@@ -38,7 +38,7 @@ pub struct TiedTables {
 }
 
 /// What names of the setup name.
-#[derive(Debug, Drop)]
+#[derive(Drop)]
 pub struct Tied {
     pub rights: TiedRights,
     pub tables: TiedTables,

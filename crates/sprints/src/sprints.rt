@@ -14,7 +14,7 @@ use std::marker::Model;
 const MOST: usize = 1000;
 
 /// The sprints, numbered from 1 in order of creation. Contracts see them as a list of name and state.
-#[derive(Debug, Drop)]
+#[derive(Drop)]
 pub struct Sprints {
     list: Vec<Sprint>,
 }

@@ -2,7 +2,7 @@ use crate::given::GivenFields;
 use field_values::{Moment, Text};
 
 /// What a line asks for.
-#[derive(Debug, Drop)]
+#[derive(Drop)]
 pub enum Call {
     /// A new issue of the project.
     Create {
@@ -49,7 +49,7 @@ pub enum Call {
 }
 
 /// The part of a list that a call asks for: at most `count` of it, behind its first `from`.
-#[derive(Clone, Copy, Debug, PartialEq, Eq)]
+#[derive(Clone, Copy, PartialEq, Eq)]
 pub struct Part {
     /// 0 to [`MOST_FROM`].
     pub from: u32,
@@ -67,7 +67,7 @@ pub const MOST_ENTRIES: u32 = 50;
 pub const MOST_LISTED: u32 = 1_000;
 
 /// A call by its name.
-#[derive(Clone, Copy, Debug, PartialEq, Eq)]
+#[derive(Clone, Copy, PartialEq, Eq)]
 pub enum CallKind {
     Create,
     Edit,

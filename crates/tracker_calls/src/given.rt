@@ -10,7 +10,7 @@ use std::alloc::Global;
 use std::marker::Model;
 
 /// A value as JSON gives it.
-#[derive(Debug, Drop)]
+#[derive(Drop)]
 pub enum Given {
     Null,
     Text(Text),
@@ -23,14 +23,14 @@ pub enum Given {
 }
 
 /// A field by its name, and what is given for it.
-#[derive(Debug, Drop)]
+#[derive(Drop)]
 pub struct GivenField {
     pub name: Text,
     pub given: Given,
 }
 
 /// What a call gives for fields, in byte order of the names where a line gives it. Contracts see it as a list.
-#[derive(Debug, Drop)]
+#[derive(Drop)]
 pub struct GivenFields {
     list: Vec<GivenField>,
 }

@@ -5,14 +5,14 @@ use std::alloc::Global;
 use std::marker::Model;
 
 /// What a line is answered.
-#[derive(Debug, Drop)]
+#[derive(Drop)]
 pub enum Reply {
     Ok(Answer),
     Refused(Refusal),
 }
 
 /// What a call that was made tells.
-#[derive(Debug, Drop)]
+#[derive(Drop)]
 pub enum Answer {
     /// The new issue's key and its change number. `already` where an issue of the same external id was there before.
     Create {
@@ -60,7 +60,7 @@ pub enum Answer {
 }
 
 /// An entry of a history; `None` for a value that is empty.
-#[derive(Debug, Drop)]
+#[derive(Drop)]
 pub struct ToldEntry {
     pub at: Moment,
     pub by: Text,
@@ -74,14 +74,14 @@ pub struct ToldEntry {
 pub type ToldEntries = Sequence<ToldEntry>;
 
 /// A field that isn't empty, by its name.
-#[derive(Debug, Drop)]
+#[derive(Drop)]
 pub struct ShownField {
     pub name: Text,
     pub value: Shown,
 }
 
 /// A field's value as an answer tells it.
-#[derive(Debug, Drop)]
+#[derive(Drop)]
 pub enum Shown {
     Text(Text),
     /// The names of a set, or labels.
@@ -91,7 +91,7 @@ pub enum Shown {
 }
 
 /// The fields that an answer tells, which contracts see as a list.
-#[derive(Debug, Drop)]
+#[derive(Drop)]
 pub struct ShownFields {
     list: Vec<ShownField>,
 }
@@ -133,7 +133,7 @@ impl ShownFields {
 }
 
 /// Why a call changed nothing.
-#[derive(Debug, Drop)]
+#[derive(Drop)]
 pub enum Refusal {
     /// Number 1: this member is the first that is absent or not of its form.
     Form {
@@ -190,7 +190,7 @@ pub enum Refusal {
 }
 
 /// A kind of thing that a call names.
-#[derive(Clone, Copy, Debug, PartialEq, Eq)]
+#[derive(Clone, Copy, PartialEq, Eq)]
 pub enum Thing {
     User,
     Project,
@@ -201,7 +201,7 @@ pub enum Thing {
 }
 
 /// What the tracker keeps no more of than a number.
-#[derive(Clone, Copy, Debug, PartialEq, Eq)]
+#[derive(Clone, Copy, PartialEq, Eq)]
 pub enum Limit {
     Issues,
     Entries,

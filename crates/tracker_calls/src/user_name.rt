@@ -5,7 +5,7 @@ use std::alloc::Global;
 use std::marker::Model;
 
 /// The name of who makes a call, as the line gives it. Contracts see it as its bytes.
-#[derive(Debug, Drop)]
+#[derive(Drop)]
 pub struct UserName {
     name: Text,
 }

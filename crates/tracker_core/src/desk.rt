@@ -25,7 +25,7 @@ use tracker_calls::{
 };
 
 /// What makes the calls, one at a time. Contracts see it as the abstract tracker's state.
-#[derive(Debug, Drop)]
+#[derive(Drop)]
 pub struct Desk {
     alloc: Global,
     state: State,

@@ -14,7 +14,7 @@ use std::collections::HashMap;
 use std::marker::Model;
 
 /// The issues by place from 0. Contracts see them as a list, and beside it how many more there is room for.
-#[derive(Debug, Drop)]
+#[derive(Drop)]
 pub struct Issues {
     list: Vec<Issue>,
     by_key: HashMap<String, usize>,

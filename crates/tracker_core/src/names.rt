@@ -13,7 +13,7 @@ use tracker_calls::{Given, GivenField};
 const SPRINT: FieldNo = FieldNo(13);
 
 /// A name in `set` that stands for nothing.
-#[derive(Clone, Copy, Debug)]
+#[derive(Clone, Copy)]
 pub enum Strange<'s> {
     /// It is no field's.
     Field(&'s str),

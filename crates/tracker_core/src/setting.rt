@@ -8,7 +8,7 @@ use jql_bound::Context;
 use std::alloc::Global;
 
 /// The setup, and what queries ask of it.
-#[derive(Debug, Drop)]
+#[derive(Drop)]
 pub struct Setting {
     pub setup: Setup,
     pub context: Context,

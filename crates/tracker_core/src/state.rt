@@ -22,7 +22,7 @@ use std::alloc::Global;
 use std::marker::Model;
 
 /// The tracker's state. Contracts see it as the abstract tracker's, and beside it what there is room for.
-#[derive(Debug, Drop)]
+#[derive(Drop)]
 pub struct State {
     setting: Setting,
     moment: Moment,
@@ -45,7 +45,7 @@ impl Model for State {
 }
 
 /// A new issue with all that is kept of it.
-#[derive(Debug, Drop)]
+#[derive(Drop)]
 pub struct NewIssue {
     pub issue: Issue,
     /// The text of its key.

@@ -17,7 +17,7 @@ use tracker_calls::{Given, GivenField};
 use tracker_machine::Wanted;
 
 /// The call, as far as it speaks of fields.
-#[derive(Clone, Copy, Debug)]
+#[derive(Clone, Copy)]
 pub enum Wants<'a> {
     /// A create, which has members of its own for two fields.
     Create {
@@ -33,7 +33,7 @@ pub enum Wants<'a> {
 }
 
 /// What comes of all fields: the changes, and the first field at fault by its number.
-#[derive(Debug, Drop)]
+#[derive(Drop)]
 pub struct Outcome {
     pub changes: Changes,
     pub fault: Option<FieldNo>,

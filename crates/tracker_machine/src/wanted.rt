@@ -1,7 +1,7 @@
 use field_values::Value;
 
 /// What a call wants a field to hold.
-#[derive(Debug, Drop)]
+#[derive(Drop)]
 pub enum Wanted {
     /// Nothing is wanted: the field stays as it is.
     Nothing,

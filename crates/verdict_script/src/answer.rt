@@ -19,7 +19,7 @@ use std::sync::ledger::Ledger;
 const MOST_ENDS: usize = 1_000;
 
 /// The answer to a row.
-#[derive(Clone, Copy, Debug)]
+#[derive(Clone, Copy)]
 pub struct Answer {
     /// Whether the query holds.
     holds: bool,

@@ -6,7 +6,7 @@ use std::alloc::AllocError;
 use std::fmt;
 
 /// Why a line has no answer.
-#[derive(Clone, Copy, Debug)]
+#[derive(Clone, Copy)]
 pub enum Fault {
     /// It is no row.
     NoRow,

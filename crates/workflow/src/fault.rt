@@ -4,7 +4,7 @@ ghost use Rattle.workflow.specs.declared.fault.PlanFault.{PlanFault};
 use fields::{FieldNo, Memory};
 
 /// Why a transition isn't made.
-#[derive(Clone, Copy, Debug, PartialEq, Eq)]
+#[derive(Clone, Copy, PartialEq, Eq)]
 pub enum PlanFault {
     /// This condition fails: 0 is that of the issue's status, and the setup's count from 1.
     Condition(usize),

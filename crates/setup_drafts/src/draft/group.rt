@@ -15,7 +15,7 @@ use std::alloc::Global;
 use toml::Table;
 
 /// A group with the names of its members as they are written.
-#[derive(Debug, Drop)]
+#[derive(Drop)]
 pub struct GroupDraft {
     pub name: Text,
     pub members: Names,

@@ -16,7 +16,7 @@ use std::alloc::Global;
 use toml::Table;
 
 /// The keys that the setup begins with.
-#[derive(Debug, Drop)]
+#[derive(Drop)]
 pub struct Head {
     pub utc_offset_minutes: i32,
     pub week_starts: Weekday,
@@ -24,7 +24,7 @@ pub struct Head {
 }
 
 /// The status of a new issue, and the groups that have the permissions of the whole tracker.
-#[derive(Debug, Drop)]
+#[derive(Drop)]
 pub struct Rights {
     pub first_status: Text,
     pub plan: Names,

@@ -11,7 +11,7 @@ use std::alloc::Global;
 use toml::Table;
 
 /// The lists of names that the setup begins with.
-#[derive(Debug, Drop)]
+#[derive(Drop)]
 pub struct Lists {
     pub users: Names,
     pub types: Names,

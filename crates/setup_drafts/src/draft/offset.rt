@@ -19,7 +19,7 @@ use std::alloc::Global;
 use toml::Table;
 
 /// Steps of the offset, and the calendar that has taken them.
-#[derive(Debug, Drop)]
+#[derive(Drop)]
 pub struct OffsetSteps {
     pub offsets: Sequence<Offset>,
     pub calendar: Calendar,

@@ -14,7 +14,7 @@ use std::alloc::Global;
 use toml::Table;
 
 /// A project with the names of its lead and of the groups of each permission as they are written.
-#[derive(Debug, Drop)]
+#[derive(Drop)]
 pub struct ProjectDraft {
     pub key: Text,
     pub lead: Text,

@@ -19,7 +19,7 @@ use std::alloc::Global;
 use toml::Table;
 
 /// What the lists of tables of the setup say.
-#[derive(Debug, Drop)]
+#[derive(Drop)]
 pub struct Tables {
     pub groups: Sequence<GroupDraft>,
     pub projects: Sequence<ProjectDraft>,

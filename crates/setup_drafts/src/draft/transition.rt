@@ -14,7 +14,7 @@ use std::alloc::Global;
 use toml::Table;
 
 /// A transition with the names of its statuses and the texts of its rules as they are written.
-#[derive(Debug, Drop)]
+#[derive(Drop)]
 pub struct TransitionDraft {
     pub name: Text,
     pub from: Names,
