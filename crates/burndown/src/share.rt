@@ -15,7 +15,7 @@ pub struct Share {
 }
 
 /// A change group that changed a sprint's remaining work.
-#[derive(Clone, Copy, PartialEq, Eq)]
+#[derive(Clone, Copy, Debug, PartialEq, Eq)]
 pub struct BurnRow {
     pub at: Moment,
     /// The change group's number.

@@ -85,7 +85,7 @@ fn other_texts_are_no_terms(rt: HostRuntime) {
         "+024-01-01",
     ];
     for text in texts {
-        assert_eq!(rt; Term::read(text), None, "{text}");
+        assert!(rt; Term::read(text).is_none(), "{text}");
     }
 }
 
@@ -104,10 +104,10 @@ fn leap_days_are_dates(rt: HostRuntime) {
 
 #[test]
 fn calls_are_named_whatever_their_case(rt: HostRuntime) {
-    assert_eq!(rt; Term::call("NOW", None), TermCall::Is(Term::Now));
-    assert_eq!(rt; Term::call("now", Some("")), TermCall::BadArgument);
+    assert!(rt; Term::call("NOW", None) == TermCall::Is(Term::Now));
+    assert!(rt; Term::call("now", Some("")) == TermCall::BadArgument);
     for name in ["startOfHour", "startOf", "today", "", "now()"] {
-        assert_eq!(rt; Term::call(name, None), TermCall::NoSuchName, "{name}");
+        assert!(rt; Term::call(name, None) == TermCall::NoSuchName, "{name}");
     }
     for argument in [
         "",
@@ -119,9 +119,8 @@ fn calls_are_named_whatever_their_case(rt: HostRuntime) {
         "1d 2",
         "1y 1y 1y 1y 1y",
     ] {
-        assert_eq!(rt;
-            Term::call("endofWEEK", Some(argument)),
-            TermCall::BadArgument,
+        assert!(rt;
+            Term::call("endofWEEK", Some(argument)) == TermCall::BadArgument,
             "{argument}"
         );
     }

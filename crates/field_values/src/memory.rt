@@ -1,7 +1,7 @@
 use std::alloc::{AllocError, AllocFailed};
 
 /// There was not enough memory. After it, all is as before the call that answered it.
-#[derive(Clone, Copy, PartialEq, Eq)]
+#[derive(Clone, Copy, Debug, PartialEq, Eq)]
 pub struct Memory;
 
 impl From<AllocError> for Memory {

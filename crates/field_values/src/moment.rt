@@ -5,7 +5,7 @@ use std::marker::Model;
 
 /// A whole number of seconds since 1970-01-01 00:00:00 UTC, leap seconds left out, at most
 /// [`Moment::LAST`]. Contracts see it as that number.
-#[derive(Clone, Copy, PartialEq, Eq, PartialOrd, Ord)]
+#[derive(Clone, Copy, Debug, PartialEq, Eq, PartialOrd, Ord)]
 pub struct Moment {
     seconds: u64,
 }

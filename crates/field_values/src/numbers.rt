@@ -21,15 +21,15 @@ pub struct ChoiceNo(pub u16);
 pub struct FieldNo(pub u16);
 
 /// An issue, numbered from 1 over the whole tracker in order of creation.
-#[derive(Clone, Copy, PartialEq, Eq, PartialOrd, Ord)]
+#[derive(Clone, Copy, Debug, PartialEq, Eq, PartialOrd, Ord)]
 pub struct IssueNo(pub u32);
 
 /// A sprint, numbered from 1 in order of creation.
-#[derive(Clone, Copy, PartialEq, Eq, PartialOrd, Ord)]
+#[derive(Clone, Copy, Debug, PartialEq, Eq, PartialOrd, Ord)]
 pub struct SprintNo(pub u32);
 
 /// A saved filter, numbered from 1; a number that is let go is given again.
-#[derive(Clone, Copy, PartialEq, Eq, PartialOrd, Ord)]
+#[derive(Clone, Copy, Debug, PartialEq, Eq, PartialOrd, Ord)]
 pub struct FilterNo(pub u32);
 
 /// A board, numbered from 1; a number that is let go is given again.

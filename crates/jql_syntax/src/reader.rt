@@ -21,7 +21,7 @@ use std::alloc::Global;
 pub const MOST_BYTES: usize = 4096;
 
 /// Why a text is no query.
-#[derive(Clone, Copy, PartialEq, Eq)]
+#[derive(Clone, Copy, Debug, PartialEq, Eq)]
 pub enum JqlFault {
     /// The byte at which the first fault begins, or the text's length, and its kind: 1 a character that stands in no token, or an
     /// escape that is none, 2 a quoted text without its end, 3 something else than what may stand there, 4 the 65th NOT or parenthesis that is

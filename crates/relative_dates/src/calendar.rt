@@ -25,7 +25,7 @@ pub struct OffsetStep {
 }
 
 /// Why a calendar takes no further step.
-#[derive(Clone, Copy, PartialEq, Eq)]
+#[derive(Clone, Copy, Debug, PartialEq, Eq)]
 pub enum StepFault {
     /// It doesn't come after the last one.
     NotLater,

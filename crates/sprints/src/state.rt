@@ -5,7 +5,7 @@ ghost use Rattle.sprints.specs.State.{after_start, after_close};
 use field_values::Moment;
 
 /// The state of a sprint. With each moment goes the number of the last change group at that time.
-#[derive(Clone, Copy, PartialEq, Eq)]
+#[derive(Clone, Copy, Debug, PartialEq, Eq)]
 pub enum SprintState {
     /// It waits for its start.
     Future,
@@ -24,7 +24,7 @@ pub enum SprintState {
 }
 
 /// Why a sprint isn't made or doesn't change its state.
-#[derive(Clone, Copy, PartialEq, Eq)]
+#[derive(Clone, Copy, Debug, PartialEq, Eq)]
 pub enum SprintFault {
     /// There are 1,000 sprints.
     Full,
