@@ -1,7 +1,7 @@
 use Rattle.std.proofs.Common.{◌≤◌}
 use Rattle.std.specs.Io.KnownBytes.{prepend_known}
 use Rattle.request_lines.proofs.Progress.{IsSoFar}
-use Rattle.request_lines.proofs.run.answer_lines.Given as goal
+use Rattle.request_lines.proofs.run.answer_each.Given as goal
 
 abbrev pub invariant-loop-count : goal.invariant-loop-count
 invariant-loop-count g l = record {
