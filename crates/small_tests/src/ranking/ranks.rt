@@ -1,6 +1,7 @@
 ghost use Rattle.std.specs.Prelude.{◌≡◌, IsTrue, IfSome};
 ghost use Rattle.rank_strings.specs.Rank.{IsBelow};
 ghost use Rattle.std.specs.Option.{option_copied};
+ghost use Rattle.rank_strings.specs.Between.{AreNeighbours};
 
 use super::placing::{MOST_ZEROS, behind_zeros, is, is_exhausted, is_written, rank_of};
 use rank_strings::{Rank, RankFault, between};
@@ -209,13 +210,13 @@ fn is_exhausted_at_254_bytes(rt: HostRuntime) {
 
 /// One byte before that there is room for the longest rank, and longer ones are none.
 fn has_room(alloc: Global) -> Option<bool> {
-    let high = behind_zeros(alloc, MOST_ZEROS - 1).ok()?;
+    let high = behind_zeros(alloc, 243).ok()?;
     let last = chosen_between(alloc, "0|i00000:", high.as_str(), 0)?.ok()?;
     Some(last.len() == 254)
 }
 
 fn is_longest(alloc: Global) -> Option<bool> {
-    let too_long = behind_zeros(alloc, MOST_ZEROS + 1).ok()?;
+    let too_long = behind_zeros(alloc, 245).ok()?;
     Some(is_no_rank(alloc, too_long.as_str()))
 }
 

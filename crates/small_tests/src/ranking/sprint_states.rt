@@ -61,11 +61,11 @@ fn moved(
     Some(sprints.close(sprint, at, change))
 }
 
-fn answer_of(is_allowed: bool, state: SprintState) -> Result<(), SprintFault> {
+fn answer_of(is_allowed: bool, state: &SprintState) -> Result<(), SprintFault> {
     if is_allowed {
         Ok(())
     } else {
-        Err(SprintFault::StateIs(state))
+        Err(SprintFault::StateIs(*state))
     }
 }
 
@@ -73,7 +73,7 @@ fn follow(sprints: &mut Sprints) -> Option<()> {
     for &(starts, seconds, change, is_allowed, phase) in &ROWS {
         let state = state_in(phase)?;
         let answer = moved(sprints, starts, seconds, change)?;
-        is(answer == answer_of(is_allowed, state))?;
+        is(answer == answer_of(is_allowed, &state))?;
         is(sprints.state(SprintNo(1)) == Some(state))?;
         is(sprints.state(SprintNo(2)) == Some(SprintState::Future))?;
     }
