@@ -1,5 +1,5 @@
 // The loop over lines.
-ghost use Rattle.std.specs.Prelude.{◌≡◌, ◌≤◌, List, ℕ, OnOk, OnErr, IfSome};
+ghost use Rattle.std.specs.Prelude.{◌≡◌, ◌≤◌, [], List, ℕ, OnOk, OnErr, IfSome};
 ghost use Rattle.request_lines.specs.Causes.{Rose};
 ghost use Rattle.request_lines.specs.Run.{Ends, Serves, IsWriteCause};
 
@@ -76,14 +76,33 @@ pub fn answer_lines<R: Responder, S: Source, T: Sink>(
         return End::Memory;
     };
     let mut line = Vec::new(alloc);
+    answer_each(responder, &mut reader, &mut line, &mut answer, input, out)
+}
+
+// The same with a reader that holds nothing yet, and with rooms for a line and for an answer.
+fn answer_each<R: Responder, S: Source, T: Sink>(
+    responder: &mut R,
+    reader: &mut LineReader,
+    line: &mut Vec<u8>,
+    answer: &mut Vec<u8>,
+    input: &mut S,
+    out: &mut T,
+) -> End
+    requires { reader.old ≡ [] }
+    ensures run { IfSome (S.left input.old) (λ bytes. Ends R.answers responder.old bytes (S.left input.new) (T.taken out.old) (T.taken out.new) result responder.new) }
+    ensures read_cause { result ≡ End.ReadFault → Rose (S.faults input.old) (S.faults input.new) }
+    ensures write_cause { result ≡ End.WriteFault → Rose (T.faults out.old) (T.faults out.new) }
+    ensures read_later { S.faults input.old ≤ S.faults input.new }
+    ensures write_later { T.faults out.old ≤ T.faults out.new }
+{
     for _count in 0..LINES_LIMIT {
-        match reader.next_line(input, &mut line) {
-            Next::Line => match answer_line(responder, &line, &mut answer, out) {
+        match reader.next_line(input, line) {
+            Next::Line => match answer_line(responder, line, answer, out) {
                 Ok(()) => {}
                 Err(Halt::Write) => return End::WriteFault,
                 Err(Halt::Memory) => return End::Memory,
             },
-            Next::Last => match answer_line(responder, &line, &mut answer, out) {
+            Next::Last => match answer_line(responder, line, answer, out) {
                 Ok(()) => return End::Done,
                 Err(Halt::Write) => return End::WriteFault,
                 Err(Halt::Memory) => return End::Memory,
