@@ -1,13 +1,16 @@
-//! Tests of setups: their lists of names, the reading of their texts, and what is looked up in them.
+//! Tests of setups: their lists of names and what is looked up in them; of issues as they are opened; and of the changes that a
+//! transition plans.
 #![tactic(auto)]
 
 #[cfg(test)]
-mod bad_setups;
+mod issues;
 #[cfg(test)]
 mod large_setup;
 #[cfg(test)]
-mod names;
+mod name_lists;
 #[cfg(test)]
-mod reading;
+mod new_tracker;
 #[cfg(test)]
-mod setups;
+mod transitions;
+#[cfg(test)]
+mod values;

@@ -1,0 +1,3 @@
+mod berlin;
+mod days;
+mod terms;

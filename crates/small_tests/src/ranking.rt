@@ -1,0 +1,5 @@
+mod balancing;
+mod orders;
+mod placing;
+mod ranks;
+mod sprint_states;
