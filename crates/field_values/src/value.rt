@@ -8,7 +8,6 @@ use crate::text::Text;
 use std::alloc::Global;
 
 /// What a field of an issue holds.
-#[derive(Drop)]
 pub enum Value {
     Empty,
     Text(Text),
@@ -22,6 +21,23 @@ pub enum Value {
     /// Texts in the order of their bytes, each once.
     Labels(Names),
     Sprint(SprintNo),
+}
+
+// Written by hand, so that whoever lets one go makes one call, and its proof takes one step there.
+impl Drop for Value {
+    fn drop(self) {
+        match self {
+            Value::Empty
+            | Value::Text(_)
+            | Value::Number(_)
+            | Value::Choice(_)
+            | Value::User(_)
+            | Value::Date(_)
+            | Value::Set(_)
+            | Value::Labels(_)
+            | Value::Sprint(_) => {}
+        }
+    }
 }
 
 impl Value {
