@@ -1,5 +1,5 @@
 // What a table of the setup has at a key, and the first fault there.
-ghost use Rattle.std.specs.Prelude.{◌≡◌, ◌≤ℤ◌, ◌≤◌, ◌<◌, ℕ, List, [], length, map, option_map, IfOk};
+ghost use Rattle.std.specs.Prelude.{◌≡◌, ◌≤ℤ◌, ◌≤◌, ◌<◌, ℕ, List, [], length, map, option_map, IfOk, OnOk, ◌∷◌, ◌++◌};
 ghost use Rattle.toml.specs.Data.{get_member};
 ghost use Rattle.toml.specs.View.{view, table_view};
 ghost use Rattle.setup_drafts.specs.Faults.{Answers, AnswersBy, FaultOf};
@@ -97,6 +97,13 @@ fn texts_in(alloc: Global, value: &Value) -> Result<Option<Names>, Memory>
         texts.push(Text::copy_of(alloc, text)?)?;
     }
     Ok(Some(texts))
+}
+
+/// Puts a copy of the name behind the names.
+pub(crate) fn put_copy(alloc: Global, names: &mut Names, name: &Text) -> Result<(), Memory>
+    ensures { OnOk result (names.new ≡ names.old ++ name.now ∷ []) }
+{
+    names.push(name.copy(alloc)?)
 }
 
 /// Whether the value is an array of fewer than so many.

@@ -26,13 +26,41 @@ use std::alloc::Global;
 use toml::Table;
 
 /// The setup as its text writes it.
-#[derive(Drop)]
 pub struct Draft {
     pub head: Head,
     pub lists: Lists,
     pub rights: Rights,
     pub tables: Tables,
     pub steps: OffsetSteps,
+}
+
+// Written by hand, so that whoever lets one go makes one call, and its proof takes one step there.
+impl Drop for Draft {
+    fn drop(self) {
+        let Draft {
+            head: _,
+            lists: _,
+            rights: _,
+            tables: _,
+            steps: _,
+        } = self;
+    }
+}
+
+impl Draft {
+    /// What it is made of, but for the rights, whose names are tied to numbers.
+    pub fn into_parts(self) -> (Head, Lists, Tables, OffsetSteps)
+        ensures { result ≡ (self.head, self.lists, self.tables, self.steps) }
+    {
+        let Draft {
+            head,
+            lists,
+            rights: _,
+            tables,
+            steps,
+        } = self;
+        (head, lists, tables, steps)
+    }
 }
 
 /// What the keys of the top table say, or the first fault among them in their order.

@@ -7,7 +7,6 @@ use field_values::text::Text;
 use std::alloc::Global;
 
 /// Why a text is no setup: the first fault, where the checks are made in the order of the setup's keys.
-#[derive(Drop)]
 pub enum SetupFault {
     /// The text isn't TOML.
     BadToml,
@@ -23,6 +22,21 @@ pub enum SetupFault {
     BadValue(Text),
     /// There was not enough memory.
     Memory,
+}
+
+// Written by hand, so that whoever lets one go makes one call, and its proof takes one step there.
+impl Drop for SetupFault {
+    fn drop(self) {
+        match self {
+            SetupFault::BadToml
+            | SetupFault::Missing(_)
+            | SetupFault::Duplicate(_)
+            | SetupFault::Unknown(_)
+            | SetupFault::TooMany(_, _)
+            | SetupFault::BadValue(_)
+            | SetupFault::Memory => {}
+        }
+    }
 }
 
 impl From<Memory> for SetupFault {

@@ -27,26 +27,51 @@ pub enum KeySet {
     Offset,
 }
 
+/// The keys of the top table.
+const TOP_KEYS: [&str; 17] = [
+    "utc_offset_minutes",
+    "week_starts",
+    "rebalancer",
+    "users",
+    "types",
+    "priorities",
+    "resolutions",
+    "versions",
+    "first_status",
+    "plan",
+    "administer",
+    "group",
+    "project",
+    "status",
+    "transition",
+    "field",
+    "offset",
+];
+
+/// The keys of a project's table.
+const PROJECT_KEYS: [&str; 7] = [
+    "key",
+    "lead",
+    "browse",
+    "create",
+    "edit",
+    "transition",
+    "rank",
+];
+
+/// The keys of a transition's table.
+const TRANSITION_KEYS: [&str; 6] = ["name", "from", "to", "conditions", "validators", "post"];
+
+fn is_one_of(keys: &[&str], name: &str) -> bool
+    ensures { result ≡ list_any (λ key. bytes_eq name.now key.now) keys.now }
+{
+    keys.iter().any(|key| name == *key)
+}
+
 fn is_top_key(name: &str) -> bool
     ensures { result ≡ list_any (λ key. bytes_eq name.now key) (keys_of KeySet.Top) }
 {
-    name == "utc_offset_minutes"
-        || name == "week_starts"
-        || name == "rebalancer"
-        || name == "users"
-        || name == "types"
-        || name == "priorities"
-        || name == "resolutions"
-        || name == "versions"
-        || name == "first_status"
-        || name == "plan"
-        || name == "administer"
-        || name == "group"
-        || name == "project"
-        || name == "status"
-        || name == "transition"
-        || name == "field"
-        || name == "offset"
+    is_one_of(&TOP_KEYS, name)
 }
 
 fn is_group_key(name: &str) -> bool
@@ -58,13 +83,7 @@ fn is_group_key(name: &str) -> bool
 fn is_project_key(name: &str) -> bool
     ensures { result ≡ list_any (λ key. bytes_eq name.now key) (keys_of KeySet.Project) }
 {
-    name == "key"
-        || name == "lead"
-        || name == "browse"
-        || name == "create"
-        || name == "edit"
-        || name == "transition"
-        || name == "rank"
+    is_one_of(&PROJECT_KEYS, name)
 }
 
 fn is_status_key(name: &str) -> bool
@@ -76,12 +95,7 @@ fn is_status_key(name: &str) -> bool
 fn is_transition_key(name: &str) -> bool
     ensures { result ≡ list_any (λ key. bytes_eq name.now key) (keys_of KeySet.Transition) }
 {
-    name == "name"
-        || name == "from"
-        || name == "to"
-        || name == "conditions"
-        || name == "validators"
-        || name == "post"
+    is_one_of(&TRANSITION_KEYS, name)
 }
 
 fn is_field_key(name: &str) -> bool

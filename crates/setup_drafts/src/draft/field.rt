@@ -9,7 +9,7 @@ ghost use Rattle.field_values.specs.Words.{kind_of};
 ghost use Rattle.setup_drafts.specs.Fields.{number_fault, number_in, options_fault, options_in, field_fault, field_of, with_field};
 ghost use Rattle.field_forms.specs.Known.{has_few_options};
 
-use crate::cell::{names_at, new_name_at, value_at, whole_at};
+use crate::cell::{names_at, new_name_at, put_copy, value_at, whole_at};
 use crate::fault::SetupFault;
 use field_forms::name_form::NameForm;
 use field_values::field::Field;
@@ -113,7 +113,7 @@ pub(crate) fn read_fields(alloc: Global, entries: &[&Table]) -> Result<Sequence<
     let mut fields = Sequence::new(alloc);
     for entry in entries {
         let field = read_field(alloc, entry, fields.as_slice(), names.as_slice())?;
-        names.push(field.name.copy(alloc)?)?;
+        put_copy(alloc, &mut names, &field.name)?;
         fields.push(field)?;
     }
     Ok(fields)

@@ -5,7 +5,7 @@ ghost use Rattle.setup_drafts.specs.Entries.{entries_fault, with_name};
 ghost use Rattle.setup_drafts.specs.Groups.{group_fault, group_draft};
 ghost use Rattle.setup_drafts.specs.declared.draft.group.GroupDraft.{GroupDraft};
 
-use crate::cell::{names_at, new_name_at};
+use crate::cell::{names_at, new_name_at, put_copy};
 use crate::fault::SetupFault;
 use field_forms::name_form::NameForm;
 use field_values::names::Names;
@@ -15,10 +15,19 @@ use std::alloc::Global;
 use toml::Table;
 
 /// A group with the names of its members as they are written.
-#[derive(Drop)]
 pub struct GroupDraft {
     pub name: Text,
     pub members: Names,
+}
+
+// Written by hand, so that whoever lets one go makes one call, and its proof takes one step there.
+impl Drop for GroupDraft {
+    fn drop(self) {
+        let GroupDraft {
+            name: _,
+            members: _,
+        } = self;
+    }
 }
 
 #[tactic(auto, unfolding(crate::specs::Groups::group_fault, crate::specs::Groups::group_draft))]
@@ -45,7 +54,7 @@ pub(crate) fn read_groups(
     let mut groups = Sequence::new(alloc);
     for entry in entries {
         let group = read_group(alloc, entry, names.as_slice())?;
-        names.push(group.name.copy(alloc)?)?;
+        put_copy(alloc, &mut names, &group.name)?;
         groups.push(group)?;
     }
     Ok(groups)

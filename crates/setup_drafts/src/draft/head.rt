@@ -24,11 +24,21 @@ pub struct Head {
 }
 
 /// The status of a new issue, and the groups that have the permissions of the whole tracker.
-#[derive(Drop)]
 pub struct Rights {
     pub first_status: Text,
     pub plan: Names,
     pub administer: Names,
+}
+
+// Written by hand, so that whoever lets one go makes one call, and its proof takes one step there.
+impl Drop for Rights {
+    fn drop(self) {
+        let Rights {
+            first_status: _,
+            plan: _,
+            administer: _,
+        } = self;
+    }
 }
 
 fn weekday_at(alloc: Global, table: &Table, key: &str) -> Result<Weekday, SetupFault>

@@ -11,13 +11,41 @@ use std::alloc::Global;
 use toml::Table;
 
 /// The lists of names that the setup begins with.
-#[derive(Drop)]
 pub struct Lists {
     pub users: Names,
     pub types: Names,
     pub priorities: Names,
     pub resolutions: Names,
     pub versions: Names,
+}
+
+// Written by hand, so that whoever lets one go makes one call, and its proof takes one step there.
+impl Drop for Lists {
+    fn drop(self) {
+        let Lists {
+            users: _,
+            types: _,
+            priorities: _,
+            resolutions: _,
+            versions: _,
+        } = self;
+    }
+}
+
+impl Lists {
+    /// The users, types, priorities, resolutions and versions.
+    pub fn into_names(self) -> (Names, Names, Names, Names, Names)
+        ensures { result ≡ (self.users, self.types, self.priorities, self.resolutions, self.versions) }
+    {
+        let Lists {
+            users,
+            types,
+            priorities,
+            resolutions,
+            versions,
+        } = self;
+        (users, types, priorities, resolutions, versions)
+    }
 }
 
 /// The lists of names of the top table, or the first fault among them.

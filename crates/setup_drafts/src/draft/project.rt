@@ -4,7 +4,7 @@ ghost use Rattle.setup_drafts.specs.Faults.{Answers};
 ghost use Rattle.setup_drafts.specs.Entries.{entries_fault, with_name};
 ghost use Rattle.setup_drafts.specs.Projects.{project_fault, project_draft};
 
-use crate::cell::{names_at, new_name_at, text_at};
+use crate::cell::{names_at, new_name_at, put_copy, text_at};
 use crate::fault::SetupFault;
 use field_forms::name_form::NameForm;
 use field_values::names::Names;
@@ -14,7 +14,6 @@ use std::alloc::Global;
 use toml::Table;
 
 /// A project with the names of its lead and of the groups of each permission as they are written.
-#[derive(Drop)]
 pub struct ProjectDraft {
     pub key: Text,
     pub lead: Text,
@@ -25,6 +24,21 @@ pub struct ProjectDraft {
     pub rank: Names,
 }
 
+// Written by hand, so that whoever lets one go makes one call, and its proof takes one step there.
+impl Drop for ProjectDraft {
+    fn drop(self) {
+        let ProjectDraft {
+            key: _,
+            lead: _,
+            browse: _,
+            create: _,
+            edit: _,
+            transition: _,
+            rank: _,
+        } = self;
+    }
+}
+
 #[tactic(auto, unfolding(crate::specs::Projects::project_fault, crate::specs::Projects::project_draft))]
 fn read_project(alloc: Global, entry: &Table, earlier: &[Text]) -> Result<ProjectDraft, SetupFault>
     ensures { Answers (project_fault earlier.now (table_view entry.now))
@@ -32,20 +46,21 @@ fn read_project(alloc: Global, entry: &Table, earlier: &[Text]) -> Result<Projec
 {
     let key = new_name_at(alloc, entry, "key", NameForm::ProjectKey, earlier)?;
     let lead = text_at(alloc, entry, "lead")?;
-    let browse = names_at(alloc, entry, "browse", NameForm::AnyText, 0, None)?;
-    let create = names_at(alloc, entry, "create", NameForm::AnyText, 0, None)?;
-    let edit = names_at(alloc, entry, "edit", NameForm::AnyText, 0, None)?;
-    let transition = names_at(alloc, entry, "transition", NameForm::AnyText, 0, None)?;
-    let rank = names_at(alloc, entry, "rank", NameForm::AnyText, 0, None)?;
-    Ok(ProjectDraft {
+    let mut project = ProjectDraft {
         key,
         lead,
-        browse,
-        create,
-        edit,
-        transition,
-        rank,
-    })
+        browse: Names::new(alloc),
+        create: Names::new(alloc),
+        edit: Names::new(alloc),
+        transition: Names::new(alloc),
+        rank: Names::new(alloc),
+    };
+    project.browse = names_at(alloc, entry, "browse", NameForm::AnyText, 0, None)?;
+    project.create = names_at(alloc, entry, "create", NameForm::AnyText, 0, None)?;
+    project.edit = names_at(alloc, entry, "edit", NameForm::AnyText, 0, None)?;
+    project.transition = names_at(alloc, entry, "transition", NameForm::AnyText, 0, None)?;
+    project.rank = names_at(alloc, entry, "rank", NameForm::AnyText, 0, None)?;
+    Ok(project)
 }
 
 /// The projects of these tables.
@@ -62,7 +77,7 @@ pub(crate) fn read_projects(
     let mut projects = Sequence::new(alloc);
     for entry in entries {
         let project = read_project(alloc, entry, names.as_slice())?;
-        names.push(project.key.copy(alloc)?)?;
+        put_copy(alloc, &mut names, &project.key)?;
         projects.push(project)?;
     }
     Ok(projects)

@@ -7,7 +7,7 @@ ghost use Rattle.setup_drafts.specs.Entries.{entries_fault, with_name};
 ghost use Rattle.field_values.specs.Words.{category_of};
 ghost use Rattle.setup_drafts.specs.Statuses.{status_fault, status_of};
 
-use crate::cell::{new_name_at, value_at};
+use crate::cell::{new_name_at, put_copy, value_at};
 use crate::fault::SetupFault;
 use field_forms::name_form::NameForm;
 use field_values::names::Names;
@@ -58,7 +58,7 @@ pub(crate) fn read_statuses(
     let mut statuses = Sequence::new(alloc);
     for entry in entries {
         let status = read_status(alloc, entry, names.as_slice())?;
-        names.push(status.name.copy(alloc)?)?;
+        put_copy(alloc, &mut names, &status.name)?;
         statuses.push(status)?;
     }
     Ok(statuses)

@@ -19,13 +19,41 @@ use std::alloc::Global;
 use toml::Table;
 
 /// What the lists of tables of the setup say.
-#[derive(Drop)]
 pub struct Tables {
     pub groups: Sequence<GroupDraft>,
     pub projects: Sequence<ProjectDraft>,
     pub statuses: Sequence<Status>,
     pub transitions: Sequence<TransitionDraft>,
     pub fields: Sequence<Field>,
+}
+
+// Written by hand, so that whoever lets one go makes one call, and its proof takes one step there.
+impl Drop for Tables {
+    fn drop(self) {
+        let Tables {
+            groups: _,
+            projects: _,
+            statuses: _,
+            transitions: _,
+            fields: _,
+        } = self;
+    }
+}
+
+impl Tables {
+    /// The statuses and the fields. What is written of the others is let go.
+    pub fn into_statuses_and_fields(self) -> (Sequence<Status>, Sequence<Field>)
+        ensures { result ≡ (self.statuses, self.fields) }
+    {
+        let Tables {
+            groups: _,
+            projects: _,
+            statuses,
+            transitions: _,
+            fields,
+        } = self;
+        (statuses, fields)
+    }
 }
 
 #[tactic(auto, unfolding(crate::specs::Drafts::groups_fault, crate::specs::Drafts::groups_of))]

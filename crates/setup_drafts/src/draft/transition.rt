@@ -4,7 +4,7 @@ ghost use Rattle.setup_drafts.specs.Faults.{Answers};
 ghost use Rattle.setup_drafts.specs.Entries.{entries_fault, with_name};
 ghost use Rattle.setup_drafts.specs.Transitions.{transition_fault, transition_draft};
 
-use crate::cell::{names_at, new_name_at, rules_at, text_at};
+use crate::cell::{names_at, new_name_at, put_copy, rules_at, text_at};
 use crate::fault::SetupFault;
 use field_forms::name_form::NameForm;
 use field_values::names::Names;
@@ -14,7 +14,6 @@ use std::alloc::Global;
 use toml::Table;
 
 /// A transition with the names of its statuses and the texts of its rules as they are written.
-#[derive(Drop)]
 pub struct TransitionDraft {
     pub name: Text,
     pub from: Names,
@@ -22,6 +21,20 @@ pub struct TransitionDraft {
     pub conditions: Names,
     pub validators: Names,
     pub post: Names,
+}
+
+// Written by hand, so that whoever lets one go makes one call, and its proof takes one step there.
+impl Drop for TransitionDraft {
+    fn drop(self) {
+        let TransitionDraft {
+            name: _,
+            from: _,
+            to: _,
+            conditions: _,
+            validators: _,
+            post: _,
+        } = self;
+    }
 }
 
 #[tactic(auto, unfolding(crate::specs::Transitions::transition_fault, crate::specs::Transitions::transition_draft))]
@@ -36,17 +49,18 @@ fn read_transition(
     let name = new_name_at(alloc, entry, "name", NameForm::Plain, earlier)?;
     let from = names_at(alloc, entry, "from", NameForm::AnyText, 1, None)?;
     let to = text_at(alloc, entry, "to")?;
-    let conditions = rules_at(alloc, entry, "conditions")?;
-    let validators = rules_at(alloc, entry, "validators")?;
-    let post = rules_at(alloc, entry, "post")?;
-    Ok(TransitionDraft {
+    let mut transition = TransitionDraft {
         name,
         from,
         to,
-        conditions,
-        validators,
-        post,
-    })
+        conditions: Names::new(alloc),
+        validators: Names::new(alloc),
+        post: Names::new(alloc),
+    };
+    transition.conditions = rules_at(alloc, entry, "conditions")?;
+    transition.validators = rules_at(alloc, entry, "validators")?;
+    transition.post = rules_at(alloc, entry, "post")?;
+    Ok(transition)
 }
 
 /// The transitions of these tables.
@@ -63,7 +77,7 @@ pub(crate) fn read_transitions(
     let mut transitions = Sequence::new(alloc);
     for entry in entries {
         let transition = read_transition(alloc, entry, names.as_slice())?;
-        names.push(transition.name.copy(alloc)?)?;
+        put_copy(alloc, &mut names, &transition.name)?;
         transitions.push(transition)?;
     }
     Ok(transitions)
