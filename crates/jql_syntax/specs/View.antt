@@ -1,5 +1,6 @@
 -- What conditions in memory say.
-use Rattle.std.specs.Prelude.{List, [], ◌∷◌, map}
+use Rattle.std.specs.Prelude.{List, [], ◌∷◌, map, Option, option_map, Box}
+use Rattle.std.specs.Global.{Global}
 use Rattle.jql_syntax.specs.Tree.{Tree, single, negation, all_of, any_of, Trees, no_trees, tree}
 use Rattle.jql_syntax.specs.Node.{Node, condition}
 use Rattle.jql_syntax.specs.declared.query.Expr.{Expr, fold-Expr}
@@ -18,6 +19,10 @@ view_step (Expr-F.Any v) = any_of (trees_of v.items)
 
 abbrev pub view : Expr → Tree
 view = fold-Expr Tree view_step
+
+-- the condition in its box, where there is one
+abbrev pub unboxed : Option (Box Expr Global) → Option Expr
+unboxed x = option_map (λ b. b.value) x
 
 abbrev pub views : List Expr → Trees
 views xs = trees_of (map view xs)

@@ -1,6 +1,6 @@
 // What a query says. The parts are plain data, which anyone may build; a whole query is made by `parse` alone.
 ghost use Rattle.std.specs.Prelude.{◌≡◌, option_map};
-ghost use Rattle.jql_syntax.specs.View.{view as expr_view};
+ghost use Rattle.jql_syntax.specs.View.{view as expr_view, unboxed};
 ghost use Rattle.jql_syntax.specs.Fault.{IsWritten};
 
 use field_values::{Sequence, Text};
@@ -128,7 +128,8 @@ pub struct SortKey {
 /// A query: its condition, where it has one, and its sort keys. Only `parse` makes one, and it is what some text says.
 #[derive(Drop)]
 pub struct Query {
-    condition: Option<Expr>,
+    // In a box, so that little is done where a query is let go.
+    condition: Option<Box<Expr>>,
     order: Sequence<SortKey>,
 }
 
@@ -144,20 +145,22 @@ impl Model for Query {
 
     ghost coded = { Prim.hlevel (codes, e.the_row.coded, k.the_row.coded) };
 
-    ghost view = { λ q. (q.condition, q.order) };
+    ghost use Rattle.jql_syntax.specs.View.{unboxed};
+
+    ghost view = { λ q. (unboxed q.condition, q.order) };
 
     ghost use Rattle.std.specs.Prelude.{option_map};
     ghost use Rattle.jql_syntax.specs.View.{view as expr_view};
     ghost use Rattle.jql_syntax.specs.Fault.{IsWritten};
 
-    ghost invariant = { λ q. IsWritten (option_map expr_view q.condition) q.order };
+    ghost invariant = { λ q. IsWritten (option_map expr_view (unboxed q.condition)) q.order };
 }
 
 impl Query {
     /// The query of this condition and these sort keys.
-    pub(crate) fn new(condition: Option<Expr>, order: Sequence<SortKey>) -> Query
-        requires { IsWritten (option_map expr_view condition) order }
-        ensures { result ≡ (condition, order) }
+    pub(crate) fn new(condition: Option<Box<Expr>>, order: Sequence<SortKey>) -> Query
+        requires { IsWritten (option_map expr_view (unboxed condition)) order }
+        ensures { result ≡ (unboxed condition, order) }
     {
         Query { condition, order }
     }
@@ -168,7 +171,10 @@ impl Query {
         // Some text is the query.
         ensures written { IsWritten (option_map expr_view self.now.0) self.now.1 }
     {
-        self.condition.as_ref()
+        match &self.condition {
+            Some(expr) => Some(expr),
+            None => None,
+        }
     }
 
     /// The sort keys.

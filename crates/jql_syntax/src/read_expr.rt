@@ -97,7 +97,10 @@ fn read_group(alloc: Global, room: u32, ts: &[Placed]) -> Result<(Expr, &[Placed
     let (inner, rest) = read_expr(alloc, room, inside)?;
     match take(Mark::Close, rest) {
         Some(after) => Ok((inner, after)),
-        None => Err(fault(rest)),
+        None => {
+            drop(inner);
+            Err(fault(rest))
+        }
     }
 }
 

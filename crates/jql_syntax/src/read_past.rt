@@ -15,6 +15,24 @@ use crate::token::{Mark, Placed};
 use field_values::Sequence;
 use std::alloc::Global;
 
+// A comma, the later of two dates and the parenthesis behind it.
+fn read_end(alloc: Global, ts: &[Placed]) -> Result<(Value, &[Placed]), Stop>
+    ensures ok { IfOk result (λ x. Goes (both (key Comma) (both date (key Close))) ts.now x.1.now (a_value x.0 ∷ [])) }
+    ensures err { IfErr result (Stops (both (key Comma) (both date (key Close))) ts.now) }
+{
+    let Some(next) = take(Mark::Comma, ts) else {
+        return Err(fault(ts));
+    };
+    let (end, rest) = read_date(alloc, next)?;
+    match take(Mark::Close, rest) {
+        Some(after) => Ok((end, after)),
+        None => {
+            drop(end);
+            Err(fault(rest))
+        }
+    }
+}
+
 // Two dates in parentheses, behind their keyword.
 fn read_dates(alloc: Global, ts: &[Placed]) -> Result<(Value, Value, &[Placed]), Stop>
     ensures ok { IfOk result (λ x. Goes two_dates ts.now x.2.now (a_value x.0 ∷ a_value x.1 ∷ [])) }
@@ -24,13 +42,12 @@ fn read_dates(alloc: Global, ts: &[Placed]) -> Result<(Value, Value, &[Placed]),
         return Err(fault(ts));
     };
     let (start, after) = read_date(alloc, inside)?;
-    let Some(next) = take(Mark::Comma, after) else {
-        return Err(fault(after));
-    };
-    let (end, rest) = read_date(alloc, next)?;
-    match take(Mark::Close, rest) {
-        Some(after) => Ok((start, end, after)),
-        None => Err(fault(rest)),
+    match read_end(alloc, after) {
+        Ok((end, rest)) => Ok((start, end, rest)),
+        Err(stop) => {
+            drop(start);
+            Err(stop)
+        }
     }
 }
 

@@ -3,7 +3,7 @@ ghost use Rattle.std.specs.Prelude.{◌≡◌, Option, [], ◌∷◌, ◌++◌, 
 ghost use Rattle.jql_syntax.specs.Node.{a_key, a_query};
 ghost use Rattle.jql_syntax.specs.Form.{both, either, nothing};
 ghost use Rattle.jql_syntax.specs.Grammar.{key, limit, expression, sorting, direction, separated, order, query};
-ghost use Rattle.jql_syntax.specs.View.{view};
+ghost use Rattle.jql_syntax.specs.View.{view, unboxed};
 ghost use Rattle.jql_syntax.specs.Machine.{look, looks, unit_looks};
 ghost use Rattle.jql_syntax.specs.Reader.{Goes, Stops, words, condition_parts, direction_parts, or_ascending};
 ghost use Rattle.jql_syntax.specs.declared.token.Mark.TheVariants.{Order, By, Comma};
@@ -101,12 +101,13 @@ fn starts_unit(ts: &[Placed]) -> bool
 }
 
 // The condition, where there is one.
-fn read_condition(alloc: Global, ts: &[Placed]) -> Result<(Option<Expr>, &[Placed]), Stop>
-    ensures ok { IfOk result (λ x. Goes (either (expression limit) nothing) ts.now x.1.now (condition_parts (option_map view x.0))) }
+fn read_condition(alloc: Global, ts: &[Placed]) -> Result<(Option<Box<Expr>>, &[Placed]), Stop>
+    ensures ok { IfOk result (λ x. Goes (either (expression limit) nothing) ts.now x.1.now (condition_parts (option_map view (unboxed x.0)))) }
     ensures err { IfErr result (Stops (either (expression limit) nothing) ts.now) }
 {
     if starts_unit(ts) {
         let (expr, rest) = read_expr(alloc, LIMIT, ts)?;
+        let expr = Box::new(alloc, expr)?;
         return Ok((Some(expr), rest));
     }
     Ok((None, ts))
@@ -116,8 +117,8 @@ fn read_condition(alloc: Global, ts: &[Placed]) -> Result<(Option<Expr>, &[Place
 pub(crate) fn read_query(
     alloc: Global,
     ts: &[Placed],
-) -> Result<(Option<Expr>, Sequence<SortKey>, &[Placed]), Stop>
-    ensures ok { IfOk result (λ x. Goes (query limit) ts.now x.2.now (a_query (option_map view x.0) x.1 ∷ [])) }
+) -> Result<(Option<Box<Expr>>, Sequence<SortKey>, &[Placed]), Stop>
+    ensures ok { IfOk result (λ x. Goes (query limit) ts.now x.2.now (a_query (option_map view (unboxed x.0)) x.1 ∷ [])) }
     ensures err { IfErr result (Stops (query limit) ts.now) }
 {
     let (condition, rest) = read_condition(alloc, ts)?;

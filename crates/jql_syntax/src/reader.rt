@@ -1,7 +1,7 @@
 // Queries from texts.
 ghost use Rattle.std.specs.Prelude.{◌≡◌, ◌<◌, ℕ, List, Option, option_map, length, IfOk, IfErr};
 ghost use Rattle.jql_syntax.specs.Tree.{Tree};
-ghost use Rattle.jql_syntax.specs.View.{view};
+ghost use Rattle.jql_syntax.specs.View.{view, unboxed};
 ghost use Rattle.jql_syntax.specs.Reads.{Reads};
 ghost use Rattle.jql_syntax.specs.Reader.{words, Fails};
 ghost use Rattle.jql_syntax.specs.Fault.{FirstFault, Faults, FaultOf, IsQuery, Gives, Explains, place_of, number_of_kind};
@@ -56,8 +56,8 @@ fn place_of(end: usize, ts: &[Placed]) -> usize
 }
 
 // The condition and the sort keys that the tokens are.
-fn read_all(alloc: Global, ts: &[Placed]) -> Result<(Option<Expr>, Sequence<SortKey>), Stop>
-    ensures ok { IfOk result (λ q. Reads (words ts.now) (option_map view q.0) q.1) }
+fn read_all(alloc: Global, ts: &[Placed]) -> Result<(Option<Box<Expr>>, Sequence<SortKey>), Stop>
+    ensures ok { IfOk result (λ q. Reads (words ts.now) (option_map view (unboxed q.0)) q.1) }
     ensures err { IfErr result (Fails ts.now) }
 {
     let (condition, keys, rest) = read_query(alloc, ts)?;

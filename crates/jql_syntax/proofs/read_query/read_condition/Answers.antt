@@ -9,7 +9,7 @@ returns-in_err-expr-clause-err c = let p = err_from_is_err_and c.from_residual.r
     rw (p.1, p.2) (stop_first (on (on (sym c.if-starts_unit.ensures))) c.in_err-expr.ensures.err)
 
 pub returns-then-starts_unit-clause-ok : goal.returns-then-starts_unit-clause-ok
-returns-then-starts_unit-clause-ok c = goes_first _ (on (on (sym c.if-starts_unit.ensures))) c.in_ok-expr.ensures.ok
+returns-then-starts_unit-clause-ok c = rw c.in_ok-expr-2.ensures.ok (goes_first _ (on (on (sym c.if-starts_unit.ensures))) c.in_ok-expr.ensures.ok)
 
 pub returns-clause-ok : goal.returns-clause-ok
 returns-clause-ok c = goes_second (expression limit) (off (off (sym c.if-starts_unit.ensures))) (goes_nothing c.args.ts.now)
