@@ -17,10 +17,29 @@ use std::alloc::Global;
 use toml::Table;
 
 /// What is written in a setup's table, and the numbers of what it names.
-#[derive(Drop)]
 pub struct Reading {
     pub draft: Draft,
     pub numbers: Tied,
+}
+
+// Written by hand, so that whoever lets one go makes one call, and its proof takes one step there.
+impl Drop for Reading {
+    fn drop(self) {
+        let Reading {
+            draft: _,
+            numbers: _,
+        } = self;
+    }
+}
+
+impl Reading {
+    /// What it is made of.
+    pub fn into_parts(self) -> (Draft, Tied)
+        ensures { result ≡ (self.draft, self.numbers) }
+    {
+        let Reading { draft, numbers } = self;
+        (draft, numbers)
+    }
 }
 
 /// The table of a text that is TOML.

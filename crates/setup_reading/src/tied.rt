@@ -38,10 +38,29 @@ pub struct TiedTables {
 }
 
 /// What names of the setup name.
-#[derive(Drop)]
 pub struct Tied {
     pub rights: TiedRights,
     pub tables: TiedTables,
+}
+
+// Written by hand, so that whoever lets one go makes one call, and its proof takes one step there.
+impl Drop for Tied {
+    fn drop(self) {
+        let Tied {
+            rights: _,
+            tables: _,
+        } = self;
+    }
+}
+
+impl Tied {
+    /// What it is made of.
+    pub fn into_parts(self) -> (TiedRights, TiedTables)
+        ensures { result ≡ (self.rights, self.tables) }
+    {
+        let Tied { rights, tables } = self;
+        (rights, tables)
+    }
 }
 
 fn group_names(alloc: Global, groups: &[GroupDraft]) -> Result<Names, Memory>
