@@ -63,14 +63,17 @@ kind_named name =
     (if bytes_eq name (codes "history") then Some kind.History else
     (if bytes_eq name (codes "search") then Some kind.Search else None))))))
 
+abbrev pub members_of : CallKind → List (List ℕ)
+members_of kind.Create = codes "call" ∷ codes "project" ∷ codes "set" ∷ codes "summary" ∷ codes "type" ∷ codes "user" ∷ []
+members_of kind.Edit = codes "call" ∷ codes "issue" ∷ codes "set" ∷ codes "user" ∷ []
+members_of kind.Transition = codes "call" ∷ codes "issue" ∷ codes "set" ∷ codes "transition" ∷ codes "user" ∷ []
+members_of kind.Tick = codes "call" ∷ codes "to" ∷ codes "user" ∷ []
+members_of kind.Show = codes "call" ∷ codes "issue" ∷ codes "user" ∷ []
+members_of kind.History = codes "call" ∷ codes "count" ∷ codes "from" ∷ codes "issue" ∷ codes "user" ∷ []
+members_of kind.Search = codes "call" ∷ codes "count" ∷ codes "from" ∷ codes "jql" ∷ codes "user" ∷ []
+
 abbrev pub is_member : CallKind → List ℕ → Bool
-is_member kind.Create name = is_among name (codes "call" ∷ codes "project" ∷ codes "set" ∷ codes "summary" ∷ codes "type" ∷ codes "user" ∷ [])
-is_member kind.Edit name = is_among name (codes "call" ∷ codes "issue" ∷ codes "set" ∷ codes "user" ∷ [])
-is_member kind.Transition name = is_among name (codes "call" ∷ codes "issue" ∷ codes "set" ∷ codes "transition" ∷ codes "user" ∷ [])
-is_member kind.Tick name = is_among name (codes "call" ∷ codes "to" ∷ codes "user" ∷ [])
-is_member kind.Show name = is_among name (codes "call" ∷ codes "issue" ∷ codes "user" ∷ [])
-is_member kind.History name = is_among name (codes "call" ∷ codes "count" ∷ codes "from" ∷ codes "issue" ∷ codes "user" ∷ [])
-is_member kind.Search name = is_among name (codes "call" ∷ codes "count" ∷ codes "from" ∷ codes "jql" ∷ codes "user" ∷ [])
+is_member kind name = is_among name (members_of kind)
 
 -- the first name in byte order that is no member of the call
 abbrev pub first_other : CallKind → List (List ℕ) → Option (List ℕ)

@@ -1,14 +1,14 @@
 // Each call with its members, in the order in which a fault is told.
-ghost use Rattle.std.specs.Prelude.{◌≡◌};
+ghost use Rattle.std.specs.Prelude.{◌≡◌, Ok, IfOk};
 ghost use Rattle.serde_json.specs.View.{view, members_view};
 ghost use Rattle.tracker_calls.specs.Line.{create_of, edit_of, transition_of, tick_of, show_of, history_of, search_of, UnlessMemory};
 
 use crate::call::{Call, CallKind, MOST_ENTRIES, MOST_LISTED, Part};
-use crate::given::{set_at, set_if_there};
+use crate::given::{GivenFields, set_at, set_if_there};
 use crate::members::{count_if_there, first_other, from_if_there, misses, moment_at, text_at};
 use crate::reply::Refusal;
 use crate::user_name::UserName;
-use field_values::Text;
+use field_values::{Memory, Text};
 use serde_json::{Map, Value};
 use std::alloc::Global;
 
@@ -37,27 +37,30 @@ pub fn create_of(
     if let Some(other) = first_other(CallKind::Create, members) {
         return misses(alloc, other);
     }
-    let Ok(user) = UserName::copy_of(alloc, user) else {
-        return Err(Refusal::Memory);
-    };
-    let Ok(project) = Text::copy_of(alloc, project) else {
-        return Err(Refusal::Memory);
-    };
-    let Ok(issue_type) = Text::copy_of(alloc, issue_type) else {
-        return Err(Refusal::Memory);
-    };
-    let Ok(summary) = Text::copy_of(alloc, summary) else {
-        return Err(Refusal::Memory);
-    };
-    Ok((
-        user,
-        Call::Create {
-            project,
-            issue_type,
-            summary,
-            set,
-        },
-    ))
+    match create_call(alloc, project, issue_type, summary, set) {
+        Ok(call) => made_by(alloc, user, call),
+        Err(_) => Err(Refusal::Memory),
+    }
+}
+
+fn create_call(
+    alloc: Global,
+    project: &str,
+    issue_type: &str,
+    summary: &str,
+    set: GivenFields,
+) -> Result<Call, Memory>
+    ensures { IfOk result (λ call. call ≡ Call.Create project.now issue_type.now summary.now set) }
+{
+    let project = Text::copy_of(alloc, project)?;
+    let issue_type = Text::copy_of(alloc, issue_type)?;
+    let summary = Text::copy_of(alloc, summary)?;
+    Ok(Call::Create {
+        project,
+        issue_type,
+        summary,
+        set,
+    })
 }
 
 pub fn edit_of(
@@ -79,13 +82,10 @@ pub fn edit_of(
     if let Some(other) = first_other(CallKind::Edit, members) {
         return misses(alloc, other);
     }
-    let Ok(user) = UserName::copy_of(alloc, user) else {
-        return Err(Refusal::Memory);
-    };
-    let Ok(issue) = Text::copy_of(alloc, issue) else {
-        return Err(Refusal::Memory);
-    };
-    Ok((user, Call::Edit { issue, set }))
+    match Text::copy_of(alloc, issue) {
+        Ok(issue) => made_by(alloc, user, Call::Edit { issue, set }),
+        Err(_) => Err(Refusal::Memory),
+    }
 }
 
 pub fn transition_of(
@@ -110,23 +110,27 @@ pub fn transition_of(
     if let Some(other) = first_other(CallKind::Transition, members) {
         return misses(alloc, other);
     }
-    let Ok(user) = UserName::copy_of(alloc, user) else {
-        return Err(Refusal::Memory);
-    };
-    let Ok(issue) = Text::copy_of(alloc, issue) else {
-        return Err(Refusal::Memory);
-    };
-    let Ok(transition) = Text::copy_of(alloc, transition) else {
-        return Err(Refusal::Memory);
-    };
-    Ok((
-        user,
-        Call::Transition {
-            issue,
-            transition,
-            set,
-        },
-    ))
+    match transition_call(alloc, issue, transition, set) {
+        Ok(call) => made_by(alloc, user, call),
+        Err(_) => Err(Refusal::Memory),
+    }
+}
+
+fn transition_call(
+    alloc: Global,
+    issue: &str,
+    transition: &str,
+    set: GivenFields,
+) -> Result<Call, Memory>
+    ensures { IfOk result (λ call. call ≡ Call.Transition issue.now transition.now set) }
+{
+    let issue = Text::copy_of(alloc, issue)?;
+    let transition = Text::copy_of(alloc, transition)?;
+    Ok(Call::Transition {
+        issue,
+        transition,
+        set,
+    })
 }
 
 pub fn tick_of(
@@ -143,10 +147,7 @@ pub fn tick_of(
     if let Some(other) = first_other(CallKind::Tick, members) {
         return misses(alloc, other);
     }
-    match UserName::copy_of(alloc, user) {
-        Ok(user) => Ok((user, Call::Tick { to })),
-        Err(_) => Err(Refusal::Memory),
-    }
+    made_by(alloc, user, Call::Tick { to })
 }
 
 pub fn show_of(
@@ -163,13 +164,10 @@ pub fn show_of(
     if let Some(other) = first_other(CallKind::Show, members) {
         return misses(alloc, other);
     }
-    let Ok(user) = UserName::copy_of(alloc, user) else {
-        return Err(Refusal::Memory);
-    };
-    let Ok(issue) = Text::copy_of(alloc, issue) else {
-        return Err(Refusal::Memory);
-    };
-    Ok((user, Call::Show { issue }))
+    match Text::copy_of(alloc, issue) {
+        Ok(issue) => made_by(alloc, user, Call::Show { issue }),
+        Err(_) => Err(Refusal::Memory),
+    }
 }
 
 pub fn history_of(
@@ -192,19 +190,11 @@ pub fn history_of(
     if let Some(other) = first_other(CallKind::History, members) {
         return misses(alloc, other);
     }
-    let Ok(user) = UserName::copy_of(alloc, user) else {
-        return Err(Refusal::Memory);
-    };
-    let Ok(issue) = Text::copy_of(alloc, issue) else {
-        return Err(Refusal::Memory);
-    };
-    Ok((
-        user,
-        Call::History {
-            issue,
-            part: Part { from, count },
-        },
-    ))
+    let part = Part { from, count };
+    match Text::copy_of(alloc, issue) {
+        Ok(issue) => made_by(alloc, user, Call::History { issue, part }),
+        Err(_) => Err(Refusal::Memory),
+    }
 }
 
 pub fn search_of(
@@ -227,17 +217,19 @@ pub fn search_of(
     if let Some(other) = first_other(CallKind::Search, members) {
         return misses(alloc, other);
     }
-    let Ok(user) = UserName::copy_of(alloc, user) else {
-        return Err(Refusal::Memory);
-    };
-    let Ok(jql) = Text::copy_of(alloc, jql) else {
-        return Err(Refusal::Memory);
-    };
-    Ok((
-        user,
-        Call::Search {
-            jql,
-            part: Part { from, count },
-        },
-    ))
+    let part = Part { from, count };
+    match Text::copy_of(alloc, jql) {
+        Ok(jql) => made_by(alloc, user, Call::Search { jql, part }),
+        Err(_) => Err(Refusal::Memory),
+    }
+}
+
+// The call with the name of who makes it.
+fn made_by(alloc: Global, user: &str, call: Call) -> Result<(UserName, Call), Refusal>
+    ensures { UnlessMemory result (Ok (user.now, call)) }
+{
+    match UserName::copy_of(alloc, user) {
+        Ok(user) => Ok((user, call)),
+        Err(_) => Err(Refusal::Memory),
+    }
 }

@@ -2,7 +2,6 @@ use crate::given::GivenFields;
 use field_values::{Moment, Text};
 
 /// What a line asks for.
-#[derive(Drop)]
 pub enum Call {
     /// A new issue of the project.
     Create {
@@ -46,6 +45,30 @@ pub enum Call {
         jql: Text,
         part: Part,
     },
+}
+
+// Written by hand, so that whoever lets one go makes one call, and its proof takes one step there.
+impl Drop for Call {
+    fn drop(self) {
+        match self {
+            Call::Create {
+                project: _,
+                issue_type: _,
+                summary: _,
+                set: _,
+            }
+            | Call::Edit { issue: _, set: _ }
+            | Call::Tick { to: _ }
+            | Call::Transition {
+                issue: _,
+                transition: _,
+                set: _,
+            }
+            | Call::Show { issue: _ }
+            | Call::History { issue: _, part: _ }
+            | Call::Search { jql: _, part: _ } => {}
+        }
+    }
 }
 
 /// The part of a list that a call asks for: at most `count` of it, behind its first `from`.

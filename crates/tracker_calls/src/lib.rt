@@ -8,6 +8,7 @@ mod given;
 mod history_json;
 mod line;
 mod members;
+mod members_json;
 mod reply;
 mod reply_json;
 mod show_json;

@@ -1,7 +1,7 @@
 // The members of a line's object, looked up one by one.
-ghost use Rattle.std.specs.Prelude.{◌≡◌, option_map, Err};
+ghost use Rattle.std.specs.Prelude.{◌≡◌, map, option_map, Err};
 ghost use Rattle.serde_json.specs.View.{view, members_view};
-ghost use Rattle.tracker_calls.specs.Line.{text_at, moment_at, first_other, is_member, names_of, UnlessMemory};
+ghost use Rattle.tracker_calls.specs.Line.{text_at, moment_at, first_other, is_among, is_member, members_of, names_of, UnlessMemory};
 ghost use Rattle.tracker_calls.specs.Part.{whole_within, whole_or, from_if_there, count_if_there};
 
 use crate::call::{CallKind, MOST_FROM};
@@ -86,16 +86,31 @@ pub fn first_other<'v>(kind: CallKind, members: &'v Map<String, Value>) -> Optio
 fn is_member(kind: CallKind, name: &str) -> bool
     ensures { result ≡ is_member kind name.now }
 {
+    is_among(name, members_of(kind))
+}
+
+fn is_among(name: &str, names: &[&str]) -> bool
+    ensures { result ≡ is_among name.now (map (λ other. other.now) names.now) }
+{
+    for other in names {
+        if name == *other {
+            return true;
+        }
+    }
+    false
+}
+
+// The names of the members that a call may have.
+fn members_of(kind: CallKind) -> &'static [&'static str]
+    ensures { map (λ name. name.now) result.now ≡ members_of kind }
+{
     match kind {
-        CallKind::Create => matches!(
-            name,
-            "call" | "project" | "set" | "summary" | "type" | "user"
-        ),
-        CallKind::Edit => matches!(name, "call" | "issue" | "set" | "user"),
-        CallKind::Transition => { matches!(name, "call" | "issue" | "set" | "transition" | "user") }
-        CallKind::Tick => matches!(name, "call" | "to" | "user"),
-        CallKind::Show => matches!(name, "call" | "issue" | "user"),
-        CallKind::History => matches!(name, "call" | "count" | "from" | "issue" | "user"),
-        CallKind::Search => matches!(name, "call" | "count" | "from" | "jql" | "user"),
+        CallKind::Create => &["call", "project", "set", "summary", "type", "user"],
+        CallKind::Edit => &["call", "issue", "set", "user"],
+        CallKind::Transition => &["call", "issue", "set", "transition", "user"],
+        CallKind::Tick => &["call", "to", "user"],
+        CallKind::Show => &["call", "issue", "user"],
+        CallKind::History => &["call", "count", "from", "issue", "user"],
+        CallKind::Search => &["call", "count", "from", "jql", "user"],
     }
 }

@@ -5,10 +5,18 @@ use std::alloc::Global;
 use std::marker::Model;
 
 /// What a line is answered.
-#[derive(Drop)]
 pub enum Reply {
     Ok(Answer),
     Refused(Refusal),
+}
+
+// Written by hand, so that whoever lets one go makes one call, and its proof takes one step there.
+impl Drop for Reply {
+    fn drop(self) {
+        match self {
+            Reply::Ok(_) | Reply::Refused(_) => {}
+        }
+    }
 }
 
 /// What a call that was made tells.
@@ -81,13 +89,21 @@ pub struct ShownField {
 }
 
 /// A field's value as an answer tells it.
-#[derive(Drop)]
 pub enum Shown {
     Text(Text),
     /// The names of a set, or labels.
     List(Names),
     /// A sprint.
     Number(u32),
+}
+
+// Written by hand, so that whoever lets one go makes one call, and its proof takes one step there.
+impl Drop for Shown {
+    fn drop(self) {
+        match self {
+            Shown::Text(_) | Shown::List(_) | Shown::Number(_) => {}
+        }
+    }
 }
 
 /// The fields that an answer tells, which contracts see as a list.

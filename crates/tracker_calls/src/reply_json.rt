@@ -1,13 +1,15 @@
 // The text of a reply: compact JSON, the members of each object in byte order of their names.
-ghost use Rattle.std.specs.Prelude.{◌≡◌, codes, IfOk, option_map};
-ghost use Rattle.serde_json.specs.View.{view};
-ghost use Rattle.tracker_calls.specs.Reply.{reply_text, reply_data, answer_data, create_data, edit_data, tick_data, search_data, refusal_data, form_data, unknown_data, forbidden_data, index_data, permission_name, text_or_null, unfit_data, query_data, limit_data, earlier_data, number_data, natural_or_null, thing_name, limit_name, limit_number};
+ghost use Rattle.std.specs.Prelude.{◌≡◌, [], IfOk, OnOk};
+ghost use Rattle.serde_json.specs.Data.{member, no_members, object};
+ghost use Rattle.serde_json.specs.View.{view, members_view};
+ghost use Rattle.tracker_calls.specs.Reply.{reply_text, reply_data, answer_data, create_data, edit_data, search_data, refusal_data, form_data, unknown_data, forbidden_data, index_data, permission_name, text_or_null, unfit_data, query_data, limit_data, earlier_data, natural_or_null, thing_name, limit_name, limit_number};
 
-use crate::history_json::history_value;
+use crate::history_json::put_history;
+use crate::members_json::{put_number, put_text, put_value};
 use crate::reply::{Answer, Limit, Refusal, Reply, Thing};
-use crate::show_json::{show_value, texts_value};
+use crate::show_json::{put_show, texts_value};
 use field_values::{Memory, Moment, Permission, Text};
-use serde_json::{Value, json};
+use serde_json::{Map, Value};
 use std::alloc::Global;
 
 /// The text of the refusal of a keeper that failed, which is written without memory.
@@ -30,53 +32,85 @@ fn reply_value(alloc: Global, reply: &Reply) -> Result<Value, Memory>
     ensures { IfOk result (λ value. view value ≡ reply_data reply.now) }
 {
     match reply {
-        Reply::Ok(answer) => {
-            let inner = answer_value(alloc, answer)?;
-            Ok(json!(in alloc; {"ok": &inner})?)
-        }
-        Reply::Refused(refusal) => {
-            let inner = refusal_value(alloc, refusal)?;
-            Ok(json!(in alloc; {"refused": &inner})?)
-        }
+        Reply::Ok(answer) => with_one(alloc, "ok", answer_value(alloc, answer)?),
+        Reply::Refused(refusal) => with_one(alloc, "refused", refusal_value(alloc, refusal)?),
     }
+}
+
+// An object with one member.
+fn with_one(alloc: Global, name: &str, value: Value) -> Result<Value, Memory>
+    ensures { IfOk result (λ whole. view whole ≡ object (member name.now (view value) no_members)) }
+{
+    let mut members = Map::new(alloc);
+    put_value(alloc, &mut members, name, value)?;
+    Ok(Value::Object(members))
 }
 
 fn answer_value(alloc: Global, answer: &Answer) -> Result<Value, Memory>
     ensures { IfOk result (λ value. view value ≡ answer_data answer.now) }
+{
+    let mut members = Map::new(alloc);
+    put_answer(alloc, &mut members, answer)?;
+    Ok(Value::Object(members))
+}
+
+// Puts an answer's members where there are none.
+fn put_answer(
+    alloc: Global,
+    members: &mut Map<String, Value>,
+    answer: &Answer,
+) -> Result<(), Memory>
+    requires { members.old.entries ≡ [] }
+    ensures { OnOk result (object (members_view members.new.entries) ≡ answer_data answer.now) }
 {
     match answer {
         Answer::Create {
             already,
             change,
             issue,
-        } => create_value(alloc, *already, *change, issue),
-        Answer::Edit { change, issue } => edit_value(alloc, *change, issue),
-        Answer::Transition { change, issue } => edit_value(alloc, *change, issue),
-        Answer::Tick { moment } => tick_value(alloc, *moment),
+        } => put_create(alloc, members, *already, *change, issue),
+        Answer::Edit { change, issue } => put_edit(alloc, members, *change, issue),
+        Answer::Transition { change, issue } => put_edit(alloc, members, *change, issue),
+        Answer::Tick { moment } => put_number(alloc, members, "moment", moment.seconds()),
         Answer::Show {
             created,
             fields,
             issue,
             updated,
-        } => show_value(alloc, *created, fields, issue, *updated),
-        Answer::History { entries, total } => history_value(alloc, entries.as_slice(), *total),
-        Answer::Search { issues, total } => search_value(alloc, issues.as_slice(), *total),
+        } => put_show(alloc, members, *created, fields, issue, *updated),
+        Answer::History { entries, total } => {
+            put_history(alloc, members, entries.as_slice(), *total)
+        }
+        Answer::Search { issues, total } => put_search(alloc, members, issues.as_slice(), *total),
     }
 }
 
-fn create_value(alloc: Global, already: bool, change: u64, issue: &Text) -> Result<Value, Memory>
-    ensures { IfOk result (λ value. view value ≡ create_data already change issue.now) }
+fn put_create(
+    alloc: Global,
+    members: &mut Map<String, Value>,
+    already: bool,
+    change: u64,
+    issue: &Text,
+) -> Result<(), Memory>
+    requires { members.old.entries ≡ [] }
+    ensures { OnOk result (object (members_view members.new.entries) ≡ create_data already change issue.now) }
 {
-    let issue = issue.as_str();
-    Ok(json!(in alloc; {"already": already, "change": change, "issue": issue})?)
+    put_value(alloc, members, "already", Value::Bool(already))?;
+    put_number(alloc, members, "change", change)?;
+    put_text(alloc, members, "issue", issue.as_str())
 }
 
-fn edit_value(alloc: Global, change: Option<u64>, issue: &Text) -> Result<Value, Memory>
-    ensures { IfOk result (λ value. view value ≡ edit_data change issue.now) }
+fn put_edit(
+    alloc: Global,
+    members: &mut Map<String, Value>,
+    change: Option<u64>,
+    issue: &Text,
+) -> Result<(), Memory>
+    requires { members.old.entries ≡ [] }
+    ensures { OnOk result (object (members_view members.new.entries) ≡ edit_data change issue.now) }
 {
-    let change = number_or_null(change);
-    let issue = issue.as_str();
-    Ok(json!(in alloc; {"change": &change, "issue": issue})?)
+    put_value(alloc, members, "change", number_or_null(change))?;
+    put_text(alloc, members, "issue", issue.as_str())
 }
 
 fn number_or_null(number: Option<u64>) -> Value
@@ -88,65 +122,87 @@ fn number_or_null(number: Option<u64>) -> Value
     }
 }
 
-fn tick_value(alloc: Global, moment: Moment) -> Result<Value, Memory>
-    ensures { IfOk result (λ value. view value ≡ tick_data moment) }
+fn put_search(
+    alloc: Global,
+    members: &mut Map<String, Value>,
+    issues: &[Text],
+    total: u64,
+) -> Result<(), Memory>
+    requires { members.old.entries ≡ [] }
+    ensures { OnOk result (object (members_view members.new.entries) ≡ search_data issues.now total) }
 {
-    let moment = moment.seconds();
-    Ok(json!(in alloc; {"moment": moment})?)
-}
-
-fn search_value(alloc: Global, issues: &[Text], total: u64) -> Result<Value, Memory>
-    ensures { IfOk result (λ value. view value ≡ search_data issues.now total) }
-{
-    let issues = texts_value(alloc, issues)?;
-    Ok(json!(in alloc; {"issues": &issues, "total": total})?)
+    put_value(alloc, members, "issues", texts_value(alloc, issues)?)?;
+    put_number(alloc, members, "total", total)
 }
 
 fn refusal_value(alloc: Global, refusal: &Refusal) -> Result<Value, Memory>
     ensures { IfOk result (λ value. view value ≡ refusal_data refusal.now) }
 {
+    let mut members = Map::new(alloc);
+    put_refusal(alloc, &mut members, refusal)?;
+    Ok(Value::Object(members))
+}
+
+// Puts a refusal's members where there are none.
+fn put_refusal(
+    alloc: Global,
+    members: &mut Map<String, Value>,
+    refusal: &Refusal,
+) -> Result<(), Memory>
+    requires { members.old.entries ≡ [] }
+    ensures { OnOk result (object (members_view members.new.entries) ≡ refusal_data refusal.now) }
+{
     match refusal {
-        Refusal::Form { member } => form_value(alloc, member),
-        Refusal::Unknown { kind, name } => unknown_value(alloc, *kind, name),
+        Refusal::Form { member } => put_form(alloc, members, member),
+        Refusal::Unknown { kind, name } => put_unknown(alloc, members, *kind, name),
         Refusal::Forbidden {
             permission,
             project,
-        } => forbidden_value(alloc, *permission, project),
-        Refusal::Condition { index } => index_value(alloc, 4, *index),
-        Refusal::Validator { index } => index_value(alloc, 5, *index),
-        Refusal::Unfit { field } => unfit_value(alloc, field),
-        Refusal::Query { kind, place } => query_value(alloc, *kind, *place),
-        Refusal::Limit { limit } => limit_value(alloc, *limit),
-        Refusal::Earlier { kept } => earlier_value(alloc, *kept),
-        Refusal::Memory => number_value(alloc, 15),
+        } => put_forbidden(alloc, members, *permission, project),
+        Refusal::Condition { index } => put_index(alloc, members, 4, *index),
+        Refusal::Validator { index } => put_index(alloc, members, 5, *index),
+        Refusal::Unfit { field } => put_unfit(alloc, members, field),
+        Refusal::Query { kind, place } => put_query(alloc, members, *kind, *place),
+        Refusal::Limit { limit } => put_limit(alloc, members, *limit),
+        Refusal::Earlier { kept } => put_earlier(alloc, members, *kept),
+        Refusal::Memory => put_number(alloc, members, "no", 15),
     }
 }
 
-fn form_value(alloc: Global, member: &Text) -> Result<Value, Memory>
-    ensures { IfOk result (λ value. view value ≡ form_data member.now) }
+fn put_form(alloc: Global, members: &mut Map<String, Value>, member: &Text) -> Result<(), Memory>
+    requires { members.old.entries ≡ [] }
+    ensures { OnOk result (object (members_view members.new.entries) ≡ form_data member.now) }
 {
-    let member = member.as_str();
-    Ok(json!(in alloc; {"member": member, "no": 1})?)
+    put_text(alloc, members, "member", member.as_str())?;
+    put_number(alloc, members, "no", 1)
 }
 
-fn unknown_value(alloc: Global, kind: Thing, name: &Text) -> Result<Value, Memory>
-    ensures { IfOk result (λ value. view value ≡ unknown_data kind name.now) }
-{
-    let kind = kind.name();
-    let name = name.as_str();
-    Ok(json!(in alloc; {"kind": kind, "name": name, "no": 2})?)
-}
-
-fn forbidden_value(
+fn put_unknown(
     alloc: Global,
+    members: &mut Map<String, Value>,
+    kind: Thing,
+    name: &Text,
+) -> Result<(), Memory>
+    requires { members.old.entries ≡ [] }
+    ensures { OnOk result (object (members_view members.new.entries) ≡ unknown_data kind name.now) }
+{
+    put_text(alloc, members, "kind", kind.name())?;
+    put_text(alloc, members, "name", name.as_str())?;
+    put_number(alloc, members, "no", 2)
+}
+
+fn put_forbidden(
+    alloc: Global,
+    members: &mut Map<String, Value>,
     permission: Permission,
     project: &Option<Text>,
-) -> Result<Value, Memory>
-    ensures { IfOk result (λ value. view value ≡ forbidden_data permission project.now) }
+) -> Result<(), Memory>
+    requires { members.old.entries ≡ [] }
+    ensures { OnOk result (object (members_view members.new.entries) ≡ forbidden_data permission project.now) }
 {
-    let permission = permission_name(permission);
-    let project = text_or_null(alloc, project)?;
-    Ok(json!(in alloc; {"no": 3, "permission": permission, "project": &project})?)
+    put_number(alloc, members, "no", 3)?;
+    put_text(alloc, members, "permission", permission_name(permission))?;
+    put_value(alloc, members, "project", text_or_null(alloc, project)?)
 }
 
 /// The word by which the setup and a refusal name a permission.
@@ -173,44 +229,56 @@ fn text_or_null(alloc: Global, text: &Option<Text>) -> Result<Value, Memory>
     }
 }
 
-fn index_value(alloc: Global, number: u64, index: usize) -> Result<Value, Memory>
-    ensures { IfOk result (λ value. view value ≡ index_data number index) }
+fn put_index(
+    alloc: Global,
+    members: &mut Map<String, Value>,
+    number: u64,
+    index: usize,
+) -> Result<(), Memory>
+    requires { members.old.entries ≡ [] }
+    ensures { OnOk result (object (members_view members.new.entries) ≡ index_data number index) }
 {
-    Ok(json!(in alloc; {"index": index, "no": number})?)
+    put_number(alloc, members, "index", index as u64)?;
+    put_number(alloc, members, "no", number)
 }
 
-fn unfit_value(alloc: Global, field: &Text) -> Result<Value, Memory>
-    ensures { IfOk result (λ value. view value ≡ unfit_data field.now) }
+fn put_unfit(alloc: Global, members: &mut Map<String, Value>, field: &Text) -> Result<(), Memory>
+    requires { members.old.entries ≡ [] }
+    ensures { OnOk result (object (members_view members.new.entries) ≡ unfit_data field.now) }
 {
-    let field = field.as_str();
-    Ok(json!(in alloc; {"field": field, "no": 6})?)
+    put_text(alloc, members, "field", field.as_str())?;
+    put_number(alloc, members, "no", 6)
 }
 
-fn query_value(alloc: Global, kind: u8, place: usize) -> Result<Value, Memory>
-    ensures { IfOk result (λ value. view value ≡ query_data kind place) }
+fn put_query(
+    alloc: Global,
+    members: &mut Map<String, Value>,
+    kind: u8,
+    place: usize,
+) -> Result<(), Memory>
+    requires { members.old.entries ≡ [] }
+    ensures { OnOk result (object (members_view members.new.entries) ≡ query_data kind place) }
 {
-    Ok(json!(in alloc; {"kind": kind, "no": 7, "place": place})?)
+    put_number(alloc, members, "kind", u64::from(kind))?;
+    put_number(alloc, members, "no", 7)?;
+    put_number(alloc, members, "place", place as u64)
 }
 
-fn limit_value(alloc: Global, limit: Limit) -> Result<Value, Memory>
-    ensures { IfOk result (λ value. view value ≡ limit_data limit) }
+fn put_limit(alloc: Global, members: &mut Map<String, Value>, limit: Limit) -> Result<(), Memory>
+    requires { members.old.entries ≡ [] }
+    ensures { OnOk result (object (members_view members.new.entries) ≡ limit_data limit) }
 {
-    let name = limit.name();
-    let number = limit.number();
-    Ok(json!(in alloc; {"limit": name, "no": 10, "number": number})?)
+    put_text(alloc, members, "limit", limit.name())?;
+    put_number(alloc, members, "no", 10)?;
+    put_number(alloc, members, "number", limit.number())
 }
 
-fn earlier_value(alloc: Global, kept: Moment) -> Result<Value, Memory>
-    ensures { IfOk result (λ value. view value ≡ earlier_data kept) }
+fn put_earlier(alloc: Global, members: &mut Map<String, Value>, kept: Moment) -> Result<(), Memory>
+    requires { members.old.entries ≡ [] }
+    ensures { OnOk result (object (members_view members.new.entries) ≡ earlier_data kept) }
 {
-    let kept = kept.seconds();
-    Ok(json!(in alloc; {"kept": kept, "no": 11})?)
-}
-
-fn number_value(alloc: Global, number: u64) -> Result<Value, Memory>
-    ensures { IfOk result (λ value. view value ≡ number_data number) }
-{
-    Ok(json!(in alloc; {"no": number})?)
+    put_number(alloc, members, "kept", kept.seconds())?;
+    put_number(alloc, members, "no", 11)
 }
 
 impl Thing {
