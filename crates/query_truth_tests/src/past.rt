@@ -1,5 +1,0 @@
-mod ends;
-mod parts;
-mod seconds;
-mod stories;
-mod truths;

@@ -1,5 +1,0 @@
-mod ends;
-mod matrix;
-mod parts;
-mod passing;
-mod truths;

@@ -1,4 +1,0 @@
-mod ends;
-mod listed;
-mod parts;
-mod truths;
