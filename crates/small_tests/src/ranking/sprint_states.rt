@@ -86,12 +86,10 @@ fn made(alloc: Global, sprints: &mut Sprints, name: &str) -> Option<Result<Sprin
     Some(sprints.create(name))
 }
 
-/// Makes a sprint of that number.
+/// Makes a sprint of that number, which is future then.
 fn make(alloc: Global, sprints: &mut Sprints, name: &str, number: u32) -> Option<()> {
-    match made(alloc, sprints, name)? {
-        Ok(sprint) => is(sprint.0 == number),
-        Err(_) => None,
-    }
+    is(made(alloc, sprints, name)? == Ok(SprintNo(number)))?;
+    is(sprints.state(SprintNo(number)) == Some(SprintState::Future))
 }
 
 fn make_two(alloc: Global, sprints: &mut Sprints) -> Option<()> {
