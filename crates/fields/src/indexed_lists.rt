@@ -24,12 +24,13 @@ impl IndexedLists {
         ensures resolutions { IfOk result (λ indexed. indexed.resolutions ≡ lists.resolutions) }
         ensures versions { IfOk result (λ indexed. indexed.versions ≡ lists.versions) }
     {
+        let (users, types, priorities, resolutions, versions) = lists.into_names();
         Ok(IndexedLists {
-            users: IndexedNames::of(alloc, lists.users)?,
-            types: IndexedNames::of(alloc, lists.types)?,
-            priorities: IndexedNames::of(alloc, lists.priorities)?,
-            resolutions: IndexedNames::of(alloc, lists.resolutions)?,
-            versions: IndexedNames::of(alloc, lists.versions)?,
+            users: IndexedNames::of(alloc, users)?,
+            types: IndexedNames::of(alloc, types)?,
+            priorities: IndexedNames::of(alloc, priorities)?,
+            resolutions: IndexedNames::of(alloc, resolutions)?,
+            versions: IndexedNames::of(alloc, versions)?,
         })
     }
 }

@@ -19,17 +19,14 @@ use field_values::text::Text;
 use field_values::words::Weekday;
 use name_index::IndexedNames;
 use relative_dates::Calendar;
-use setup_drafts::draft::Draft;
 use setup_drafts::fault::SetupFault;
 use setup_reading::built_in_text::BUILT_IN;
 use setup_reading::reading::{Reading, read_text};
-use setup_reading::tied::Tied;
 use std::alloc::Global;
 use std::str;
 
 /// Who and what the tracker knows, and who may do what: one field for each key of the text that was read. Lists and
 /// tables stand in the text's order.
-#[derive(Drop)]
 pub struct Setup {
     /// The text that was read.
     pub text: Text,
@@ -83,6 +80,34 @@ pub struct Setup {
     pub ghost sound: { IsSound (record { utc_offset_minutes = utc_offset_minutes; week_starts = week_starts; rebalancer = rebalancer; users = users; types = types; priorities = priorities; resolutions = resolutions; versions = versions; first_status = first_status; plan = plan; administer = administer; group = group; project = project; status = status; transition = transition; field = field; offset = offset }) },
 }
 
+// Written by hand, so that whoever lets one go makes one call, and its proof takes one step there.
+impl Drop for Setup {
+    fn drop(self) {
+        let Setup {
+            text: _,
+            utc_offset_minutes: _,
+            week_starts: _,
+            rebalancer: _,
+            users: _,
+            types: _,
+            priorities: _,
+            resolutions: _,
+            versions: _,
+            first_status: _,
+            plan: _,
+            administer: _,
+            group: _,
+            project: _,
+            status: _,
+            transition: _,
+            field: _,
+            offset: _,
+            table_names: _,
+            calendar: _,
+        } = self;
+    }
+}
+
 impl Setup {
     ghost use Rattle.std.specs.Prelude.{IfOk, IfErr, IsUtf8, codes};
     ghost use Rattle.setup_drafts.specs.Drafts.{IsSmall};
@@ -128,25 +153,17 @@ impl Setup {
         ensures text { IfOk result (λ setup. setup.text ≡ text.now) }
     {
         let text = Text::copy_of(alloc, text)?;
-        let Reading { draft, numbers } = reading;
-        let Draft {
-            head,
-            lists,
-            rights: _rights,
-            tables,
-            steps,
-        } = draft;
-        let Tied {
-            rights,
-            tables: tied,
-        } = numbers;
         let table_names = TableNames::of(
             alloc,
-            tables.statuses.as_slice(),
-            tables.fields.as_slice(),
-            &tied,
+            reading.draft.tables.statuses.as_slice(),
+            reading.draft.tables.fields.as_slice(),
+            &reading.numbers.tables,
         )?;
+        let (draft, numbers) = reading.into_parts();
+        let (head, lists, tables, steps) = draft.into_parts();
         let lists = IndexedLists::of(alloc, lists)?;
+        let (statuses, fields) = tables.into_statuses_and_fields();
+        let (rights, tied) = numbers.into_parts();
         Ok(Setup {
             text,
             utc_offset_minutes: head.utc_offset_minutes,
@@ -162,9 +179,9 @@ impl Setup {
             administer: rights.administer,
             group: tied.groups,
             project: tied.projects,
-            status: tables.statuses,
+            status: statuses,
             transition: tied.transitions,
-            field: tables.fields,
+            field: fields,
             offset: steps.offsets,
             table_names,
             calendar: steps.calendar,

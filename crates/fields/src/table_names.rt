@@ -13,7 +13,6 @@ use setup_reading::tied::TiedTables;
 use std::alloc::Global;
 
 /// The names of what the tables hold, in the tables' order, and the options of each field.
-#[derive(Drop)]
 pub(crate) struct TableNames {
     pub(crate) statuses: IndexedNames,
     pub(crate) groups: IndexedNames,
@@ -21,6 +20,20 @@ pub(crate) struct TableNames {
     pub(crate) transitions: IndexedNames,
     pub(crate) fields: IndexedNames,
     pub(crate) options: Sequence<IndexedNames>,
+}
+
+// Written by hand, so that whoever lets one go makes one call, and its proof takes one step there.
+impl Drop for TableNames {
+    fn drop(self) {
+        let TableNames {
+            statuses: _,
+            groups: _,
+            projects: _,
+            transitions: _,
+            fields: _,
+            options: _,
+        } = self;
+    }
 }
 
 impl TableNames {
