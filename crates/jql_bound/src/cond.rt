@@ -15,9 +15,15 @@ pub enum Cond {
 }
 
 /// A query that is tied to a setup.
-#[derive(Drop)]
 pub struct Bound {
     /// The condition; a query without one holds of every issue.
     pub cond: Option<Cond>,
     pub order: OrderBy,
+}
+
+// Written by hand, so that whoever lets one go makes one call, and its proof takes one step there.
+impl Drop for Bound {
+    fn drop(self) {
+        let Bound { cond: _, order: _ } = self;
+    }
 }

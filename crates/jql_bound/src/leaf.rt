@@ -27,11 +27,17 @@ pub enum Inequality {
 }
 
 /// A word that is looked for in a text.
-#[derive(Drop)]
 pub struct Word {
     pub text: Text,
     /// Whether it may be the beginning of a word.
     pub prefix: bool,
+}
+
+// Written by hand, so that whoever lets one go makes one call, and its proof takes one step there.
+impl Drop for Word {
+    fn drop(self) {
+        let Word { text: _, prefix: _ } = self;
+    }
 }
 
 /// What is asked of the field.
@@ -52,8 +58,17 @@ pub enum Operator {
 
 /// A present comparison: of what, and what is asked of it. The category of a status is asked of the field status, by the
 /// statuses of the category.
-#[derive(Drop)]
 pub struct Leaf {
     pub subject: Subject,
     pub operator: Operator,
+}
+
+// Written by hand, so that whoever lets one go makes one call, and its proof takes one step there.
+impl Drop for Leaf {
+    fn drop(self) {
+        let Leaf {
+            subject: _,
+            operator: _,
+        } = self;
+    }
 }

@@ -3,7 +3,6 @@ use field_values::{ChoiceNo, GroupNo, Sequence, SprintNo, Text, UserNo};
 use relative_dates::Term;
 
 /// What a field is compared with. It stands for one value, or for several that it names together.
-#[derive(Drop)]
 pub enum Operand {
     /// That there is no value.
     Empty,
@@ -26,4 +25,24 @@ pub enum Operand {
     Project(Text),
     /// An issue's key.
     Issue(Text),
+}
+
+// Written by hand, so that whoever lets one go makes one call, and its proof takes one step there.
+impl Drop for Operand {
+    fn drop(self) {
+        match self {
+            Operand::Empty
+            | Operand::Choice(_)
+            | Operand::Statuses(_)
+            | Operand::User(_)
+            | Operand::MembersOf(_)
+            | Operand::Label(_)
+            | Operand::Number(_)
+            | Operand::Date(_)
+            | Operand::Sprint(_)
+            | Operand::SprintsIn(_)
+            | Operand::Project(_)
+            | Operand::Issue(_) => {}
+        }
+    }
 }

@@ -29,10 +29,18 @@ pub enum Value {
 }
 
 /// What a field is compared with.
-#[derive(Drop)]
 pub enum Item {
     Value(Value),
     Empty,
+}
+
+// Written by hand, so that whoever lets one go makes one call, and its proof takes one step there.
+impl Drop for Item {
+    fn drop(self) {
+        match self {
+            Item::Value(_) | Item::Empty => {}
+        }
+    }
 }
 
 /// What stands behind IN: a list of items, in a query at least one, or a call.
@@ -50,7 +58,6 @@ pub enum Choice {
 }
 
 /// What is asked of a change's moment or its author.
-#[derive(Drop)]
 pub enum Predicate {
     After(Value),
     Before(Value),
@@ -59,12 +66,33 @@ pub enum Predicate {
     By(Choice),
 }
 
+// Written by hand, so that whoever lets one go makes one call, and its proof takes one step there.
+impl Drop for Predicate {
+    fn drop(self) {
+        match self {
+            Predicate::After(_)
+            | Predicate::Before(_)
+            | Predicate::On(_)
+            | Predicate::During(_, _)
+            | Predicate::By(_) => {}
+        }
+    }
+}
+
 /// What is asked of a change.
-#[derive(Drop)]
 pub enum Aspect {
     Predicate(Predicate),
     From(Choice),
     To(Choice),
+}
+
+// Written by hand, so that whoever lets one go makes one call, and its proof takes one step there.
+impl Drop for Aspect {
+    fn drop(self) {
+        match self {
+            Aspect::Predicate(_) | Aspect::From(_) | Aspect::To(_) => {}
+        }
+    }
 }
 
 /// The signs of comparisons that EMPTY has no place in.
@@ -119,18 +147,36 @@ pub enum Direction {
 }
 
 /// A field that issues are sorted by.
-#[derive(Drop)]
 pub struct SortKey {
     pub field: Field,
     pub direction: Direction,
 }
 
+// Written by hand, so that whoever lets one go makes one call, and its proof takes one step there.
+impl Drop for SortKey {
+    fn drop(self) {
+        let SortKey {
+            field: _,
+            direction: _,
+        } = self;
+    }
+}
+
 /// A query: its condition, where it has one, and its sort keys. Only `parse` makes one, and it is what some text says.
-#[derive(Drop)]
 pub struct Query {
     // In a box, so that little is done where a query is let go.
     condition: Option<Box<Expr>>,
     order: Sequence<SortKey>,
+}
+
+// Written by hand, so that whoever lets one go makes one call, and its proof takes one step there.
+impl Drop for Query {
+    fn drop(self) {
+        let Query {
+            condition: _,
+            order: _,
+        } = self;
+    }
 }
 
 impl Model for Query {
