@@ -22,10 +22,18 @@ pub struct Call {
 }
 
 /// A text or a call. A date is one too, and in a query its text is a date literal or a period.
-#[derive(Drop)]
 pub enum Value {
     Text(Text),
     Call(Call),
+}
+
+// Written by hand, so that whoever lets one go makes one call, and its proof takes one step there.
+impl Drop for Value {
+    fn drop(self) {
+        match self {
+            Value::Text(_) | Value::Call(_) => {}
+        }
+    }
 }
 
 /// What a field is compared with.
