@@ -18,6 +18,8 @@ mod rows;
 mod section;
 mod setups;
 
+ghost use Rattle.std.specs.Prelude.{◌≡◌, ◌<◌};
+
 use field_values::Steps;
 use section::Section;
 use std::alloc::Global;
@@ -25,8 +27,6 @@ use std::io::{self, BufRead, BufReader, Write};
 use std::marker::Brand;
 use std::process::ExitCode;
 use std::sync::ledger::{Blank, Ledger};
-
-ghost use Rattle.std.specs.Prelude.{◌≡◌, ◌<◌};
 
 fn main(rt: HostRuntime) -> ExitCode {
     match play::<Brand>(&rt, Blank::new(1)) {

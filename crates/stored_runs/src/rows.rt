@@ -14,11 +14,10 @@ mod row;
 mod setting;
 mod story;
 
-pub use setting::Setting;
-
 use answer::answer_to;
 use fault::Fault;
 use field_values::Steps;
+pub use setting::Setting;
 use std::alloc::Global;
 use std::str;
 use std::sync::ledger::Ledger;
