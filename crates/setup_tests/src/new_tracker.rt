@@ -330,5 +330,5 @@ fn fault_of(alloc: Global, bytes: &[u8]) -> Option<SetupFault> {
 #[test]
 fn bytes_that_are_no_text(rt: HostRuntime) {
     let fault = fault_of(rt.alloc(), &[0x75, 0xff, 0x0a]);
-    assert!(rt; matches!(fault, Some(SetupFault::BadToml)));
+    assert!(rt; matches!(&fault, Some(SetupFault::BadToml)));
 }

@@ -8,6 +8,7 @@
 //! - `times FILE`: as `lines`, but a line is a number, a tab, and request lines with tabs between them: these are made in turn, so many
 //!   times, and the last reply is told. It shows what comes at the limits.
 //! - `rows FILE`: each line is a query about an issue with its history. See `rows`.
+//! - `lists FILE`: each line has issues, and a query that lists them. See `rows`.
 //! - `setup`: each line is a list of edits of the text of a new tracker's setup. See `setups`.
 //!
 //! Lines before the first section, lines that begin one, and, but under `check`, lines that are empty or begin with `#` are copied.

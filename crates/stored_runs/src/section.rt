@@ -1,7 +1,7 @@
 // The sections of a stored run.
 use crate::put_line;
 use crate::requests::{last_reply, reply_to_line};
-use crate::rows::{Setting, row_reply};
+use crate::rows::{Setting, list_reply, row_reply};
 use crate::setups::setup_reply;
 use field_values::Steps;
 use fields::Setup;
@@ -20,6 +20,7 @@ pub enum Section {
     Lines(Box<Desk>),
     Times(Box<Desk>),
     Rows(Box<Setting>),
+    Lists(Box<Setting>),
     Setup,
 }
 
@@ -33,6 +34,7 @@ impl Section {
             "lines" => Some(Section::Lines(desk_by(rt, alloc, file)?)),
             "times" => Some(Section::Times(desk_by(rt, alloc, file)?)),
             "rows" => Some(Section::Rows(setting_by(rt, alloc, file)?)),
+            "lists" => Some(Section::Lists(setting_by(rt, alloc, file)?)),
             "setup" => Some(Section::Setup),
             _ => None,
         }
@@ -67,6 +69,7 @@ impl Section {
             Section::Lines(desk) => reply_to_line(alloc, desk, line, steps),
             Section::Times(desk) => last_reply(alloc, desk, line, steps),
             Section::Rows(setting) => row_reply(alloc, setting, line, steps),
+            Section::Lists(setting) => list_reply(alloc, setting, line),
             Section::Setup => setup_reply(alloc, line),
             Section::Before | Section::Check => String::from_utf8_lossy(alloc, line).ok(),
         }

@@ -21,16 +21,17 @@ pub fn setup_reply(alloc: Global, line: &[u8]) -> Option<String> {
 fn reading(alloc: Global, text: &str) -> Option<String> {
     match Setup::read(alloc, text.as_bytes()) {
         Ok(_) => String::from_str(alloc, "none").ok(),
-        Err(SetupFault::Memory) => None,
-        Err(fault) => told(alloc, &fault).ok(),
+        Err(fault) => told(alloc, &fault),
     }
 }
 
-fn told(alloc: Global, fault: &SetupFault) -> Result<String, AllocError> {
+// `None` where there was not enough memory.
+fn told(alloc: Global, fault: &SetupFault) -> Option<String> {
     let kind = fault.kind();
     match fault.name() {
-        Some(name) => format!(in alloc; "{kind} {name}"),
-        None => format!(in alloc; "{kind}"),
+        Some(name) => format!(in alloc; "{kind} {name}").ok(),
+        None if kind == 0 => None,
+        None => format!(in alloc; "{kind}").ok(),
     }
 }
 

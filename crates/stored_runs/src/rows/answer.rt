@@ -57,7 +57,7 @@ pub fn answer_to<L: Ledger>(
     let Some(row) = row_of(line) else {
         return Err(Fault::NoRow);
     };
-    let issue = issue_of(alloc, &setting.setup, row.key, row.story)?;
+    let issue = issue_of(alloc, &setting.setup, 1, row.key, row.story)?;
     answer_of(alloc, setting, row, &issue, steps)
 }
 
@@ -78,8 +78,8 @@ fn answer_of<L: Ledger>(
     Ok(asked(&query, issue, &setting.context, at, steps))
 }
 
-// What the text asks for when that user asks it.
-fn query_of(alloc: Global, setup: &Setup, caller: UserNo, text: &str) -> Result<Bound, Fault> {
+/// What the text asks for when that user asks it.
+pub fn query_of(alloc: Global, setup: &Setup, caller: UserNo, text: &str) -> Result<Bound, Fault> {
     let query = parse(alloc, text)?;
     Ok(bind(alloc, &query, setup, caller)?)
 }

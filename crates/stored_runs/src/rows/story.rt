@@ -12,14 +12,20 @@ use fields::Setup;
 use std::alloc::Global;
 use workflow::net_changes;
 
-/// The issue of that key, by the steps of its history.
-pub fn issue_of(alloc: Global, setup: &Setup, key: &str, story: &str) -> Result<Issue, Fault> {
+/// The issue of that number and key, by the steps of its history.
+pub fn issue_of(
+    alloc: Global,
+    setup: &Setup,
+    no: u32,
+    key: &str,
+    story: &str,
+) -> Result<Issue, Fault> {
     match story.split_once(" | ") {
         Some((first, steps)) => {
-            let issue = opened(alloc, setup, key, first)?;
+            let issue = opened(alloc, setup, no, key, first)?;
             with_steps(alloc, setup, issue, steps)
         }
-        None => opened(alloc, setup, key, story),
+        None => opened(alloc, setup, no, key, story),
     }
 }
 
@@ -37,17 +43,18 @@ fn make_all(alloc: Global, setup: &Setup, issue: &mut Issue, steps: &str) -> Res
     Ok(())
 }
 
-fn opened(alloc: Global, setup: &Setup, key: &str, text: &str) -> Result<Issue, Fault> {
+fn opened(alloc: Global, setup: &Setup, no: u32, key: &str, text: &str) -> Result<Issue, Fault> {
     let Some(step) = step_of(text) else {
         return Err(Fault::NoRow);
     };
     let values = changes_of(alloc, setup, step.values)?;
-    open(alloc, setup, key, step, values)
+    open(alloc, setup, no, key, step, values)
 }
 
 fn open(
     alloc: Global,
     setup: &Setup,
+    no: u32,
     key: &str,
     step: Step<'_>,
     values: Changes,
@@ -55,7 +62,7 @@ fn open(
     let key = key_of(alloc, key)?;
     let at = moment_of(step.at)?;
     let author = user_of(setup, step.user)?;
-    Ok(Issue::open(alloc, IssueNo(1), key, 1, at, author, values)?)
+    Ok(Issue::open(alloc, IssueNo(no), key, 1, at, author, values)?)
 }
 
 fn changes_of(alloc: Global, setup: &Setup, values: &str) -> Result<Changes, Fault> {
