@@ -12,8 +12,6 @@ mod rule;
 mod split;
 mod steps;
 mod tell;
-#[cfg(test)]
-mod tests;
 mod turn;
 mod view;
 

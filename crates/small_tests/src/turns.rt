@@ -1,7 +1,7 @@
 ghost use Rattle.std.specs.Prelude.{◌≡◌, ◌<◌, ◌+◌, ◌==◌, IfOk, vec_len};
 ghost use Rattle.desk_turn.specs.Passes.{IsPassOf, caller_of, left_of};
 
-use crate::{Entry, Kept, Memory, Pass, Turn};
+use desk_turn::{Entry, Kept, Memory, Pass, Turn};
 use std::alloc::Global;
 use std::sync::Wait;
 use std::test::Fail;
