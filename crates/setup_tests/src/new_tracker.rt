@@ -8,96 +8,78 @@ use setup_drafts::fault::SetupFault;
 use setup_reading::built_in_text::BUILT_IN;
 use std::alloc::Global;
 
-/// A field's name, a text, and the text of the value that it stands for there, which is empty for the value Empty. `None` where it
-/// stands for none.
-const VALUES: [(&str, &str, Option<&str>); 67] = [
-    ("type", "bug", Some("Bug")),
-    ("type", "Epic", None),
-    ("type", "", None),
-    ("summary", "Fix login", Some("Fix login")),
+/// A field's name, a text, and the text of the value that it stands for there, which is empty for the value Empty. `!` stands for
+/// none.
+const VALUES: &str = r#"type | bug | Bug
+type | Epic | !
+type |  | !
+summary | Fix login | Fix login
+summary |  | !
+status | in progress | In Progress
+assignee | ANNA | anna
+assignee | zed | !
+reporter | Root | root
+priority | LOW | Low
+resolution | fixed | Fixed
+resolution | Unresolved | !
+fixVersion | ["1.1","1.0","1.1"] | ["1.0","1.1"]
+fixVersion |  [ "1.1" ]  | ["1.1"]
+fixVersion | ["2.0"] | !
+fixVersion | 1.0 | !
+fixVersion | [1.0] | !
+fixVersion | [] | 
+labels | ["b","a","b"] | ["a","b"]
+labels | ["B","a"] | ["B","a"]
+labels | ["a b"] | !
+labels | [""] | !
+labels | ["0123456789012345678901234567890123456789012345678901234567890123"] | ["0123456789012345678901234567890123456789012345678901234567890123"]
+labels | ["01234567890123456789012345678901234567890123456789012345678901234"] | !
+labels | ["a","a","a","a","a","a","a","a","a","a","a","a","a","a","a","a"] | ["a"]
+labels | ["a","a","a","a","a","a","a","a","a","a","a","a","a","a","a","a","a"] | !
+labels | [] | 
+due | 2024-02-29 | 2024-02-29
+due | 2023-02-29 | !
+due | 2000-02-29 | 2000-02-29
+due | 1970-01-01 | 1970-01-01
+due | 1969-12-31 | !
+due | 2099-12-31 | 2099-12-31
+due | 2100-01-01 | !
+due | 2024-4-01 | !
+due | 2024/04/01 | !
+due | 2024-13-01 | !
+due | 2024-00-10 | !
+due | 2024-04-31 | !
+points | 007.50 | 7.5
+points | 5 | 5
+points | -0 | 0
+points | 0.000 | 0
+points | -1 | !
+points | +1 | !
+points | 1.2345 | !
+points | 1. | !
+points | .5 | !
+points |  | !
+points | - | !
+points | 1.2.3 | !
+points | 1234567890 | !
+points | 0000000001 | !
+points | 999999999.999 | 999999999.999
+points | 0.05 | 0.05
+points | 0.005 | 0.005
+points | 10.020 | 10.02
+sprint | 12 | 12
+sprint | 0 | 0
+sprint | 012 | !
+sprint | 4294967295 | 4294967295
+sprint | 4294967296 | !
+nothing | x | !"#;
+
+/// The same of texts of several lines, and of texts with a tab.
+const LONGER_VALUES: [(&str, &str, Option<&str>); 4] = [
     ("summary", "two\nlines", None),
     ("summary", "a\ttab", None),
-    ("summary", "", None),
     ("description", "two\nlines", Some("two\nlines")),
     ("description", "a\ttab", Some("a\ttab")),
-    ("status", "in progress", Some("In Progress")),
-    ("assignee", "ANNA", Some("anna")),
-    ("assignee", "zed", None),
-    ("reporter", "Root", Some("root")),
-    ("priority", "LOW", Some("Low")),
-    ("resolution", "fixed", Some("Fixed")),
-    ("resolution", "Unresolved", None),
-    (
-        "fixVersion",
-        "[\"1.1\",\"1.0\",\"1.1\"]",
-        Some("[\"1.0\",\"1.1\"]"),
-    ),
-    ("fixVersion", " [ \"1.1\" ] ", Some("[\"1.1\"]")),
-    ("fixVersion", "[\"2.0\"]", None),
-    ("fixVersion", "1.0", None),
-    ("fixVersion", "[1.0]", None),
-    ("fixVersion", "[]", Some("")),
-    ("labels", "[\"b\",\"a\",\"b\"]", Some("[\"a\",\"b\"]")),
-    ("labels", "[\"B\",\"a\"]", Some("[\"B\",\"a\"]")),
-    ("labels", "[\"a b\"]", None),
-    ("labels", "[\"\"]", None),
-    (
-        "labels",
-        "[\"0123456789012345678901234567890123456789012345678901234567890123\"]",
-        Some("[\"0123456789012345678901234567890123456789012345678901234567890123\"]"),
-    ),
-    (
-        "labels",
-        "[\"01234567890123456789012345678901234567890123456789012345678901234\"]",
-        None,
-    ),
-    (
-        "labels",
-        "[\"a\",\"a\",\"a\",\"a\",\"a\",\"a\",\"a\",\"a\",\"a\",\"a\",\"a\",\"a\",\"a\",\"a\",\"a\",\"a\"]",
-        Some("[\"a\"]"),
-    ),
-    (
-        "labels",
-        "[\"a\",\"a\",\"a\",\"a\",\"a\",\"a\",\"a\",\"a\",\"a\",\"a\",\"a\",\"a\",\"a\",\"a\",\"a\",\"a\",\"a\"]",
-        None,
-    ),
-    ("labels", "[]", Some("")),
-    ("due", "2024-02-29", Some("2024-02-29")),
-    ("due", "2023-02-29", None),
-    ("due", "2000-02-29", Some("2000-02-29")),
-    ("due", "1970-01-01", Some("1970-01-01")),
-    ("due", "1969-12-31", None),
-    ("due", "2099-12-31", Some("2099-12-31")),
-    ("due", "2100-01-01", None),
-    ("due", "2024-4-01", None),
-    ("due", "2024/04/01", None),
-    ("due", "2024-13-01", None),
-    ("due", "2024-00-10", None),
-    ("due", "2024-04-31", None),
-    ("points", "007.50", Some("7.5")),
-    ("points", "5", Some("5")),
-    ("points", "-0", Some("0")),
-    ("points", "0.000", Some("0")),
-    ("points", "-1", None),
-    ("points", "+1", None),
-    ("points", "1.2345", None),
-    ("points", "1.", None),
-    ("points", ".5", None),
-    ("points", "", None),
-    ("points", "-", None),
-    ("points", "1.2.3", None),
-    ("points", "1234567890", None),
-    ("points", "0000000001", None),
-    ("points", "999999999.999", Some("999999999.999")),
-    ("points", "0.05", Some("0.05")),
-    ("points", "0.005", Some("0.005")),
-    ("points", "10.020", Some("10.02")),
-    ("sprint", "12", Some("12")),
-    ("sprint", "0", Some("0")),
-    ("sprint", "012", None),
-    ("sprint", "4294967295", Some("4294967295")),
-    ("sprint", "4294967296", None),
-    ("nothing", "x", None),
 ];
 
 /// Whether the text stands for that value in the field; a name of no field stands for a number that none has.
@@ -113,8 +95,24 @@ fn is_value(alloc: Global, setup: &Setup, name: &str, text: &str, wanted: Option
     }
 }
 
+fn reads_value(alloc: Global, setup: &Setup, row: &str) -> Option<bool> {
+    let (name, rest) = row.split_once(" | ")?;
+    let (text, wanted) = rest.split_once(" | ")?;
+    let wanted = if wanted == "!" { None } else { Some(wanted) };
+    Some(is_value(alloc, setup, name, text, wanted))
+}
+
 fn reads_values(alloc: Global, setup: &Setup) -> bool {
-    for &(name, text, wanted) in &VALUES {
+    for row in VALUES.split('\n') {
+        if reads_value(alloc, setup, row) != Some(true) {
+            return false;
+        }
+    }
+    true
+}
+
+fn reads_longer_values(alloc: Global, setup: &Setup) -> bool {
+    for &(name, text, wanted) in &LONGER_VALUES {
         if !is_value(alloc, setup, name, text, wanted) {
             return false;
         }
@@ -301,6 +299,7 @@ fn new_tracker(alloc: Global) -> Option<Box<Setup>> {
 
 fn is_as_built_in(alloc: Global, setup: &mut Setup) -> bool {
     reads_values(alloc, setup)
+        && reads_longer_values(alloc, setup)
         && tells_what_fits(setup)
         && finds_names(setup, &NAMES)
         && gives_leave(setup, &LEAVES)
