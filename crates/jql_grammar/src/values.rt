@@ -68,8 +68,8 @@ fn number_operand(
 ) -> Result<Option<Operand>, Memory>
     ensures { IfOk result (λ x. x ≡ number_operand (scope_of binder.now) field.0 text.now) }
 {
-    match binder.setup.value_of(binder.alloc, field, text)? {
-        Some(Value::Number(number)) => Ok(Some(Operand::Number(number))),
+    match &binder.setup.value_of(binder.alloc, field, text)? {
+        Some(Value::Number(number)) => Ok(Some(Operand::Number(*number))),
         _ => Ok(None),
     }
 }

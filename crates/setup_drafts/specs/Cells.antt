@@ -1,5 +1,5 @@
 -- The checks of one key, in order: is it missing, is its value bad, are there too many, is one doubled.
-use Rattle.std.specs.Prelude.{ℕ, ◌≤◌, List, [], length, Bool, true, false, not, Option, Some, None, option_map, option_and_then, unwrap_or, ℤ, pos, int_le, ◌&&◌, is_some, nat_lt, codes}
+use Rattle.std.specs.Prelude.{ℕ, ◌≤◌, List, [], length, Bool, false, not, Option, Some, None, option_map, option_and_then, unwrap_or, ℤ, pos, int_le, ◌&&◌, is_some, nat_lt}
 use Rattle.std.specs.List.{list_all}
 use Rattle.std.specs.Option.{option_map_or, option_or}
 use Rattle.toml.specs.Data.{Data, Members, as_str, as_integer}

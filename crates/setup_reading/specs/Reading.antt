@@ -1,5 +1,5 @@
 -- What a setup's text says: its first fault, and where it has none, the setup.
-use Rattle.std.specs.Prelude.{◌≡◌, ◌≢◌, ℕ, List, [], ◌∷◌, map, Option, Some, None, IsUtf8, ℤ, Result, Ok, Err}
+use Rattle.std.specs.Prelude.{◌≡◌, ◌≢◌, ℕ, List, [], ◌∷◌, map, Option, Some, None, IsUtf8, Result, Ok, Err}
 use Rattle.std.specs.Option.{option_map_or}
 use Rattle.toml.specs.Data.{Members}
 use Rattle.toml.specs.Parse.{parse_document}
@@ -7,7 +7,6 @@ use Rattle.setup_drafts.specs.declared.fault.SetupFault.{SetupFault}
 use Rattle.setup_drafts.specs.declared.fault.SetupFault.TheVariants.{BadToml, Memory}
 use Rattle.setup_drafts.specs.declared.draft.Draft.{Draft}
 use Rattle.setup_reading.specs.declared.tied.Tied.{Tied}
-use Rattle.field_values.specs.declared.parts.Group.{Group}
 use Rattle.field_values.specs.Parts.{Parts}
 use Rattle.setup_drafts.specs.Faults.{first_of}
 use Rattle.setup_drafts.specs.Drafts.{draft_fault, draft_of}

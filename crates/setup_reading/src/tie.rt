@@ -1,6 +1,6 @@
 // Names of the setup, tied to what they name.
-ghost use Rattle.std.specs.Prelude.{◌≡◌, ◌≤◌, length, map, IfOk};
-ghost use Rattle.setup_drafts.specs.Faults.{Answers, Tells};
+ghost use Rattle.std.specs.Prelude.{◌≡◌, ◌≤◌, [], ◌∷◌, length, map, IfOk, OnOk};
+ghost use Rattle.setup_drafts.specs.Faults.{Answers, Tells, first_of};
 ghost use Rattle.setup_reading.specs.Ties.{first_over, unknown, user_in, choice_in, group_in, members_in, group_unknown, group_tied, project_unknown, project_tied};
 
 use field_forms::name_form::{is_among, place_of};
@@ -133,6 +133,36 @@ pub(crate) fn tie_groups(
     Ok(groups)
 }
 
+/// Ties the names of the groups that have each permission.
+fn tie_permissions(
+    alloc: Global,
+    groups: &[Text],
+    draft: &ProjectDraft,
+    project: &mut Project,
+) -> Result<(), SetupFault>
+    requires { length groups.now ≤ 65_534 }
+    ensures told { Tells (first_of (first_over (unknown groups.now) draft.now.browse
+        ∷ first_over (unknown groups.now) draft.now.create
+        ∷ first_over (unknown groups.now) draft.now.edit
+        ∷ first_over (unknown groups.now) draft.now.transition
+        ∷ first_over (unknown groups.now) draft.now.rank
+        ∷ [])) result }
+    ensures tied { OnOk result (project.new ≡ record project.old {
+      browse = map (group_in groups.now) draft.now.browse;
+      create = map (group_in groups.now) draft.now.create;
+      edit = map (group_in groups.now) draft.now.edit;
+      transition = map (group_in groups.now) draft.now.transition;
+      rank = map (group_in groups.now) draft.now.rank;
+    }) }
+{
+    project.browse = groups_in(alloc, groups, draft.browse.as_slice())?;
+    project.create = groups_in(alloc, groups, draft.create.as_slice())?;
+    project.edit = groups_in(alloc, groups, draft.edit.as_slice())?;
+    project.transition = groups_in(alloc, groups, draft.transition.as_slice())?;
+    project.rank = groups_in(alloc, groups, draft.rank.as_slice())?;
+    Ok(())
+}
+
 #[tactic(auto, unfolding(crate::specs::Ties::project_unknown, crate::specs::Ties::project_tied))]
 fn tie_project(
     alloc: Global,
@@ -146,20 +176,17 @@ fn tie_project(
         (project_tied users.now groups.now draft.now) result }
 {
     let lead = user_in(alloc, users, draft.lead.as_str())?;
-    let browse = groups_in(alloc, groups, draft.browse.as_slice())?;
-    let create = groups_in(alloc, groups, draft.create.as_slice())?;
-    let edit = groups_in(alloc, groups, draft.edit.as_slice())?;
-    let transition = groups_in(alloc, groups, draft.transition.as_slice())?;
-    let rank = groups_in(alloc, groups, draft.rank.as_slice())?;
-    Ok(Project {
+    let mut project = Project {
         key: draft.key.copy(alloc)?,
         lead,
-        browse,
-        create,
-        edit,
-        transition,
-        rank,
-    })
+        browse: Sequence::new(alloc),
+        create: Sequence::new(alloc),
+        edit: Sequence::new(alloc),
+        transition: Sequence::new(alloc),
+        rank: Sequence::new(alloc),
+    };
+    tie_permissions(alloc, groups, draft, &mut project)?;
+    Ok(project)
 }
 
 /// The projects with the numbers of their leads and groups.

@@ -1,7 +1,7 @@
 // Transitions of the setup with their rules.
-ghost use Rattle.std.specs.Prelude.{◌≡◌, ◌≤◌, length, map, IfOk};
+ghost use Rattle.std.specs.Prelude.{◌≡◌, ◌≤◌, [], ◌∷◌, length, map, IfOk, OnOk};
 ghost use Rattle.std.specs.List.{filter_map};
-ghost use Rattle.setup_drafts.specs.Faults.{Answers};
+ghost use Rattle.setup_drafts.specs.Faults.{Answers, Tells, first_of};
 ghost use Rattle.field_forms.specs.Known.{names_of, AreFew};
 ghost use Rattle.field_forms.specs.Rules.{condition_of, validator_of, post_of};
 ghost use Rattle.setup_reading.specs.Ties.{first_over, no_rule, transition_unknown, transition_tied};
@@ -74,6 +74,30 @@ fn post_functions_of(
     Ok(rules)
 }
 
+/// Reads the rules that the draft states.
+fn tie_rules(
+    alloc: Global,
+    known: &Known<'_>,
+    draft: &TransitionDraft,
+    transition: &mut Transition,
+) -> Result<(), SetupFault>
+    requires { AreFew (names_of known.now) }
+    ensures told { Tells (first_of (first_over (no_rule (condition_of (names_of known.now))) draft.now.conditions
+        ∷ first_over (no_rule (validator_of (names_of known.now))) draft.now.validators
+        ∷ first_over (no_rule (post_of (names_of known.now))) draft.now.post
+        ∷ [])) result }
+    ensures tied { OnOk result (transition.new ≡ record transition.old {
+      conditions = filter_map (condition_of (names_of known.now)) draft.now.conditions;
+      validators = filter_map (validator_of (names_of known.now)) draft.now.validators;
+      post = filter_map (post_of (names_of known.now)) draft.now.post;
+    }) }
+{
+    transition.conditions = conditions_of(alloc, known, draft.conditions.as_slice())?;
+    transition.validators = validators_of(alloc, known, draft.validators.as_slice())?;
+    transition.post = post_functions_of(alloc, known, draft.post.as_slice())?;
+    Ok(())
+}
+
 #[tactic(auto, unfolding(crate::specs::Ties::transition_unknown, crate::specs::Ties::transition_tied))]
 fn tie_transition(
     alloc: Global,
@@ -86,17 +110,16 @@ fn tie_transition(
 {
     let from = choices_in(alloc, known.statuses, draft.from.as_slice())?;
     let to = choice_in(alloc, known.statuses, draft.to.as_str())?;
-    let conditions = conditions_of(alloc, known, draft.conditions.as_slice())?;
-    let validators = validators_of(alloc, known, draft.validators.as_slice())?;
-    let post = post_functions_of(alloc, known, draft.post.as_slice())?;
-    Ok(Transition {
+    let mut transition = Transition {
         name: draft.name.copy(alloc)?,
         from,
         to,
-        conditions,
-        validators,
-        post,
-    })
+        conditions: Sequence::new(alloc),
+        validators: Sequence::new(alloc),
+        post: Sequence::new(alloc),
+    };
+    tie_rules(alloc, known, draft, &mut transition)?;
+    Ok(transition)
 }
 
 /// The transitions with the numbers of their statuses and with their rules.

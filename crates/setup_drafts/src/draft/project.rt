@@ -1,8 +1,10 @@
-ghost use Rattle.std.specs.Prelude.{◌≡◌, [], length, map, IfOk};
+ghost use Rattle.std.specs.Prelude.{◌≡◌, [], ◌∷◌, length, map, IfOk, OnOk, codes};
+ghost use Rattle.toml.specs.Data.{get_member};
 ghost use Rattle.toml.specs.View.{table_view};
-ghost use Rattle.setup_drafts.specs.Faults.{Answers};
+ghost use Rattle.setup_drafts.specs.Cells.{names_in};
+ghost use Rattle.setup_drafts.specs.Faults.{Answers, Tells, first_of};
 ghost use Rattle.setup_drafts.specs.Entries.{entries_fault, with_name};
-ghost use Rattle.setup_drafts.specs.Projects.{project_fault, project_draft};
+ghost use Rattle.setup_drafts.specs.Projects.{groups_fault, project_fault, project_draft};
 
 use crate::cell::{names_at, new_name_at, put_copy, text_at};
 use crate::fault::SetupFault;
@@ -39,6 +41,36 @@ impl Drop for ProjectDraft {
     }
 }
 
+/// Reads into the draft which groups have each permission.
+fn read_permissions(
+    alloc: Global,
+    entry: &Table,
+    project: &mut ProjectDraft,
+) -> Result<(), SetupFault>
+    ensures told { let e = table_view entry.now in
+        Tells (first_of (groups_fault (codes "browse") e
+        ∷ groups_fault (codes "create") e
+        ∷ groups_fault (codes "edit") e
+        ∷ groups_fault (codes "transition") e
+        ∷ groups_fault (codes "rank") e
+        ∷ [])) result }
+    ensures read { let e = table_view entry.now in
+        OnOk result (project.new ≡ record project.old {
+          browse = names_in (get_member (codes "browse") e);
+          create = names_in (get_member (codes "create") e);
+          edit = names_in (get_member (codes "edit") e);
+          transition = names_in (get_member (codes "transition") e);
+          rank = names_in (get_member (codes "rank") e);
+        }) }
+{
+    project.browse = names_at(alloc, entry, "browse", NameForm::AnyText, 0, None)?;
+    project.create = names_at(alloc, entry, "create", NameForm::AnyText, 0, None)?;
+    project.edit = names_at(alloc, entry, "edit", NameForm::AnyText, 0, None)?;
+    project.transition = names_at(alloc, entry, "transition", NameForm::AnyText, 0, None)?;
+    project.rank = names_at(alloc, entry, "rank", NameForm::AnyText, 0, None)?;
+    Ok(())
+}
+
 #[tactic(auto, unfolding(crate::specs::Projects::project_fault, crate::specs::Projects::project_draft))]
 fn read_project(alloc: Global, entry: &Table, earlier: &[Text]) -> Result<ProjectDraft, SetupFault>
     ensures { Answers (project_fault earlier.now (table_view entry.now))
@@ -55,11 +87,7 @@ fn read_project(alloc: Global, entry: &Table, earlier: &[Text]) -> Result<Projec
         transition: Names::new(alloc),
         rank: Names::new(alloc),
     };
-    project.browse = names_at(alloc, entry, "browse", NameForm::AnyText, 0, None)?;
-    project.create = names_at(alloc, entry, "create", NameForm::AnyText, 0, None)?;
-    project.edit = names_at(alloc, entry, "edit", NameForm::AnyText, 0, None)?;
-    project.transition = names_at(alloc, entry, "transition", NameForm::AnyText, 0, None)?;
-    project.rank = names_at(alloc, entry, "rank", NameForm::AnyText, 0, None)?;
+    read_permissions(alloc, entry, &mut project)?;
     Ok(project)
 }
 
