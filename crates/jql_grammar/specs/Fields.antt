@@ -18,6 +18,15 @@ is_named name other = str_eq_ignore_ascii_case name other
 abbrev pub held : ℕ → SortField
 held n = TheSubject (Held (record { 0 = n }))
 
+-- those of them that name a moment, the category of a status or the rank
+unfoldable pub later_named : List ℕ → Option SortField
+later_named name =
+    if is_named name (codes "created") then Some (TheSubject Created)
+    else (if is_named name (codes "updated") then Some (TheSubject Updated)
+    else (if is_named name (codes "statusCategory") then Some StatusCategory
+    else (if is_named name (codes "rank") then Some Rank
+    else None)))
+
 -- second names of fields, and fields that follow from the rest of an issue
 unfoldable pub other_named : List ℕ → Option SortField
 other_named name =
@@ -25,11 +34,7 @@ other_named name =
     else (if is_named name (codes "duedate") then Some (held 11)
     else (if is_named name (codes "project") then Some (TheSubject Project)
     else (if is_named name (codes "key") || (is_named name (codes "issue") || is_named name (codes "issuekey")) then Some (TheSubject Key)
-    else (if is_named name (codes "created") then Some (TheSubject Created)
-    else (if is_named name (codes "updated") then Some (TheSubject Updated)
-    else (if is_named name (codes "statusCategory") then Some StatusCategory
-    else (if is_named name (codes "rank") then Some Rank
-    else None)))))))
+    else later_named name)))
 
 -- the field that a query names, by its name or, as one of the setup's own, by its number
 abbrev pub field_in : List OwnField → Field → Option SortField

@@ -47,6 +47,9 @@ pub fn bind(alloc: Global, query: &Query, setup: &Setup, caller: UserNo) -> Resu
             cond,
             order: OrderBy { keys },
         }),
-        Err(fault) => Err(fault),
+        Err(fault) => {
+            drop(cond);
+            Err(fault)
+        }
     }
 }

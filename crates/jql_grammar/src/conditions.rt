@@ -39,14 +39,13 @@ fn bind_leaf(
     ensures next { IfOk result (λ x. x.1 ≡ place + 1) }
     ensures err { IfErr result (Tells (condition_in (scope_of binder.now) place (push denied (single leaf.now)))) }
 {
-    let cond = match leaf_asked(binder, denied, leaf) {
-        Ok(cond) => cond,
-        Err(stop) => return Err(fault_at(place, stop)),
-    };
     let Some(next) = place.checked_add(1) else {
         return Err(BindFault::Memory);
     };
-    Ok((cond, next))
+    match leaf_asked(binder, denied, leaf) {
+        Ok(cond) => Ok((cond, next)),
+        Err(stop) => Err(fault_at(place, stop)),
+    }
 }
 
 // All of several conditions, or any of them.

@@ -1,7 +1,7 @@
 // The fields that a query may name.
 ghost use Rattle.std.specs.Prelude.{◌≡◌, ◌||◌, option_map, codes};
 ghost use Rattle.field_forms.specs.Known.{own_field};
-ghost use Rattle.jql_grammar.specs.Fields.{is_named, held, other_named, field_in};
+ghost use Rattle.jql_grammar.specs.Fields.{is_named, held, other_named, later_named, field_in};
 
 use fields::{Field as OwnField, FieldNo, Setup};
 use jql_bound::{SortField, Subject};
@@ -39,7 +39,16 @@ fn other_named(name: &str) -> Option<SortField>
         Some(SortField::Subject(Subject::Project))
     } else if names_key(name) {
         Some(SortField::Subject(Subject::Key))
-    } else if is_named(name, "created") {
+    } else {
+        later_named(name)
+    }
+}
+
+#[tactic(auto, unfolding(crate::specs::Fields::later_named))]
+fn later_named(name: &str) -> Option<SortField>
+    ensures { result ≡ later_named name.now }
+{
+    if is_named(name, "created") {
         Some(SortField::Subject(Subject::Created))
     } else if is_named(name, "updated") {
         Some(SortField::Subject(Subject::Updated))

@@ -59,8 +59,8 @@ pub(crate) fn was_in(
         return Err(Stop::At(Kind::OperatorNotForField));
     };
     let operand = item_in(binder, column.kind, item)?;
-    let predicates = predicates_in(binder, predicates)?;
     let operands = alone(binder.alloc, operand)?;
+    let predicates = predicates_in(binder, predicates)?;
     Ok(past_leaf(field, was_values(holds, operands), predicates))
 }
 

@@ -30,7 +30,7 @@ fn equal_to(alloc: Global, holds: bool, operand: Operand) -> Result<Operator, St
     ensures ok { IfOk result (λ x. x ≡ equal_to holds operand) }
     ensures err { IfErr result (λ stop. stop ≡ Stop.Memory) }
 {
-    if let Operand::Empty = operand {
+    if let Operand::Empty = &operand {
         return Ok(emptiness(holds));
     }
     let operands = alone(alloc, operand)?;

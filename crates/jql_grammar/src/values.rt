@@ -4,7 +4,7 @@ ghost use Rattle.fields.specs.SetupParts.{parts};
 ghost use Rattle.relative_dates.specs.Reading.{read_term};
 ghost use Rattle.jql_grammar.specs.Steps.{Stops, some_or};
 ghost use Rattle.jql_grammar.specs.Scope.{scope_of};
-ghost use Rattle.jql_grammar.specs.Values.{choice_in, resolution_in, user_in, label_in, number_operand, sprint_in, issue_in, project_in, statuses_of, category_in, value_in};
+ghost use Rattle.jql_grammar.specs.Values.{choice_in, resolution_in, user_in, label_in, number_or_none, number_operand, sprint_in, issue_in, project_in, statuses_of, category_in, value_in};
 
 use crate::column::ValueKind;
 use crate::digits::number_in;
@@ -54,10 +54,22 @@ fn label_in(binder: &Binder<'_>, text: &str) -> Result<Option<Operand>, Memory>
 {
     let mut labels = Names::new(binder.alloc);
     labels.push(Text::copy_of(binder.alloc, text)?)?;
-    if binder.setup.fits(FieldNo(10), &Value::Labels(labels)) {
+    let value = Value::Labels(labels);
+    let fits = binder.setup.fits(FieldNo(10), &value);
+    drop(value);
+    if fits {
         Ok(Some(Operand::Label(Text::copy_of(binder.alloc, text)?)))
     } else {
         Ok(None)
+    }
+}
+
+fn number_or_none(value: &Option<Value>) -> Option<Operand>
+    ensures { result ≡ number_or_none value.now }
+{
+    match value {
+        Some(Value::Number(number)) => Some(Operand::Number(*number)),
+        _ => None,
     }
 }
 
@@ -68,10 +80,10 @@ fn number_operand(
 ) -> Result<Option<Operand>, Memory>
     ensures { IfOk result (λ x. x ≡ number_operand (scope_of binder.now) field.0 text.now) }
 {
-    match &binder.setup.value_of(binder.alloc, field, text)? {
-        Some(Value::Number(number)) => Ok(Some(Operand::Number(*number))),
-        _ => Ok(None),
-    }
+    let value = binder.setup.value_of(binder.alloc, field, text)?;
+    let operand = number_or_none(&value);
+    drop(value);
+    Ok(operand)
 }
 
 fn sprint_in(text: &str) -> Option<Operand>
