@@ -130,30 +130,46 @@ fn prepare(
     ensures bytes { IfOk result (λ new. new.bytes ≡ history_bytes new.issue.history) }
     ensures light { IfOk result (λ new. new.bytes ≤ 10_000_000) }
 {
-    let issue_key = next_key(alloc, state, project)?;
-    let key = String::from_str(alloc, issue_key.as_str())?;
-    let counts = state.counts_with(alloc, key.as_str())?;
     let opening = filled(alloc, changes.as_slice())?;
     let Some(bytes) = bytes_of_changes(opening.as_slice()) else {
         return Err(Memory);
     };
-    let no = IssueNo(state.issue_count() as u32 + 1);
-    let change = state.next_change();
-    let issue = Issue::open(
-        alloc,
-        no,
-        issue_key,
-        change,
-        state.moment(),
-        caller,
-        opening,
-    )?;
+    let issue = opened(alloc, state, caller, project, opening)?;
+    let (key, counts) = counted(alloc, state, issue.key().as_str())?;
     Ok(NewIssue {
         issue,
         key,
         counts,
         bytes,
     })
+}
+
+// The issue with these values.
+fn opened(
+    alloc: Global,
+    state: &State,
+    caller: UserNo,
+    project: ProjectNo,
+    opening: Changes,
+) -> Result<Issue, Memory>
+    requires few { length state.now.machine.histories < 50_000 }
+    requires there { project.0 < length state.now.machine.setup.project }
+    ensures { IfOk result (λ issue. issue.history ≡ opened state.now.machine caller.0 (name_at (project_keys state.now.machine.setup) project.0) opening) }
+{
+    let key = next_key(alloc, state, project)?;
+    let no = IssueNo(state.issue_count() as u32 + 1);
+    let change = state.next_change();
+    Issue::open(alloc, no, key, change, state.moment(), caller, opening)
+}
+
+// The text of an issue's key, and how many issues each project has with it.
+fn counted(alloc: Global, state: &State, key: &str) -> Result<(String, Vec<u32>), Memory>
+    ensures key { IfOk result (λ r. string_bytes r.0 ≡ key.now) }
+    ensures counts { IfOk result (λ r. r.1.items ≡ with_key (counts_of state.now.machine.setup.project state.now.machine.histories) state.now.machine.setup.project key.now) }
+{
+    let counts = state.counts_with(alloc, key)?;
+    let key = String::from_str(alloc, key)?;
+    Ok((key, counts))
 }
 
 // The key of the project's next issue.

@@ -46,7 +46,9 @@ pub fn search<L: Ledger>(
         Ok(bound) => bound,
         Err(refusal) => return Reply::Refused(refusal),
     };
-    match told(alloc, state, caller, &bound, part, steps) {
+    let answer = told(alloc, state, caller, &bound, part, steps);
+    drop(bound);
+    match answer {
         Ok(answer) => Reply::Ok(answer),
         Err(_) => Reply::Refused(Refusal::Memory),
     }
@@ -73,12 +75,14 @@ fn refusal_of(fault: JqlFault) -> Refusal
     }
 }
 
-// The query tied to the setup; it ends here.
+// The query tied to the setup; it ends here, before what came of it is looked at.
 fn tied(alloc: Global, setup: &Setup, caller: UserNo, query: Query) -> Result<Bound, Refusal>
     ensures query { IfOk result (λ bound. bound_or_fault (bound_in (scope_in setup.now caller) (option_map tree query.0) query.1) ≡ Ok (query_of bound)) }
     ensures fault { IfErr result (Faults (bound_or_fault (bound_in (scope_in setup.now caller) (option_map tree query.0) query.1))) }
 {
-    match bind(alloc, &query, setup, caller) {
+    let tied = bind(alloc, &query, setup, caller);
+    drop(query);
+    match tied {
         Ok(bound) => Ok(bound),
         Err(BindFault::Bad { place, kind }) => Err(Refusal::Query { kind, place }),
         Err(BindFault::Memory) => Err(Refusal::Memory),

@@ -16,20 +16,27 @@ pub struct Setting {
 }
 
 impl Setting {
-    /// The setup with its groups and its calendar as queries ask of them. There are no sprints yet.
-    #[tactic(auto, using(crate::proofs::Surrounding::members_in_order))]
+    /// The setup with its groups and its calendar as queries ask of them.
     pub fn of(alloc: Global, setup: Setup) -> Result<Setting, Memory>
         ensures { IfOk result (λ setting. parts setting.setup ≡ parts setup) }
     {
-        let members = members_of(alloc, setup.group.as_slice())?;
-        let calendar = setup.calendar().copy(alloc)?;
-        let context = Context {
-            sprints: Vec::new(alloc),
-            members,
-            calendar,
-        };
+        let context = context_of(alloc, &setup)?;
         Ok(Setting { setup, context })
     }
+}
+
+// What queries ask of the setup. There are no sprints yet.
+#[tactic(auto, using(crate::proofs::Surrounding::members_in_order))]
+fn context_of(alloc: Global, setup: &Setup) -> Result<Context, Memory>
+    ensures { IfOk result (λ context. surroundings_of context ≡ surroundings_in (parts setup.now)) }
+{
+    let members = members_of(alloc, setup.group.as_slice())?;
+    let calendar = setup.calendar().copy(alloc)?;
+    Ok(Context {
+        sprints: Vec::new(alloc),
+        members,
+        calendar,
+    })
 }
 
 // The users of each group.
