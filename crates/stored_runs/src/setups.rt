@@ -72,10 +72,9 @@ const LETTERS: [&str; 26] = [
 // The part so many times, each with its number and letter.
 fn repeated(alloc: Global, count: u32, part: &str) -> Result<String, AllocError> {
     let mut text = String::new(alloc);
-    let mut letters = LETTERS.iter().cycle();
-    for number in 1..=count {
-        let letter = letters.next().copied().unwrap_or("");
-        let piece = piece(alloc, part, number, letter)?;
+    for before in 0..count {
+        let letter = LETTERS[(before % 26) as usize];
+        let piece = piece(alloc, part, before + 1, letter)?;
         text.push_str(piece.as_str())?;
     }
     Ok(text)

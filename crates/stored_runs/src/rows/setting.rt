@@ -1,5 +1,5 @@
 // What rows go by.
-ghost use Rattle.std.specs.Prelude.{◌≡◌, IfOk};
+ghost use Rattle.std.specs.Prelude.{◌≡◌, map, IfOk};
 
 use field_values::{Group, Memory, Sequence, UserNo};
 use fields::Setup;
@@ -25,6 +25,7 @@ impl Setting {
 }
 
 // What queries ask of beside issues, with sprints.
+#[tactic(auto, using(tracker_core::proofs::Surrounding::members_in_order))]
 fn context_of(alloc: Global, setup: &Setup) -> Result<Context, Memory> {
     let members = members_of(alloc, setup.group.as_slice())?;
     let calendar = setup.calendar().copy(alloc)?;
@@ -44,7 +45,9 @@ fn sprints(alloc: Global) -> Result<Vec<Phase>, Memory> {
 }
 
 // The users of each group.
-fn members_of(alloc: Global, groups: &[Group]) -> Result<Vec<Sequence<UserNo>>, Memory> {
+fn members_of(alloc: Global, groups: &[Group]) -> Result<Vec<Sequence<UserNo>>, Memory>
+    ensures { IfOk result (λ members. members.items ≡ map (λ g. g.members) groups.now) }
+{
     let mut members = Vec::new(alloc);
     for group in groups {
         members.push(copy_of(alloc, group.members.as_slice())?)?;
@@ -52,7 +55,9 @@ fn members_of(alloc: Global, groups: &[Group]) -> Result<Vec<Sequence<UserNo>>, 
     Ok(members)
 }
 
-fn copy_of(alloc: Global, users: &[UserNo]) -> Result<Sequence<UserNo>, Memory> {
+fn copy_of(alloc: Global, users: &[UserNo]) -> Result<Sequence<UserNo>, Memory>
+    ensures { IfOk result (λ copy. copy ≡ users.now) }
+{
     let mut copy = Sequence::new(alloc);
     for user in users {
         copy.push(*user)?;
