@@ -45,9 +45,10 @@ def look(seen):
         try:
             fields = read(f'/proc/{pid}/stat').rsplit(b')', 1)[1].split()
             key = pid, fields[19]
-            if key not in seen:
-                seen[key] = [place_of(pid), 0]
-            seen[key][1] = int(fields[11]) + int(fields[12])
+            found = seen.setdefault(key, [None, 0])
+            # (a process may have been seen before it became the prover)
+            found[0] = found[0] or place_of(pid)
+            found[1] = int(fields[11]) + int(fields[12])
         except OSError:
             continue
 
