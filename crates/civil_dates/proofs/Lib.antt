@@ -1,4 +1,3 @@
-pub mod Digits
 pub mod Counting
 pub mod Parts
 pub mod Texts

@@ -7,7 +7,8 @@ use Rattle.jiff_core.specs.Calendar.{days_from_civil, days_in_month}
 use Rattle.jiff_core.proofs.CalendarLemmas.{days_in_month_bounds}
 use Rattle.civil_dates.specs.Days.{is_day, year_of, month_of, day_of_month}
 use Rattle.civil_dates.specs.DateText.{text_of_date, date_text}
-use Rattle.civil_dates.specs.Reading.{is_digit, part_of, day_by, has_date_form, day_of}
+use Rattle.field_values.specs.Digits.{is_digit}
+use Rattle.civil_dates.specs.Reading.{part_of, day_by, has_date_form, day_of}
 use Rattle.civil_dates.proofs.Parts.{both_true, IsDateOf, date_is, date_in_range, parts_are}
 
 digit_is : (n : ℕ) → n < 10 → is_digit (48 + n) ≡ true

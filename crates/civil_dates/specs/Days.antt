@@ -1,10 +1,11 @@
 -- The year, the month and the day of the month of a day, by counting. A day is a number of days since 1970-01-01.
 use Rattle.std.specs.Prelude.{ℕ, zero, suc, ◌+◌, Bool, ◌&&◌, if◌then◌else◌, ℤ, pos, ◌-ℤ◌, int_le, unsigned_abs}
+use Rattle.field_values.specs.Years.{last_day}
 use Rattle.jiff_core.specs.Calendar.{days_from_civil}
 
 -- 1970-01-01 to 2099-12-31
 abbrev pub is_day : ℤ → Bool
-is_day day = int_le (pos 0) day && int_le day (pos 47_481)
+is_day day = int_le (pos 0) day && int_le day last_day
 
 -- how many of the numbers from 1 to n pass a test
 unfoldable pub count_up_to : ℕ → (ℕ → Bool) → ℕ

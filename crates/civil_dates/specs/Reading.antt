@@ -1,18 +1,10 @@
 -- The day that a text writes: four digits, a hyphen, two digits, a hyphen and two digits, of a day that the calendar has.
-use Rattle.std.specs.Prelude.{ℕ, ◌+◌, ◌-◌, ◌*◌, ◌==◌, Bool, ◌&&◌, List, [], ◌∷◌, length, take, drop, slice_index, Option, Some, None, if◌then◌else◌, ℤ, pos}
+use Rattle.std.specs.Prelude.{ℕ, ◌==◌, Bool, ◌&&◌, List, length, take, drop, slice_index, Option, Some, None, if◌then◌else◌, ℤ, pos}
 use Rattle.std.specs.List.{list_all}
 use Rattle.std.specs.Int.{is_in_range}
+use Rattle.field_values.specs.Digits.{is_digit, read_on}
 use Rattle.jiff_core.specs.Calendar.{days_in_month, days_from_civil}
 use Rattle.civil_dates.specs.DateText.{hyphen}
-
--- the codes of `0` to `9`
-abbrev pub is_digit : ℕ → Bool
-is_digit b = is_in_range 48 57 b
-
--- the number that digits write, after those of n
-abbrev pub read_on : ℕ → List ℕ → ℕ
-read_on n [] = n
-read_on n (digit ∷ digits) = read_on (10 * n + (digit - 48)) digits
 
 -- the number that so many digits from a place on write
 abbrev pub part_of : ℕ → ℕ → List ℕ → Option ℕ

@@ -1,31 +1,10 @@
 //! Reading the text of a day.
-ghost use Rattle.std.specs.Prelude.{◌≡◌, ◌≤◌, ◌<◌, ◌+◌, ◌^◌, length, true, IfSome};
-ghost use Rattle.std.specs.List.{list_all};
-ghost use Rattle.civil_dates.specs.Reading.{is_digit, read_on, part_of, day_by, has_date_form, day_of};
+ghost use Rattle.std.specs.Prelude.{◌≡◌, ◌≤◌, ◌+◌, length, true, IfSome};
+ghost use Rattle.civil_dates.specs.Reading.{part_of, day_by, has_date_form, day_of};
 ghost use Rattle.civil_dates.specs.Days.{is_day};
 
+use field_values::digits::{are_digits, value_of_digits};
 use jiff_core::civil::{Date, days_in_month};
-
-fn are_digits(bytes: &[u8]) -> bool
-    ensures { result ≡ list_all is_digit bytes.now }
-{
-    bytes.iter().all(|byte| b'0' <= *byte && *byte <= b'9')
-}
-
-/// The number that at most four digits write.
-#[tactic(auto, using(crate::proofs::Digits::digit_at, crate::proofs::Digits::next_power, crate::proofs::Digits::read_next))]
-fn value_of_digits(digits: &[u8]) -> u16
-    requires few { length digits.now ≤ 4 }
-    requires digits { list_all is_digit digits.now ≡ true }
-    ensures value { result ≡ read_on 0 digits.now }
-    ensures small { result < 10 ^ length digits.now }
-{
-    let mut value = 0u16;
-    for digit in digits {
-        value = 10 * value + u16::from(*digit - b'0');
-    }
-    value
-}
 
 /// The number that so many digits from a place on write.
 fn part_of(from: usize, count: usize, text: &[u8]) -> Option<u16>
@@ -38,7 +17,7 @@ fn part_of(from: usize, count: usize, text: &[u8]) -> Option<u16>
     if !are_digits(digits) {
         return None;
     }
-    Some(value_of_digits(digits))
+    Some(value_of_digits(digits) as u16)
 }
 
 /// The day of a year, a month and a day of the month, if the calendar has it.

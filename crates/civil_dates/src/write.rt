@@ -32,19 +32,18 @@ fn push_four_digits(text: &mut String, number: u16) -> Result<(), AllocError>
     push_two_digits(text, (number % 100) as u8)
 }
 
-fn text_of_date(alloc: Global, year: u16, month: u8, day: u8) -> Result<String, AllocError>
+/// Writes a date behind a text.
+fn push_date(text: &mut String, year: u16, month: u8, day: u8) -> Result<(), AllocError>
     requires year { year < 10_000 }
     requires month { month < 100 }
     requires day { day < 100 }
-    ensures { IfOk result (λ s. string_bytes s ≡ text_of_date year month day) }
+    ensures { OnOk result (string_bytes text.new ≡ string_bytes text.old ++ text_of_date year month day) }
 {
-    let mut text = String::with_capacity(alloc, 10)?;
-    push_four_digits(&mut text, year)?;
+    push_four_digits(text, year)?;
     text.push('-')?;
-    push_two_digits(&mut text, month)?;
+    push_two_digits(text, month)?;
     text.push('-')?;
-    push_two_digits(&mut text, day)?;
-    Ok(text)
+    push_two_digits(text, day)
 }
 
 /// The date of a day.
@@ -58,12 +57,22 @@ fn date_of(day: i32) -> Date
     Date::from_days_since_min((day + 4_371_587) as u32)
 }
 
-/// The text of a day, as yyyy-MM-dd.
+/// Writes the text of a day, ten bytes as yyyy-MM-dd, behind a text.
 #[tactic(auto, unfolding(crate::specs::DateText::date_text))]
+pub fn push_date_text(text: &mut String, day: i32) -> Result<(), AllocError>
+    requires { is_day day ≡ true }
+    ensures { OnOk result (string_bytes text.new ≡ string_bytes text.old ++ date_text day) }
+{
+    let date = date_of(day);
+    push_date(text, date.year as u16, date.month, date.day)
+}
+
+/// The text of a day, as yyyy-MM-dd.
 pub fn date_text(alloc: Global, day: i32) -> Result<String, AllocError>
     requires { is_day day ≡ true }
     ensures { IfOk result (λ text. string_bytes text ≡ date_text day) }
 {
-    let date = date_of(day);
-    text_of_date(alloc, date.year as u16, date.month, date.day)
+    let mut text = String::with_capacity(alloc, 10)?;
+    push_date_text(&mut text, day)?;
+    Ok(text)
 }

@@ -10,6 +10,7 @@ use Rattle.std.proofs.lemmas.List.Quantifiers.{position-Some}
 use Rattle.field_values.specs.declared.field.Field.{Field}
 use Rattle.field_values.specs.declared.words.FieldKind.{FieldKind}
 use Rattle.field_values.specs.declared.words.FieldKind.TheVariants as kind
+use Rattle.field_values.specs.declared.numbers.TheConstants.FieldNo as number
 use Rattle.field_values.specs.declared.numbers.ChoiceNo.{ChoiceNo}
 use Rattle.field_values.specs.declared.value.Value.{Value}
 use Rattle.field_values.specs.declared.value.Value.TheVariants.{Empty, Text as TextValue, Number as NumberValue, Choice as ChoiceValue, User as UserValue, Date as DateValue, Set as SetValue, Labels as LabelsValue, Sprint as SprintValue}
@@ -19,8 +20,8 @@ use Rattle.field_forms.specs.Names.{is_among, place_named}
 use Rattle.field_forms.specs.Numbers.{number_of, is_number}
 use Rattle.civil_dates.specs.Reading.{day_of}
 use Rattle.field_forms.specs.TextLists.{texts_in}
-use Rattle.field_forms.specs.Values.{is_line, is_prose, is_label, is_label_list, are_labels, with_labels, labels_value, chosen, set_value, is_set, sprint_of, value_in, has_form}
-use Rattle.field_forms.specs.Known.{Names, form_by, form_of, choices_of, value_of, may_be_empty, fits_form, fits}
+use Rattle.field_forms.specs.Values.{is_line, is_prose, is_label, is_label_list, are_labels, with_labels, labels_value, chosen, set_value, is_set, sprint_of, value_in, listed_in, is_of_form}
+use Rattle.field_forms.specs.Known.{Names, form_by, form_of, choices_of, value_of, listed_value_of, may_be_empty, fits_form, fits}
 use Rattle.field_forms.proofs.Sizes.{written_number}
 use Rattle.civil_dates.proofs.Texts.{read_is_text}
 use Rattle.field_forms.proofs.Labels.{all_in_order, all_short}
@@ -32,12 +33,12 @@ may_stand_for_nothing Labels = true
 may_stand_for_nothing _ = false
 
 -- it has the form, or is empty where that may be
-abbrev pub has_form_or_nothing : Form → List (List ℕ) → Value → Bool
-has_form_or_nothing form names Empty = may_stand_for_nothing form
-has_form_or_nothing form names value = has_form form names value
+abbrev pub is_of_form_or_nothing : Form → List (List ℕ) → Value → Bool
+is_of_form_or_nothing form names Empty = may_stand_for_nothing form
+is_of_form_or_nothing form names value = is_of_form form names value
 
 -- the first of the choices, if there is one, is not before a place
-starts_at : ℕ → List ChoiceNo → Bool
+unfoldable pub starts_at : ℕ → List ChoiceNo → Bool
 starts_at place [] = true
 starts_at place (choice ∷ choices) = nat_le place choice.0
 
@@ -70,11 +71,11 @@ chosen_inside count place (name ∷ names) texts sum =
       | inr other ↦ rw other rest
     ]
 
-set_fits : (names : List (List ℕ)) (choices : List ChoiceNo) → is_set (length names) choices ≡ true → has_form_or_nothing Set names (set_value choices) ≡ true
+set_fits : (names : List (List ℕ)) (choices : List ChoiceNo) → is_set (length names) choices ≡ true → is_of_form_or_nothing Set names (set_value choices) ≡ true
 set_fits names [] inside = refl
 set_fits names (choice ∷ choices) inside = grind (arith, inside)
 
-labels_fit : (names labels : List (List ℕ)) → is_label_list labels ≡ true → length labels ≤ 16 → has_form_or_nothing Labels names (labels_value labels) ≡ true
+labels_fit : (names labels : List (List ℕ)) → is_label_list labels ≡ true → length labels ≤ 16 → is_of_form_or_nothing Labels names (labels_value labels) ≡ true
 labels_fit names [] ordered short = refl
 labels_fit names (label ∷ labels) ordered short = grind (arith, ordered, short)
 
@@ -84,10 +85,10 @@ named_inside names name place e =
     found.0
 
 -- the same of a value that is the same
-same_formed : (form : Form) (names : List (List ℕ)) (v value : Value) → v ≡ value → has_form_or_nothing form names v ≡ true → has_form_or_nothing form names value ≡ true
-same_formed form names v value same h = subst (λ (x : Value). has_form_or_nothing form names x ≡ true) same h
+same_formed : (form : Form) (names : List (List ℕ)) (v value : Value) → v ≡ value → is_of_form_or_nothing form names v ≡ true → is_of_form_or_nothing form names value ≡ true
+same_formed form names v value same h = subst (λ (x : Value). is_of_form_or_nothing form names x ≡ true) same h
 
-points_fit : (names : List (List ℕ)) (number : Option ℤ) (value : Value) → ((z : ℤ) → number ≡ Some z → is_number z ≡ true) → option_and_then (λ z. if int_le (pos 0) z then Some (NumberValue z) else None) number ≡ Some value → has_form_or_nothing Points names value ≡ true
+points_fit : (names : List (List ℕ)) (number : Option ℤ) (value : Value) → ((z : ℤ) → number ≡ Some z → is_number z ≡ true) → option_and_then (λ z. if int_le (pos 0) z then Some (NumberValue z) else None) number ≡ Some value → is_of_form_or_nothing Points names value ≡ true
 points_fit names None value known e = absurd (cc)
 points_fit names (Some z) value known e = elim (cases_Bool (int_le (pos 0) z)) [
   | inl from_zero ↦
@@ -96,14 +97,14 @@ points_fit names (Some z) value known e = elim (cases_Bool (int_le (pos 0) z)) [
   | inr negative ↦ absurd (grind (arith, negative, e))
 ]
 
-set_read : (names : List (List ℕ)) (texts : Option (List (List ℕ))) (value : Value) → option_and_then (λ ts. if list_all (is_among names) ts then Some (set_value (chosen 0 names ts)) else None) texts ≡ Some value → has_form_or_nothing Set names value ≡ true
+set_read : (names : List (List ℕ)) (texts : Option (List (List ℕ))) (value : Value) → option_and_then (λ ts. if list_all (is_among names) ts then Some (set_value (chosen 0 names ts)) else None) texts ≡ Some value → is_of_form_or_nothing Set names value ≡ true
 set_read names None value e = absurd (cc)
 set_read names (Some texts) value e = elim (cases_Bool (list_all (is_among names) texts)) [
   | inl known ↦ same_formed Set names (set_value (chosen 0 names texts)) value (grind (arith, known, e)) (set_fits names (chosen 0 names texts) (chosen_inside (length names) 0 names texts (omega arith)))
   | inr other ↦ absurd (grind (arith, other, e))
 ]
 
-labels_read : (names : List (List ℕ)) (texts : Option (List (List ℕ))) (value : Value) → option_and_then (λ ts. if are_labels ts then Some (labels_value (with_labels [] ts)) else None) texts ≡ Some value → has_form_or_nothing Labels names value ≡ true
+labels_read : (names : List (List ℕ)) (texts : Option (List (List ℕ))) (value : Value) → option_and_then (λ ts. if are_labels ts then Some (labels_value (with_labels [] ts)) else None) texts ≡ Some value → is_of_form_or_nothing Labels names value ≡ true
 labels_read names None value e = absurd (cc)
 labels_read names (Some texts) value e = elim (cases_Bool (are_labels texts)) [
   | inl formed ↦
@@ -121,7 +122,7 @@ module _ {X : Type 0} (make : X → Value) where
   made (Some y) value e x s = cc
 
 -- what a text of a form stands for has the form
-pub read_formed : (form : Form) (names : List (List ℕ)) (text : List ℕ) (value : Value) → value_in form names text ≡ Some value → has_form_or_nothing form names value ≡ true
+pub read_formed : (form : Form) (names : List (List ℕ)) (text : List ℕ) (value : Value) → value_in form names text ≡ Some value → is_of_form_or_nothing form names value ≡ true
 unfolding value_in
 read_formed (Line most) names text value e = elim (cases_Bool (is_line most text)) [
   | inl formed ↦ same_formed (Line most) names (TextValue text) value (grind (arith, formed, e)) formed
@@ -132,18 +133,18 @@ read_formed (Prose most) names text value e = elim (cases_Bool (is_prose most te
   | inr other ↦ absurd (grind (arith, other, e))
 ]
 read_formed Number names text value e = by_number (number_of text) refl e where
-  by_number : (number : Option ℤ) → number_of text ≡ number → option_map NumberValue number ≡ Some value → has_form_or_nothing Number names value ≡ true
+  by_number : (number : Option ℤ) → number_of text ≡ number → option_map NumberValue number ≡ Some value → is_of_form_or_nothing Number names value ≡ true
   by_number None n is = absurd (cc)
   by_number (Some z) n is = same_formed Number names (NumberValue z) value (cc) (written_number text z n)
 read_formed Points names text value e = points_fit names (number_of text) value (written_number text) e
 read_formed Choice names text value e = by_place (place_named text names) refl e where
-  by_place : (place : Option ℕ) → place_named text names ≡ place → option_map (λ k. ChoiceValue (record { 0 = k })) place ≡ Some value → has_form_or_nothing Choice names value ≡ true
+  by_place : (place : Option ℕ) → place_named text names ≡ place → option_map (λ k. ChoiceValue (record { 0 = k })) place ≡ Some value → is_of_form_or_nothing Choice names value ≡ true
   by_place None p is = absurd (cc)
   by_place (Some k) p is =
       let inside : k < length names = named_inside names text k p in
       same_formed Choice names (ChoiceValue (record { 0 = k })) value (cc) (grind (arith, inside))
 read_formed User names text value e = by_place (place_named text names) refl e where
-  by_place : (place : Option ℕ) → place_named text names ≡ place → option_map (λ k. UserValue (record { 0 = k })) place ≡ Some value → has_form_or_nothing User names value ≡ true
+  by_place : (place : Option ℕ) → place_named text names ≡ place → option_map (λ k. UserValue (record { 0 = k })) place ≡ Some value → is_of_form_or_nothing User names value ≡ true
   by_place None p is = absurd (cc)
   by_place (Some k) p is =
       let inside : k < length names = named_inside names text k p in
@@ -151,11 +152,11 @@ read_formed User names text value e = by_place (place_named text names) refl e w
 read_formed Set names text value e = set_read names (texts_in text) value e
 read_formed Labels names text value e = labels_read names (texts_in text) value e
 read_formed Date names text value e = by_day (day_of text) refl e where
-  by_day : (day : Option ℤ) → day_of text ≡ day → option_map (λ d. DateValue (record { 0 = d })) day ≡ Some value → has_form_or_nothing Date names value ≡ true
+  by_day : (day : Option ℤ) → day_of text ≡ day → option_map (λ d. DateValue (record { 0 = d })) day ≡ Some value → is_of_form_or_nothing Date names value ≡ true
   by_day None d is = absurd (cc)
   by_day (Some day) d is = same_formed Date names (DateValue (record { 0 = day })) value (cc) ((read_is_text text day d).0)
 read_formed Sprint names text value e = by_sprint (sprint_of text) refl e where
-  by_sprint : (sprint : Option ℕ) → sprint_of text ≡ sprint → option_map (λ n. SprintValue (record { 0 = n })) sprint ≡ Some value → has_form_or_nothing Sprint names value ≡ true
+  by_sprint : (sprint : Option ℕ) → sprint_of text ≡ sprint → option_map (λ n. SprintValue (record { 0 = n })) sprint ≡ Some value → is_of_form_or_nothing Sprint names value ≡ true
   by_sprint None s is = absurd (cc)
   by_sprint (Some n) s is = same_formed Sprint names (SprintValue (record { 0 = n })) value (cc) refl
 
@@ -170,12 +171,12 @@ own_form kind.Date = refl
 -- type, summary and status aren't sets or labels
 may_be_nothing : (fields : List Field) (n : ℕ) (form : Form) → form_of fields n ≡ Some form → may_stand_for_nothing form ≡ true → may_be_empty n ≡ true
 unfolding form_of
-may_be_nothing fields n form e h = elim (cases_Bool ((n == 1) || (n == 2) || (n == 4))) [
+may_be_nothing fields n form e h = elim (cases_Bool ((n == number.TYPE.0) || (n == number.SUMMARY.0) || (n == number.STATUS.0))) [
   | inl named ↦ absurd (grind (arith, common_steps, named, e, h))
   | inr other ↦ grind (arith, other)
 ]
 
-formed_fits : (n : ℕ) (names : List (List ℕ)) (form : Form) (value : Value) → (may_stand_for_nothing form ≡ true → may_be_empty n ≡ true) → has_form_or_nothing form names value ≡ true → fits_form n names value form ≡ true
+formed_fits : (n : ℕ) (names : List (List ℕ)) (form : Form) (value : Value) → (may_stand_for_nothing form ≡ true → may_be_empty n ≡ true) → is_of_form_or_nothing form names value ≡ true → fits_form n names value form ≡ true
 formed_fits n names form Empty empty h = empty h
 formed_fits n names form (TextValue t) empty h = h
 formed_fits n names form (NumberValue z) empty h = h
@@ -193,7 +194,7 @@ read_fits names n text value e = by_form (form_of names.fields n) refl e where
   by_form : (form : Option Form) → form_of names.fields n ≡ form → option_and_then (λ f. value_in f (choices_of names n) text) form ≡ Some value → option_map_or (fits_form n (choices_of names n) value) (form_of names.fields n) false ≡ true
   by_form None f is = absurd (cc)
   by_form (Some form) f is =
-      let formed : has_form_or_nothing form (choices_of names n) value ≡ true = read_formed form (choices_of names n) text value is in
+      let formed : is_of_form_or_nothing form (choices_of names n) value ≡ true = read_formed form (choices_of names n) text value is in
       let fit : fits_form n (choices_of names n) value form ≡ true = formed_fits n (choices_of names n) form value (may_be_nothing names.fields n form f) formed in
       rw f fit
 
@@ -202,3 +203,33 @@ pub read_values_fit : {E : Type 0} (names : Names) (n : ℕ) (text : List ℕ) (
 read_values_fit names n text (Err e) h = tt
 read_values_fit names n text (Ok None) h = tt
 read_values_fit names n text (Ok (Some value)) h = read_fits names n text value (sym h)
+
+-- what a list of texts stands for in a field of a form has the form
+listed_formed : (form : Form) (names texts : List (List ℕ)) (value : Value) → listed_in form names texts ≡ Some value → is_of_form_or_nothing form names value ≡ true
+listed_formed Set names texts value e = set_read names (Some texts) value e
+listed_formed Labels names texts value e = labels_read names (Some texts) value e
+listed_formed (Line most) names texts value e = absurd (cc)
+listed_formed (Prose most) names texts value e = absurd (cc)
+listed_formed Number names texts value e = absurd (cc)
+listed_formed Points names texts value e = absurd (cc)
+listed_formed Choice names texts value e = absurd (cc)
+listed_formed User names texts value e = absurd (cc)
+listed_formed Date names texts value e = absurd (cc)
+listed_formed Sprint names texts value e = absurd (cc)
+
+-- what a list of texts stands for in a field fits the field
+pub listed_fits : (names : Names) (n : ℕ) (texts : List (List ℕ)) (value : Value) → listed_value_of names n texts ≡ Some value → fits names n value ≡ true
+unfolding listed_value_of fits
+listed_fits names n texts value e = by_form (form_of names.fields n) refl e where
+  by_form : (form : Option Form) → form_of names.fields n ≡ form → option_and_then (λ f. listed_in f (choices_of names n) texts) form ≡ Some value → option_map_or (fits_form n (choices_of names n) value) (form_of names.fields n) false ≡ true
+  by_form None f is = absurd (cc)
+  by_form (Some form) f is =
+      let formed : is_of_form_or_nothing form (choices_of names n) value ≡ true = listed_formed form (choices_of names n) texts value is in
+      let fit : fits_form n (choices_of names n) value form ≡ true = formed_fits n (choices_of names n) form value (may_be_nothing names.fields n form f) formed in
+      rw f fit
+
+-- the same of a reading that has succeeded
+pub listed_values_fit : {E : Type 0} (names : Names) (n : ℕ) (texts : List (List ℕ)) (r : Result (Option Value) E) → IfOk r (λ value. value ≡ listed_value_of names n texts) → IfOk r (λ value. IfSome value (λ v. fits names n v ≡ true))
+listed_values_fit names n texts (Err e) h = tt
+listed_values_fit names n texts (Ok None) h = tt
+listed_values_fit names n texts (Ok (Some value)) h = listed_fits names n texts value (sym h)

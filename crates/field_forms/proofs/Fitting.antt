@@ -1,6 +1,5 @@
 -- What a fitting value says of its number.
-use Rattle.std.proofs.Common.{◌≡◌, ℕ, ◌<◌, List, [], ◌∷◌, length, true, false, nat_lt, arith, Option, Some, None, refl}
-use Rattle.std.proofs.lemmas.Bool.{and_parts}
+use Rattle.std.proofs.Common.{◌≡◌, ℕ, ◌<◌, List, length, true, false, arith, Option, Some, None, refl}
 use Rattle.field_forms.specs.declared.form.Form.{Form}
 use Rattle.field_forms.specs.declared.form.Form.TheVariants.{Line, Prose, Number, Points, Choice, User, Set, Labels, Date, Sprint}
 use Rattle.field_values.specs.declared.numbers.ChoiceNo.{ChoiceNo}
@@ -9,12 +8,12 @@ use Rattle.field_values.specs.declared.numbers.Day.{Day as DayNo}
 use Rattle.field_values.specs.declared.value.Value.TheVariants.{Empty, Text as TextValue, Number as NumberValue, Choice as ChoiceValue, User as UserValue, Date as DateValue, Set as SetValue, Labels as LabelsValue, Sprint as SprintValue}
 use Rattle.civil_dates.specs.Days.{is_day}
 use Rattle.field_values.specs.declared.value.Value.{Value}
-use Rattle.field_forms.specs.Values.{is_set, has_form}
+use Rattle.field_forms.specs.Values.{is_of_form}
 use Rattle.field_forms.specs.Known.{Names, form_of, choices_of, fits_form, fits}
-use Rattle.field_forms.specs.ValueTexts.{are_inside, IsInside}
+use Rattle.field_forms.specs.ValueTexts.{IsInside}
 use Rattle.std.specs.Option.{option_map_or}
 
-pub choice_inside : (form : Form) (names : List (List ℕ)) (choice : ChoiceNo) → has_form form names (ChoiceValue choice) ≡ true → choice.0 < length names
+pub choice_inside : (form : Form) (names : List (List ℕ)) (choice : ChoiceNo) → is_of_form form names (ChoiceValue choice) ≡ true → choice.0 < length names
 choice_inside Choice names choice h = grind (arith, h)
 choice_inside (Line n) names choice h = cc
 choice_inside (Prose n) names choice h = cc
@@ -26,7 +25,7 @@ choice_inside Labels names choice h = cc
 choice_inside Date names choice h = cc
 choice_inside Sprint names choice h = cc
 
-pub user_inside : (form : Form) (names : List (List ℕ)) (user : UserNo) → has_form form names (UserValue user) ≡ true → user.0 < length names
+pub user_inside : (form : Form) (names : List (List ℕ)) (user : UserNo) → is_of_form form names (UserValue user) ≡ true → user.0 < length names
 user_inside User names user h = grind (arith, h)
 user_inside (Line n) names user h = cc
 user_inside (Prose n) names user h = cc
@@ -38,7 +37,7 @@ user_inside Labels names user h = cc
 user_inside Date names user h = cc
 user_inside Sprint names user h = cc
 
-pub date_inside : (form : Form) (names : List (List ℕ)) (day : DayNo) → has_form form names (DateValue day) ≡ true → is_day day.0 ≡ true
+pub date_inside : (form : Form) (names : List (List ℕ)) (day : DayNo) → is_of_form form names (DateValue day) ≡ true → is_day day.0 ≡ true
 date_inside Date names day h = h
 date_inside (Line n) names day h = cc
 date_inside (Prose n) names day h = cc
@@ -50,27 +49,6 @@ date_inside Set names day h = cc
 date_inside Labels names day h = cc
 date_inside Sprint names day h = cc
 
--- choices that rise below a number are below it
-rising_inside : (count : ℕ) (choices : List ChoiceNo) → is_set count choices ≡ true → are_inside count choices ≡ true
-rising_inside count [] h = refl
-rising_inside count (choice ∷ []) h = grind (arith, h)
-rising_inside count (choice ∷ next ∷ choices) h =
-    let parts = and_parts (nat_lt choice.0 next.0) (is_set count (next ∷ choices)) h in
-    let rest : are_inside count (next ∷ choices) ≡ true = rising_inside count (next ∷ choices) parts.1 in
-    grind (arith, parts.0, rest)
-
-pub set_inside : (form : Form) (names : List (List ℕ)) (choices : List ChoiceNo) → has_form form names (SetValue choices) ≡ true → are_inside (length names) choices ≡ true
-set_inside Set names choices h = rising_inside (length names) choices ((and_parts (nat_lt 0 (length choices)) (is_set (length names) choices) h).1)
-set_inside (Line n) names choices h = cc
-set_inside (Prose n) names choices h = cc
-set_inside Number names choices h = cc
-set_inside Points names choices h = cc
-set_inside Choice names choices h = cc
-set_inside User names choices h = cc
-set_inside Labels names choices h = cc
-set_inside Date names choices h = cc
-set_inside Sprint names choices h = cc
-
 -- a fitting value is inside
 pub fits_inside : (n : ℕ) (names : List (List ℕ)) (form : Form) (value : Value) → fits_form n names value form ≡ true → IsInside names value
 fits_inside n names form (ChoiceValue choice) h = choice_inside form names choice h
@@ -79,7 +57,7 @@ fits_inside n names form (DateValue day) h = date_inside form names day h
 fits_inside n names form Empty h = tt
 fits_inside n names form (TextValue t) h = tt
 fits_inside n names form (NumberValue z) h = tt
-fits_inside n names form (SetValue cs) h = set_inside form names cs h
+fits_inside n names form (SetValue cs) h = tt
 fits_inside n names form (LabelsValue ls) h = tt
 fits_inside n names form (SprintValue s) h = tt
 

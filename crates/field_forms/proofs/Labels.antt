@@ -22,7 +22,7 @@ other_way one other later apart = by_order (slice_cmp nat_cmp one other) refl wh
       grind (arith, e, turned)
 
 -- a label in its place among labels
-placed : List (List ℕ) → List ℕ → List (List ℕ)
+unfoldable pub placed : List (List ℕ) → List ℕ → List (List ℕ)
 placed [] label = label ∷ []
 placed (first ∷ labels) label =
     if is_before first label then first ∷ placed labels label else label ∷ first ∷ labels
@@ -48,7 +48,7 @@ not_past (first ∷ labels) label = elim (cases_Bool (is_before first label)) [
 place_is : (labels : List (List ℕ)) (label : List ℕ) → place_for labels label ≡ position_or_len (λ other. not (is_before other label)) labels
 place_is labels label = grind (arith, common_steps, not_past labels label)
 
-put_is : (labels : List (List ℕ)) (label : List ℕ) → insert labels (place_for labels label) label ≡ placed labels label
+pub put_is : (labels : List (List ℕ)) (label : List ℕ) → insert labels (place_for labels label) label ≡ placed labels label
 put_is labels label = ap (λ place. insert labels place label) (place_is labels label) ∙ at_first labels label
 
 -- a label after the first one stays in order among those that follow

@@ -1,4 +1,3 @@
-pub mod Digits
 pub mod Cutting
 pub mod Finding
 pub mod Fitting
@@ -9,3 +8,4 @@ pub mod Fits
 pub mod SoundRules
 pub mod NumbersBack
 pub mod RoundTrip
+pub mod ListsBack

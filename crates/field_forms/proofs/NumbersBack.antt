@@ -7,7 +7,8 @@ use Rattle.std.proofs.lemmas.Int.{ints}
 use Rattle.std.proofs.lemmas.List.{append-nil, length-append}
 use Rattle.std.proofs.Math.Seq.{take-append_seam, drop-append_seam}
 use Rattle.std.proofs.lemmas.Fmt.{decimal_by_steps, decimal_digit, length-decimal-le, decimal_nonempty}
-use Rattle.field_forms.specs.Numbers.{read_on, is_digit, is_numeral, whole_of, fraction_of, size_of, number_of, fraction_text, number_text, is_number}
+use Rattle.field_values.specs.Digits.{is_digit, read_on}
+use Rattle.field_forms.specs.Numbers.{is_numeral, whole_of, fraction_of, size_of, number_of, fraction_text, number_text, is_number}
 
 -- one digit more at the end
 read_last : (n digit : ℕ) (digits : List ℕ) → read_on n (digits ++ digit ∷ []) ≡ 10 * read_on n digits + (digit - 48)

@@ -20,7 +20,7 @@ use Rattle.field_forms.specs.Numbers.{number_of, is_number}
 use Rattle.civil_dates.specs.Reading.{day_of}
 use Rattle.civil_dates.specs.DateText.{date_text}
 use Rattle.civil_dates.proofs.Texts.{text_reads_back}
-use Rattle.field_forms.specs.Values.{value_in, has_form}
+use Rattle.field_forms.specs.Values.{value_in, is_of_form}
 use Rattle.field_forms.specs.Known.{Names, form_of, choices_of, value_of, fits_form, fits}
 use Rattle.field_forms.specs.ValueTexts.{IsTextOf, IsReadBack}
 use Rattle.field_forms.proofs.NumbersBack.{number_back}
@@ -32,7 +32,7 @@ got_at (name ∷ names) (suc k) text e =
     let rest = got_at names k text e in
     (omega (arith, rest.0), rest.1)
 
-same_name : (name : List ℕ) → str_eq_ignore_ascii_case name name ≡ true
+pub same_name : (name : List ℕ) → str_eq_ignore_ascii_case name name ≡ true
 same_name name = (bytes_eq-Decides (str_to_ascii_lowercase name) (str_to_ascii_lowercase name)).1 refl
 
 -- of distinct names, the first of a name is that one
@@ -42,7 +42,7 @@ place_is names k text distinct got =
     let there : position_or_len (λ other. str_eq_ignore_ascii_case other text) names ≡ k = position_or_len_is (λ other. str_eq_ignore_ascii_case other text) names k [] (omega (arith, at.0)) (λ j lt. subst (λ (t : List ℕ). str_eq_ignore_ascii_case (get_or names j []) t ≡ false) at.1 (distinct j k [] lt at.0)) (λ inside. subst (λ (t : List ℕ). str_eq_ignore_ascii_case t text ≡ true) (sym at.1) (same_name text)) in
     grind (arith, common_steps, there, at.0)
 
-text_back : (form : Form) (names : List (List ℕ)) (t : List ℕ) → has_form form names (TextValue t) ≡ true → value_in form names t ≡ Some (TextValue t)
+text_back : (form : Form) (names : List (List ℕ)) (t : List ℕ) → is_of_form form names (TextValue t) ≡ true → value_in form names t ≡ Some (TextValue t)
 unfolding value_in
 text_back (Line most) names t h = rw h refl
 text_back (Prose most) names t h = rw h refl
@@ -55,7 +55,7 @@ text_back Labels names t h = absurd (cc)
 text_back Date names t h = absurd (cc)
 text_back Sprint names t h = absurd (cc)
 
-choice_back : (form : Form) (names : List (List ℕ)) (choice : ChoiceNo) (text : List ℕ) → AreDistinct names → has_form form names (ChoiceValue choice) ≡ true → Some text ≡ slice_get names choice.0 → value_in form names text ≡ Some (ChoiceValue choice)
+choice_back : (form : Form) (names : List (List ℕ)) (choice : ChoiceNo) (text : List ℕ) → AreDistinct names → is_of_form form names (ChoiceValue choice) ≡ true → Some text ≡ slice_get names choice.0 → value_in form names text ≡ Some (ChoiceValue choice)
 unfolding value_in
 choice_back Choice names choice text distinct h got = rw (place_is names choice.0 text distinct got) refl
 choice_back (Line n) names choice text distinct h got = absurd (cc)
@@ -68,7 +68,7 @@ choice_back Labels names choice text distinct h got = absurd (cc)
 choice_back Date names choice text distinct h got = absurd (cc)
 choice_back Sprint names choice text distinct h got = absurd (cc)
 
-user_back : (form : Form) (names : List (List ℕ)) (user : UserNo) (text : List ℕ) → AreDistinct names → has_form form names (UserValue user) ≡ true → Some text ≡ slice_get names user.0 → value_in form names text ≡ Some (UserValue user)
+user_back : (form : Form) (names : List (List ℕ)) (user : UserNo) (text : List ℕ) → AreDistinct names → is_of_form form names (UserValue user) ≡ true → Some text ≡ slice_get names user.0 → value_in form names text ≡ Some (UserValue user)
 unfolding value_in
 user_back User names user text distinct h got = rw (place_is names user.0 text distinct got) refl
 user_back (Line n) names user text distinct h got = absurd (cc)
@@ -81,7 +81,7 @@ user_back Labels names user text distinct h got = absurd (cc)
 user_back Date names user text distinct h got = absurd (cc)
 user_back Sprint names user text distinct h got = absurd (cc)
 
-date_back : (form : Form) (names : List (List ℕ)) (day : DayNo) (text : List ℕ) → has_form form names (DateValue day) ≡ true → text ≡ date_text day.0 → value_in form names text ≡ Some (DateValue day)
+date_back : (form : Form) (names : List (List ℕ)) (day : DayNo) (text : List ℕ) → is_of_form form names (DateValue day) ≡ true → text ≡ date_text day.0 → value_in form names text ≡ Some (DateValue day)
 unfolding value_in
 date_back Date names day text h is =
     let read : day_of text ≡ Some day.0 = ap day_of is ∙ text_reads_back day.0 h in
@@ -96,7 +96,7 @@ date_back Set names day text h is = absurd (cc)
 date_back Labels names day text h is = absurd (cc)
 date_back Sprint names day text h is = absurd (cc)
 
-number_read : (form : Form) (names : List (List ℕ)) (z : ℤ) (text : List ℕ) → has_form form names (NumberValue z) ≡ true → number_of text ≡ Some z → value_in form names text ≡ Some (NumberValue z)
+number_read : (form : Form) (names : List (List ℕ)) (z : ℤ) (text : List ℕ) → is_of_form form names (NumberValue z) ≡ true → number_of text ≡ Some z → value_in form names text ≡ Some (NumberValue z)
 unfolding value_in
 number_read Number names z text h read = rw read refl
 number_read Points names z text h read =
@@ -111,7 +111,7 @@ number_read Labels names z text h read = absurd (cc)
 number_read Date names z text h read = absurd (cc)
 number_read Sprint names z text h read = absurd (cc)
 
-number_small : (form : Form) (names : List (List ℕ)) (z : ℤ) → has_form form names (NumberValue z) ≡ true → is_number z ≡ true
+number_small : (form : Form) (names : List (List ℕ)) (z : ℤ) → is_of_form form names (NumberValue z) ≡ true → is_number z ≡ true
 number_small Number names z h = h
 number_small Points names z h = (and_parts (int_le (pos 0) z) (is_number z) h).1
 number_small (Line n) names z h = absurd (cc)

@@ -5,7 +5,8 @@ use Rattle.std.proofs.lemmas.Nat.{pow-add}
 use Rattle.std.specs.List.{list_all}
 use Rattle.std.proofs.lemmas.Bool.{cases_Bool, and_parts}
 use Rattle.std.proofs.lemmas.Int.{ints}
-use Rattle.field_forms.specs.Numbers.{read_on, is_digit, is_numeral, whole_of, fraction_of, sum_of, size_of, number_of, is_number}
+use Rattle.field_values.specs.Digits.{is_digit, read_on}
+use Rattle.field_forms.specs.Numbers.{is_numeral, whole_of, fraction_of, sum_of, size_of, number_of, is_number}
 
 -- digits after a number write less than its next
 pub read_below : (n : ℕ) (digits : List ℕ) → list_all is_digit digits ≡ true → read_on n digits + 1 ≤ (n + 1) * 10 ^ length digits

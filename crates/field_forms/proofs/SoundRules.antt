@@ -21,7 +21,7 @@ use Rattle.field_forms.specs.Cuts.{cut_at, pieces_at}
 use Rattle.field_forms.specs.Names.{place_named}
 use Rattle.field_forms.specs.BuiltIn.{built_in_no}
 use Rattle.field_forms.specs.Known.{Names, own_field, own_field_named, field_named, form_of, choices_of, value_of, may_be_empty, fits_form, fits}
-use Rattle.field_forms.specs.Rules.{after_colon, permission_of, named_test, test_of, all_tests, any_of, tests_of, condition_of, named_validator, validator_of, is_settable, settable_named, set_of, assignee_of, named_post, post_of}
+use Rattle.field_forms.specs.Rules.{after_colon, permission_of, named_test, test_of, all_tests, any_of, tests_of, condition_of, named_validator, validator_of, is_settable, settable_named, setting_of, assignee_of, named_post, post_of}
 use Rattle.field_forms.specs.SoundRules.{test_is_sound, condition_is_sound, is_field, validator_is_sound, post_is_sound}
 use Rattle.field_forms.proofs.Fits.{named_inside, read_fits}
 
@@ -236,7 +236,7 @@ module _ (names : Names) where
         let empty : may_be_empty n ≡ true = grind (arith, may) in
         rw f empty
 
-  set_sound : (name text : List ℕ) → passes (post_is_sound names) (set_of names name text) ≡ true
+  set_sound : (name text : List ℕ) → passes (post_is_sound names) (setting_of names name text) ≡ true
   set_sound name text = by_named (settable_named names name) refl where
     by_value : (n : ℕ) (value : Option Value) → is_settable n ≡ true → value_of names n text ≡ value → passes (post_is_sound names) (option_map (Set (record { 0 = n })) value) ≡ true
     by_value n None may v = refl
@@ -248,7 +248,7 @@ module _ (names : Names) where
     by_named None e = refl
     by_named (Some n) e = by_value n (value_of names n text) ((settable name n e).0) refl
 
-  set_after : (parts : Option (List ℕ × List ℕ)) → passes (post_is_sound names) (option_and_then (λ p. set_of names p.0 p.1) parts) ≡ true
+  set_after : (parts : Option (List ℕ × List ℕ)) → passes (post_is_sound names) (option_and_then (λ p. setting_of names p.0 p.1) parts) ≡ true
   set_after None = refl
   set_after (Some parts) = set_sound parts.0 parts.1
 

@@ -3,6 +3,7 @@ use Rattle.std.specs.Prelude.{◌≡◌, ℕ, ◌==◌, Bool, true, false, not, 
 use Rattle.std.specs.List.{find, list_all}
 use Rattle.std.specs.Option.{option_or, option_map_or}
 use Rattle.std.specs.Str.{str_eq_ignore_ascii_case}
+use Rattle.field_values.specs.declared.numbers.TheConstants.FieldNo as number
 use Rattle.field_values.specs.declared.words.FieldKind.{FieldKind}
 use Rattle.field_values.specs.declared.words.FieldKind.TheVariants as kind
 use Rattle.field_values.specs.declared.field.Field.{Field}
@@ -12,7 +13,7 @@ use Rattle.field_forms.specs.declared.known.Known.{Known}
 use Rattle.field_values.specs.declared.value.Value.{Value}
 use Rattle.field_values.specs.declared.value.Value.TheVariants.{Empty}
 use Rattle.field_forms.specs.BuiltIn.{built_in_no}
-use Rattle.field_forms.specs.Values.{value_in, listed_in, has_form}
+use Rattle.field_forms.specs.Values.{value_in, listed_in, is_of_form}
 
 pub record Names : Type 0 where
   pub users : List (List ℕ)
@@ -74,15 +75,15 @@ form_by kind.Date = Date
 -- the form of what the field holds, if there is such a field
 unfoldable pub form_of : List Field → ℕ → Option Form
 form_of fields n =
-    if (n == 1) || (n == 4) || (n == 7) || (n == 8) then Some Choice
-    else if n == 2 then Some (Line 255)
-    else if n == 3 then Some (Prose 4096)
-    else if (n == 5) || (n == 6) then Some User
-    else if n == 9 then Some Set
-    else if n == 10 then Some Labels
-    else if n == 11 then Some Date
-    else if n == 12 then Some Points
-    else if n == 13 then Some Sprint
+    if (n == number.TYPE.0) || (n == number.STATUS.0) || (n == number.PRIORITY.0) || (n == number.RESOLUTION.0) then Some Choice
+    else if n == number.SUMMARY.0 then Some (Line 255)
+    else if n == number.DESCRIPTION.0 then Some (Prose 4096)
+    else if (n == number.ASSIGNEE.0) || (n == number.REPORTER.0) then Some User
+    else if n == number.FIX_VERSION.0 then Some Set
+    else if n == number.LABELS.0 then Some Labels
+    else if n == number.DUE.0 then Some Date
+    else if n == number.POINTS.0 then Some Points
+    else if n == number.SPRINT.0 then Some Sprint
     else option_map (λ f. form_by f.kind) (own_field fields n)
 
 -- the names that a value of a field of the setup's own may name
@@ -95,12 +96,12 @@ own_choices names field = own_choices_by field.kind where
 -- the names that a value of the field may name
 unfoldable pub choices_of : Names → ℕ → List (List ℕ)
 choices_of names n =
-    if n == 1 then names.types
-    else if n == 4 then names.statuses
-    else if (n == 5) || (n == 6) then names.users
-    else if n == 7 then names.priorities
-    else if n == 8 then names.resolutions
-    else if n == 9 then names.versions
+    if n == number.TYPE.0 then names.types
+    else if n == number.STATUS.0 then names.statuses
+    else if (n == number.ASSIGNEE.0) || (n == number.REPORTER.0) then names.users
+    else if n == number.PRIORITY.0 then names.priorities
+    else if n == number.RESOLUTION.0 then names.resolutions
+    else if n == number.FIX_VERSION.0 then names.versions
     else option_map_or (own_choices names) (own_field names.fields n) []
 
 -- the value that a text stands for in the field
@@ -113,12 +114,12 @@ listed_value_of names n texts = option_and_then (λ form. listed_in form (choice
 
 -- type, summary and status are never empty
 abbrev pub may_be_empty : ℕ → Bool
-may_be_empty n = not ((n == 1) || (n == 2) || (n == 4))
+may_be_empty n = not ((n == number.TYPE.0) || (n == number.SUMMARY.0) || (n == number.STATUS.0))
 
 -- the value may stand in a field of this form and this number
 abbrev pub fits_form : ℕ → List (List ℕ) → Value → Form → Bool
 fits_form n names Empty form = may_be_empty n
-fits_form n names value form = has_form form names value
+fits_form n names value form = is_of_form form names value
 
 -- the field may hold the value
 unfoldable pub fits : Names → ℕ → Value → Bool

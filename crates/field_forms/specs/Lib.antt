@@ -9,3 +9,5 @@ pub mod Known
 pub mod Rules
 pub mod SoundRules
 pub mod ValueTexts
+pub mod ReadBack
+pub mod Rows

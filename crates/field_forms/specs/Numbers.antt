@@ -1,17 +1,9 @@
 -- Numbers in thousandths and their texts: an optional minus, 1 to 9 digits, and optionally a point and 1 to 3 digits.
-use Rattle.std.specs.Prelude.{ℕ, ◌+◌, ◌-◌, ◌*◌, ◌/◌, ◌%◌, ◌^◌, ◌==◌, Bool, ◌&&◌, List, [], ◌∷◌, ◌++◌, length, take, drop, position, Option, Some, None, option_map, if◌then◌else◌, ℤ, pos, neg_ℤ, unsigned_abs, int_lt, decimal, slice_index, codes, nat_le}
+use Rattle.std.specs.Prelude.{ℕ, ◌+◌, ◌-◌, ◌*◌, ◌/◌, ◌%◌, ◌^◌, ◌==◌, Bool, ◌&&◌, List, [], ◌++◌, length, take, drop, position, Option, Some, None, option_map, if◌then◌else◌, ℤ, pos, neg_ℤ, unsigned_abs, int_lt, decimal, slice_index, codes, nat_le}
 use Rattle.std.specs.List.{list_all}
-use Rattle.std.specs.Int.{is_in_range}
 use Rattle.std.specs.Option.{option_map_or}
+use Rattle.field_values.specs.Digits.{is_digit, read_on}
 use Rattle.field_forms.specs.Names.{is_from_to}
-
--- the number that digits write, after those of n
-abbrev pub read_on : ℕ → List ℕ → ℕ
-read_on n [] = n
-read_on n (digit ∷ digits) = read_on (10 * n + (digit - 48)) digits
-
-abbrev pub is_digit : ℕ → Bool
-is_digit b = is_in_range 48 57 b
 
 -- at least one digit, and at most so many
 abbrev pub is_numeral : ℕ → List ℕ → Bool

@@ -1,6 +1,7 @@
 -- The texts of conditions, validators and post functions of transitions.
 use Rattle.std.specs.Prelude.{ℕ, ◌+◌, ◌==◌, Bool, not, ◌||◌, List, [], ◌∷◌, Option, Some, None, option_map, option_and_then, if◌then◌else◌, codes}
 use Rattle.std.specs.Str.{bytes_eq, str_eq_ignore_ascii_case}
+use Rattle.field_values.specs.declared.numbers.TheConstants.FieldNo as number
 use Rattle.field_values.specs.declared.rules.Permission.{Permission}
 use Rattle.field_values.specs.declared.rules.Permission.TheVariants.{Browse, Create, Edit, Transition, Rank}
 use Rattle.field_values.specs.declared.rules.CallerTest.{CallerTest}
@@ -74,14 +75,14 @@ validator_of names text =
 
 -- type, summary, status and sprint are set by no post function
 abbrev pub is_settable : ℕ → Bool
-is_settable n = not ((n == 1) || (n == 2) || (n == 4) || (n == 13))
+is_settable n = not ((n == number.TYPE.0) || (n == number.SUMMARY.0) || (n == number.STATUS.0) || (n == number.SPRINT.0))
 
 abbrev pub settable_named : Names → List ℕ → Option ℕ
 settable_named names name = option_and_then (λ n. if is_settable n then Some n else None) (field_named names.fields name)
 
 -- FIELD=TEXT, where the text is one of the field's
-abbrev pub set_of : Names → List ℕ → List ℕ → Option PostFunction
-set_of names name text = option_and_then (λ n. option_map (Set (record { 0 = n })) (value_of names n text)) (settable_named names name)
+abbrev pub setting_of : Names → List ℕ → List ℕ → Option PostFunction
+setting_of names name text = option_and_then (λ n. option_map (Set (record { 0 = n })) (value_of names n text)) (settable_named names name)
 
 abbrev pub assignee_of : List ℕ → Option PostFunction
 assignee_of word =
@@ -92,7 +93,7 @@ assignee_of word =
 
 abbrev pub named_post : Names → List ℕ → List ℕ → Option PostFunction
 named_post names word rest =
-    if bytes_eq word (codes "set") then option_and_then (λ parts. set_of names parts.0 parts.1) (cut_at 61 rest)
+    if bytes_eq word (codes "set") then option_and_then (λ parts. setting_of names parts.0 parts.1) (cut_at 61 rest)
     else if bytes_eq word (codes "clear") then option_map (λ n. Clear (record { 0 = n })) (settable_named names rest)
     else if bytes_eq word (codes "assign") then assignee_of rest
     else if bytes_eq word (codes "resolution") then option_map (λ k. Resolution (record { 0 = k })) (place_named rest names.resolutions)

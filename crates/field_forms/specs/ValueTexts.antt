@@ -1,6 +1,6 @@
 -- The texts of values.
-use Rattle.std.specs.Prelude.{◌≡◌, ◌<◌, ℕ, List, Some, Bool, true, nat_lt, length, decimal}
-use Rattle.std.specs.List.{filter_map, list_all, slice_get}
+use Rattle.std.specs.Prelude.{◌≡◌, ◌<◌, ℕ, List, Some, true, length, decimal}
+use Rattle.std.specs.List.{filter_map, slice_get}
 use Rattle.field_values.specs.declared.numbers.ChoiceNo.{ChoiceNo}
 use Rattle.field_values.specs.declared.value.Value.{Value}
 use Rattle.field_values.specs.declared.value.Value.TheVariants.{Empty, Text, Number, Choice, User, Date, Set, Labels, Sprint}
@@ -13,9 +13,9 @@ use Rattle.field_forms.specs.TextLists.{array_text}
 abbrev pub chosen_names : List (List ℕ) → List ChoiceNo → List (List ℕ)
 chosen_names names choices = filter_map (λ choice. slice_get names choice.0) choices
 
--- the text of a value, whose names are these
+-- the text of a value, whose names are these; what is empty has none
 abbrev pub IsTextOf : List (List ℕ) → Value → List ℕ → Type 0
-IsTextOf names Empty text = Unit {0}
+IsTextOf names Empty text = ⊥
 IsTextOf names (Text t) text = text ≡ t
 IsTextOf names (Number z) text = text ≡ number_text z
 IsTextOf names (Choice choice) text = Some text ≡ slice_get names choice.0
@@ -25,16 +25,11 @@ IsTextOf names (Set choices) text = text ≡ array_text (chosen_names names choi
 IsTextOf names (Labels labels) text = text ≡ array_text labels
 IsTextOf names (Sprint sprint) text = text ≡ decimal sprint.0
 
--- the choices are some of so many
-abbrev pub are_inside : ℕ → List ChoiceNo → Bool
-are_inside count choices = list_all (λ choice. nat_lt choice.0 count) choices
-
--- choices and users have a name among these, and a day is one of the years 1970 to 2099
+-- a choice and a user have a name among these, and a day is one of the years 1970 to 2099
 abbrev pub IsInside : List (List ℕ) → Value → Type 0
 IsInside names (Choice choice) = choice.0 < length names
 IsInside names (User user) = user.0 < length names
 IsInside names (Date day) = is_day day.0 ≡ true
-IsInside names (Set choices) = are_inside (length names) choices ≡ true
 IsInside names _ = Unit {0}
 
 -- a value whose text is read as it: a text, a number, a choice, a user or a date

@@ -10,7 +10,8 @@ use Rattle.field_values.specs.declared.value.Value.TheVariants.{Empty, Text as T
 use Rattle.field_forms.specs.declared.form.Form.{Form}
 use Rattle.field_forms.specs.declared.form.Form.TheVariants.{Line, Prose, Number, Points, Choice, User, Set, Labels, Date, Sprint}
 use Rattle.field_forms.specs.Names.{is_from_to, is_among, place_named, has_controls}
-use Rattle.field_forms.specs.Numbers.{read_on, is_numeral, number_of, is_number}
+use Rattle.field_values.specs.Digits.{read_on}
+use Rattle.field_forms.specs.Numbers.{is_numeral, number_of, is_number}
 use Rattle.civil_dates.specs.Reading.{day_of}
 use Rattle.civil_dates.specs.Days.{is_day}
 use Rattle.field_forms.specs.TextLists.{texts_in}
@@ -87,8 +88,8 @@ listed_in Set names texts = listed_set names texts
 listed_in Labels names texts = listed_labels texts
 listed_in _ names texts = None
 
-abbrev pub set_of : List (List ℕ) → List ℕ → Option Value
-set_of names text = option_and_then (listed_set names) (texts_in text)
+abbrev pub set_in : List (List ℕ) → List ℕ → Option Value
+set_in names text = option_and_then (listed_set names) (texts_in text)
 
 abbrev pub label_list_of : List ℕ → Option Value
 label_list_of text = option_and_then listed_labels (texts_in text)
@@ -101,7 +102,7 @@ value_in Number names text = option_map NumberValue (number_of text)
 value_in Points names text = points_of text
 value_in Choice names text = option_map (λ k. ChoiceValue (record { 0 = k })) (place_named text names)
 value_in User names text = option_map (λ k. UserValue (record { 0 = k })) (place_named text names)
-value_in Set names text = set_of names text
+value_in Set names text = set_in names text
 value_in Labels names text = label_list_of text
 value_in Date names text = option_map (λ day. DateValue (record { 0 = day })) (day_of text)
 value_in Sprint names text = option_map (λ n. SprintValue (record { 0 = n })) (sprint_of text)
@@ -119,15 +120,15 @@ is_label_list (label ∷ []) = is_label label
 is_label_list (label ∷ next ∷ labels) = (is_label label && is_before label next) && is_label_list (next ∷ labels)
 
 -- a value that isn't empty may stand in a field of this form
-abbrev pub has_form : Form → List (List ℕ) → Value → Bool
-has_form (Line most) names (TextValue text) = is_line most text
-has_form (Prose most) names (TextValue text) = is_prose most text
-has_form Number names (NumberValue z) = is_number z
-has_form Points names (NumberValue z) = int_le (pos 0) z && is_number z
-has_form Choice names (ChoiceValue choice) = nat_lt choice.0 (length names)
-has_form User names (UserValue user) = nat_lt user.0 (length names)
-has_form Set names (SetValue choices) = nat_lt 0 (length choices) && is_set (length names) choices
-has_form Labels names (LabelsValue labels) = is_from_to 1 16 (length labels) && is_label_list labels
-has_form Date names (DateValue day) = is_day day.0
-has_form Sprint names (SprintValue sprint) = true
-has_form _ _ _ = false
+abbrev pub is_of_form : Form → List (List ℕ) → Value → Bool
+is_of_form (Line most) names (TextValue text) = is_line most text
+is_of_form (Prose most) names (TextValue text) = is_prose most text
+is_of_form Number names (NumberValue z) = is_number z
+is_of_form Points names (NumberValue z) = int_le (pos 0) z && is_number z
+is_of_form Choice names (ChoiceValue choice) = nat_lt choice.0 (length names)
+is_of_form User names (UserValue user) = nat_lt user.0 (length names)
+is_of_form Set names (SetValue choices) = nat_lt 0 (length choices) && is_set (length names) choices
+is_of_form Labels names (LabelsValue labels) = is_from_to 1 16 (length labels) && is_label_list labels
+is_of_form Date names (DateValue day) = is_day day.0
+is_of_form Sprint names (SprintValue sprint) = true
+is_of_form _ _ _ = false

@@ -4,6 +4,7 @@ ghost use Rattle.field_forms.specs.Names.{is_among};
 ghost use Rattle.field_forms.specs.BuiltIn.{field_names, query_words, is_field_word, built_in_no};
 
 use crate::name_form::is_same_name;
+use field_values::numbers::FieldNo;
 
 fn is_field_name(name: &str) -> bool
     ensures { result ≡ is_among field_names name.now }
@@ -50,31 +51,31 @@ pub fn built_in_no(name: &str) -> Option<u16>
     ensures { result ≡ built_in_no name.now }
 {
     if is_same_name("type", name) {
-        Some(1)
+        Some(FieldNo::TYPE.0)
     } else if is_same_name("summary", name) {
-        Some(2)
+        Some(FieldNo::SUMMARY.0)
     } else if is_same_name("description", name) {
-        Some(3)
+        Some(FieldNo::DESCRIPTION.0)
     } else if is_same_name("status", name) {
-        Some(4)
+        Some(FieldNo::STATUS.0)
     } else if is_same_name("assignee", name) {
-        Some(5)
+        Some(FieldNo::ASSIGNEE.0)
     } else if is_same_name("reporter", name) {
-        Some(6)
+        Some(FieldNo::REPORTER.0)
     } else if is_same_name("priority", name) {
-        Some(7)
+        Some(FieldNo::PRIORITY.0)
     } else if is_same_name("resolution", name) {
-        Some(8)
+        Some(FieldNo::RESOLUTION.0)
     } else if is_same_name("fixVersion", name) {
-        Some(9)
+        Some(FieldNo::FIX_VERSION.0)
     } else if is_same_name("labels", name) {
-        Some(10)
+        Some(FieldNo::LABELS.0)
     } else if is_same_name("due", name) {
-        Some(11)
+        Some(FieldNo::DUE.0)
     } else if is_same_name("points", name) {
-        Some(12)
+        Some(FieldNo::POINTS.0)
     } else if is_same_name("sprint", name) {
-        Some(13)
+        Some(FieldNo::SPRINT.0)
     } else {
         None
     }

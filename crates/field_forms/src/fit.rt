@@ -1,12 +1,12 @@
 // Whether a value may stand in a field.
 ghost use Rattle.std.specs.Prelude.{◌≡◌, length};
 ghost use Rattle.field_forms.specs.Known.{names_of, AreFew, may_be_empty, fits};
-ghost use Rattle.civil_dates.specs.Days.{is_day};
 ghost use Rattle.field_forms.specs.Numbers.{is_number};
-ghost use Rattle.field_forms.specs.Values.{is_set, is_label_list, has_form};
+ghost use Rattle.field_forms.specs.Values.{is_set, is_label_list, is_of_form};
 
 use crate::form::{Form, is_before, is_label, is_line, is_prose};
 use crate::known::{Known, choices_of, form_of};
+use civil_dates::is_day;
 use field_values::numbers::{ChoiceNo, FieldNo};
 use field_values::text::Text;
 use field_values::value::Value;
@@ -50,15 +50,9 @@ fn is_number(number: i64) -> bool
     number.unsigned_abs() <= 999_999_999_999
 }
 
-fn is_day(day: i32) -> bool
-    ensures { result ≡ is_day day }
-{
-    0 <= day && day <= 47_481
-}
-
 /// Whether a value that isn't empty may stand in a field of this form.
-fn has_form(form: Form, names: &[Text], value: &Value) -> bool
-    ensures { result ≡ has_form form names.now value.now }
+fn is_of_form(form: Form, names: &[Text], value: &Value) -> bool
+    ensures { result ≡ is_of_form form names.now value.now }
 {
     match (form, value) {
         (Form::Line(most), Value::Text(text)) => is_line(most, text.as_str()),
@@ -85,7 +79,7 @@ fn has_form(form: Form, names: &[Text], value: &Value) -> bool
 fn may_be_empty(field: FieldNo) -> bool
     ensures { result ≡ may_be_empty field.0 }
 {
-    !(field.0 == 1 || field.0 == 2 || field.0 == 4)
+    !(field == FieldNo::TYPE || field == FieldNo::SUMMARY || field == FieldNo::STATUS)
 }
 
 /// Whether the field may hold the value.
@@ -98,7 +92,7 @@ pub fn fits(known: &Known<'_>, field: FieldNo, value: &Value) -> bool
         None => false,
         Some(form) => match value {
             Value::Empty => may_be_empty(field),
-            _ => has_form(form, choices_of(known, field), value),
+            _ => is_of_form(form, choices_of(known, field), value),
         },
     }
 }

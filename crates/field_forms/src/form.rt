@@ -3,12 +3,13 @@ ghost use Rattle.std.specs.Prelude.{◌≡◌, ◌≤◌, ◌<◌, ◌||◌, ◌
 ghost use Rattle.std.specs.List.{list_all, list_any};
 ghost use Rattle.std.specs.Str.{bytes_eq};
 ghost use Rattle.field_forms.specs.Names.{is_among};
-ghost use Rattle.field_forms.specs.Values.{is_line, is_prose, is_label, is_before, place_for, with_label, with_labels, are_labels, labels_value, chosen, set_value, sprint_of, points_of, set_of, label_list_of, value_in, listed_set, listed_labels, listed_in};
+ghost use Rattle.field_forms.specs.Values.{is_line, is_prose, is_label, is_before, place_for, with_label, with_labels, are_labels, labels_value, chosen, set_value, sprint_of, points_of, set_in, label_list_of, value_in, listed_set, listed_labels, listed_in};
 
 use crate::name_form::{has_controls, is_among, place_of};
-use crate::number_text::{is_numeral, number_of, value_of_digits};
+use crate::number_text::{is_numeral, number_of};
 use crate::text_list::texts_in;
 use civil_dates::day_of;
+use field_values::digits::value_of_digits;
 use field_values::memory::Memory;
 use field_values::names::Names;
 use field_values::numbers::{ChoiceNo, Day, SprintNo, UserNo};
@@ -212,9 +213,9 @@ fn points_of(text: &str) -> Option<Value>
     }
 }
 
-fn set_of(alloc: Global, names: &[Text], text: &str) -> Result<Option<Value>, Memory>
+fn set_in(alloc: Global, names: &[Text], text: &str) -> Result<Option<Value>, Memory>
     requires { length names.now ≤ 65_535 }
-    ensures { IfOk result (λ value. value ≡ set_of names.now text.now) }
+    ensures { IfOk result (λ value. value ≡ set_in names.now text.now) }
 {
     let Some(texts) = texts_in(alloc, text)? else {
         return Ok(None);
@@ -294,7 +295,7 @@ pub(crate) fn value_in(
             Some(place) => Ok(Some(Value::User(UserNo(place as u16)))),
             None => Ok(None),
         },
-        Form::Set => set_of(alloc, names, text),
+        Form::Set => set_in(alloc, names, text),
         Form::Labels => label_list_of(alloc, text),
         Form::Date => match day_of(text) {
             Some(day) => Ok(Some(Value::Date(Day(day)))),

@@ -87,17 +87,19 @@ pub fn form_of(fields: &[Field], field: FieldNo) -> Option<Form>
     requires { list_all has_few_options fields.now ≡ true }
     ensures { result ≡ form_of fields.now field.0 }
 {
-    match field.0 {
-        1 | 4 | 7 | 8 => Some(Form::Choice),
-        2 => Some(Form::Line(255)),
-        3 => Some(Form::Prose(4096)),
-        5 | 6 => Some(Form::User),
-        9 => Some(Form::Set),
-        10 => Some(Form::Labels),
-        11 => Some(Form::Date),
-        12 => Some(Form::Points),
-        13 => Some(Form::Sprint),
-        no => match own_field(fields, no) {
+    match field {
+        FieldNo::TYPE | FieldNo::STATUS | FieldNo::PRIORITY | FieldNo::RESOLUTION => {
+            Some(Form::Choice)
+        }
+        FieldNo::SUMMARY => Some(Form::Line(255)),
+        FieldNo::DESCRIPTION => Some(Form::Prose(4096)),
+        FieldNo::ASSIGNEE | FieldNo::REPORTER => Some(Form::User),
+        FieldNo::FIX_VERSION => Some(Form::Set),
+        FieldNo::LABELS => Some(Form::Labels),
+        FieldNo::DUE => Some(Form::Date),
+        FieldNo::POINTS => Some(Form::Points),
+        FieldNo::SPRINT => Some(Form::Sprint),
+        _ => match own_field(fields, field.0) {
             Some(field) => Some(form_by(field.kind)),
             None => None,
         },
@@ -126,14 +128,14 @@ pub fn choices_of<'a>(known: &Known<'a>, field: FieldNo) -> &'a [Text]
     ensures names { result.now ≡ choices_of (names_of known.now) field.0 }
     ensures few { length result.now ≤ 500 }
 {
-    match field.0 {
-        1 => known.types,
-        4 => known.statuses,
-        5 | 6 => known.users,
-        7 => known.priorities,
-        8 => known.resolutions,
-        9 => known.versions,
-        no => match own_field(known.fields, no) {
+    match field {
+        FieldNo::TYPE => known.types,
+        FieldNo::STATUS => known.statuses,
+        FieldNo::ASSIGNEE | FieldNo::REPORTER => known.users,
+        FieldNo::PRIORITY => known.priorities,
+        FieldNo::RESOLUTION => known.resolutions,
+        FieldNo::FIX_VERSION => known.versions,
+        _ => match own_field(known.fields, field.0) {
             Some(field) => own_choices(known, field),
             None => &[],
         },
@@ -189,9 +191,8 @@ pub fn text_of(
     value_text(alloc, choices_of(known, field), value)
 }
 
-/// The value that a list of texts stands for in the field; `None` where it is none of the field's.
 #[tactic(auto, unfolding(crate::specs::Known::listed_value_of))]
-pub fn listed_value_of(
+fn read_list(
     alloc: Global,
     known: &Known<'_>,
     field: FieldNo,
@@ -204,4 +205,18 @@ pub fn listed_value_of(
         Some(form) => listed_in(alloc, form, choices_of(known, field), texts),
         None => Ok(None),
     }
+}
+
+/// The value that a list of texts stands for in the field; `None` where it is none of the field's.
+pub fn listed_value_of(
+    alloc: Global,
+    known: &Known<'_>,
+    field: FieldNo,
+    texts: &[Text],
+) -> Result<Option<Value>, Memory>
+    requires { AreFew (names_of known.now) }
+    ensures value { IfOk result (λ value. value ≡ listed_value_of (names_of known.now) field.0 texts.now) }
+    ensures fits { IfOk result (λ value. IfSome value (λ v. fits (names_of known.now) field.0 v ≡ true)) }
+{
+    read_list(alloc, known, field, texts)
 }

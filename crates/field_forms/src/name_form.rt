@@ -1,13 +1,14 @@
 // The forms of names.
-ghost use Rattle.std.specs.Prelude.{◌≡◌, [], not, option_map};
+ghost use Rattle.std.specs.Prelude.{◌≡◌, not, codes};
 ghost use Rattle.std.specs.List.{list_all, list_any};
 ghost use Rattle.std.specs.Char.{is_control};
 ghost use Rattle.std.specs.Int.{is_in_range};
 ghost use Rattle.std.specs.Str.{chars, str_eq_ignore_ascii_case};
-ghost use Rattle.field_forms.specs.NameForms.{has_form};
-ghost use Rattle.field_forms.specs.Names.{has_controls, is_name, is_user_name, is_user_byte, is_project_key, place_named, is_among, first_double};
+ghost use Rattle.field_forms.specs.NameForms.{is_numbered_field, has_form};
+ghost use Rattle.field_forms.specs.Names.{has_controls, is_name, is_user_name, is_user_byte, is_project_key, place_named, is_among};
 
 use crate::built_in::is_field_word;
+use field_values::digits::are_digits;
 use field_values::text::Text;
 
 /// What a name is of, which says what form it has.
@@ -90,6 +91,24 @@ pub fn is_among(names: &[Text], name: &str) -> bool
     names.iter().any(|other| is_same_name(other.as_str(), name))
 }
 
+fn begins_numbered(start: &[u8]) -> bool
+    ensures { result ≡ str_eq_ignore_ascii_case start.now (codes "cf[") }
+{
+    start.eq_ignore_ascii_case(b"cf[")
+}
+
+/// Whether the name is `cf[`, digits and `]`, ASCII case ignored: a field by its number, as a query writes it.
+fn is_numbered_field(name: &str) -> bool
+    ensures { result ≡ is_numbered_field name.now }
+{
+    let bytes = name.as_bytes();
+    if bytes.len() < 5 {
+        return false;
+    }
+    let last = bytes.len() - 1;
+    begins_numbered(&bytes[..3]) && bytes[last] == b']' && are_digits(&bytes[3..last])
+}
+
 /// Whether a text has the form of such a name.
 pub fn has_form(form: NameForm, text: &str) -> bool
     ensures { result ≡ has_form form text.now }
@@ -99,7 +118,7 @@ pub fn has_form(form: NameForm, text: &str) -> bool
         NameForm::Plain => is_name(text),
         NameForm::Resolution => is_name(text) && !is_same_name(text, "Unresolved"),
         NameForm::ProjectKey => is_project_key(text),
-        NameForm::OwnField => is_name(text) && !is_field_word(text),
+        NameForm::OwnField => { is_name(text) && !(is_field_word(text) || is_numbered_field(text)) }
         NameForm::AnyText => true,
     }
 }
@@ -109,16 +128,4 @@ pub fn all_have_form(form: NameForm, texts: &[Text]) -> bool
     ensures { result ≡ list_all (has_form form) texts.now }
 {
     texts.iter().all(|text| has_form(form, text.as_str()))
-}
-
-/// The first name that is the same as one before it.
-pub fn first_double(names: &[Text]) -> Option<&Text>
-    ensures { option_map (λ n. n.now) result ≡ first_double [] names.now }
-{
-    for (place, name) in names.iter().enumerate() {
-        if is_among(&names[..place], name.as_str()) {
-            return Some(name);
-        }
-    }
-    None
 }

@@ -1,37 +1,16 @@
 // Numbers in thousandths, and their texts.
-ghost use Rattle.std.specs.Prelude.{◌≡◌, ◌≤◌, ◌<◌, ◌^◌, length, string_bytes, IfOk, ℕ, ◌==◌, position, true, IfSome};
-ghost use Rattle.std.specs.List.{list_all};
-ghost use Rattle.field_forms.specs.Numbers.{read_on, is_digit, is_numeral, whole_of, fraction_of, sum_of, size_of, number_of, number_text, fraction_text, sign_of};
+ghost use Rattle.std.specs.Prelude.{◌≡◌, ◌≤◌, ◌<◌, length, string_bytes, IfOk, ◌==◌, ◌++◌, position, IfSome, OnOk};
+ghost use Rattle.field_forms.specs.Numbers.{is_numeral, whole_of, fraction_of, sum_of, size_of, number_of, number_text, fraction_text, sign_of};
 
+use field_values::digits::{are_digits, value_of_digits};
 use field_values::memory::Memory;
 use field_values::text::Text;
-use std::alloc::Global;
-
-pub(crate) fn are_digits(bytes: &[u8]) -> bool
-    ensures { result ≡ list_all is_digit bytes.now }
-{
-    bytes.iter().all(|byte| 48 <= *byte && *byte <= 57)
-}
+use std::alloc::{AllocError, Global};
 
 pub(crate) fn is_numeral(most: usize, bytes: &[u8]) -> bool
     ensures { result ≡ is_numeral most bytes.now }
 {
     1 <= bytes.len() && bytes.len() <= most && are_digits(bytes)
-}
-
-/// The number that at most ten digits write.
-#[tactic(auto, using(crate::proofs::Digits::digit_at, crate::proofs::Digits::next_power, crate::proofs::Digits::read_next))]
-pub(crate) fn value_of_digits(digits: &[u8]) -> u64
-    requires few { length digits.now ≤ 10 }
-    requires digits { list_all is_digit digits.now ≡ true }
-    ensures value { result ≡ read_on 0 digits.now }
-    ensures small { result < 10 ^ length digits.now }
-{
-    let mut value = 0u64;
-    for digit in digits {
-        value = 10 * value + u64::from(*digit - b'0');
-    }
-    value
 }
 
 /// The digits before the point, in thousandths.
@@ -114,35 +93,42 @@ pub(crate) fn number_of(text: &str) -> Option<i64>
     }
 }
 
-/// Thousandths after the point, without zeros at their end.
-fn fraction_text(alloc: Global, thousandths: u64) -> Result<String, Memory>
+/// Writes thousandths after the point, without zeros at their end, behind a text.
+fn push_fraction(text: &mut String, thousandths: u64) -> Result<(), AllocError>
     requires { thousandths < 1000 }
-    ensures { IfOk result (λ s. string_bytes s ≡ fraction_text thousandths) }
+    ensures { OnOk result (string_bytes text.new ≡ string_bytes text.old ++ fraction_text thousandths) }
 {
     let tenths = thousandths / 100;
     let hundredths = thousandths / 10 % 10;
     let last = thousandths % 10;
-    let text = if thousandths == 0 {
-        String::new(alloc)
+    if thousandths == 0 {
+        Ok(())
     } else if thousandths % 100 == 0 {
-        format!(in alloc; ".{tenths}")?
+        write!(text, ".{tenths}")
     } else if thousandths % 10 == 0 {
-        format!(in alloc; ".{tenths}{hundredths}")?
+        write!(text, ".{tenths}{hundredths}")
     } else {
-        format!(in alloc; ".{tenths}{hundredths}{last}")?
-    };
-    Ok(text)
+        write!(text, ".{tenths}{hundredths}{last}")
+    }
 }
 
-/// The shortest text that writes the number of thousandths.
+/// Writes the shortest text of the number of thousandths behind a text.
 #[tactic(auto, unfolding(crate::specs::Numbers::number_text))]
-pub(crate) fn number_text(alloc: Global, number: i64) -> Result<Text, Memory>
-    ensures { IfOk result (λ text. text ≡ number_text number) }
+pub fn push_number_text(text: &mut String, number: i64) -> Result<(), AllocError>
+    ensures { OnOk result (string_bytes text.new ≡ string_bytes text.old ++ number_text number) }
 {
     let size = number.unsigned_abs();
     let whole = size / 1000;
     let sign = if number < 0 { "-" } else { "" };
-    let fraction = fraction_text(alloc, size % 1000)?;
-    let fraction = fraction.as_str();
-    Ok(Text::of(format!(in alloc; "{sign}{whole}{fraction}")?))
+    write!(text, "{sign}{whole}")?;
+    push_fraction(text, size % 1000)
+}
+
+/// The shortest text that writes the number of thousandths.
+pub(crate) fn number_text(alloc: Global, number: i64) -> Result<Text, Memory>
+    ensures { IfOk result (λ text. text ≡ number_text number) }
+{
+    let mut text = String::new(alloc);
+    push_number_text(&mut text, number)?;
+    Ok(Text::of(text))
 }

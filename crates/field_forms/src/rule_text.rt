@@ -1,7 +1,7 @@
 // The texts of conditions, validators and post functions.
 ghost use Rattle.std.specs.Prelude.{◌≡◌, ◌≤◌, ◌∷◌, [], length, IfOk, option_map};
 ghost use Rattle.field_forms.specs.Known.{names_of, AreFew};
-ghost use Rattle.field_forms.specs.Rules.{permission_of, named_test, test_of, all_tests, any_of, tests_of, condition_of, named_validator, validator_of, is_settable, settable_named, set_of, assignee_of, named_post, post_of};
+ghost use Rattle.field_forms.specs.Rules.{permission_of, named_test, test_of, all_tests, any_of, tests_of, condition_of, named_validator, validator_of, is_settable, settable_named, setting_of, assignee_of, named_post, post_of};
 
 use crate::cut::{cut_at, pieces_at};
 use crate::known::{Known, field_named, value_of};
@@ -190,7 +190,10 @@ pub fn validator_of(known: &Known<'_>, text: &str) -> Option<Validator>
 fn is_settable(no: u16) -> bool
     ensures { result ≡ is_settable no }
 {
-    !(no == 1 || no == 2 || no == 4 || no == 13)
+    !(no == FieldNo::TYPE.0
+        || no == FieldNo::SUMMARY.0
+        || no == FieldNo::STATUS.0
+        || no == FieldNo::SPRINT.0)
 }
 
 /// The field of that name, if a post function may set it.
@@ -203,14 +206,14 @@ fn settable_named(known: &Known<'_>, name: &str) -> Option<FieldNo>
     }
 }
 
-fn set_of(
+fn setting_of(
     alloc: Global,
     known: &Known<'_>,
     name: &str,
     text: &str,
 ) -> Result<Option<PostFunction>, Memory>
     requires { AreFew (names_of known.now) }
-    ensures { IfOk result (λ post. post ≡ set_of (names_of known.now) name.now text.now) }
+    ensures { IfOk result (λ post. post ≡ setting_of (names_of known.now) name.now text.now) }
 {
     let Some(field) = settable_named(known, name) else {
         return Ok(None);
@@ -246,7 +249,7 @@ fn named_post(
 {
     if word == "set" {
         return match cut_at(rest, '=') {
-            Some((name, text)) => set_of(alloc, known, name, text),
+            Some((name, text)) => setting_of(alloc, known, name, text),
             None => Ok(None),
         };
     }

@@ -1,10 +1,10 @@
 // The texts of values.
-ghost use Rattle.std.specs.Prelude.{◌≡◌, ◌<◌, true, length, IfOk, decimal, slice_get, option_map};
+ghost use Rattle.std.specs.Prelude.{◌≡◌, ◌≢◌, ◌<◌, ◌∷◌, ◌++◌, [], true, length, IfOk, OnOk, decimal, slice_get, option_map};
 ghost use Rattle.serde_json.specs.View.{view};
 ghost use Rattle.civil_dates.specs.DateText.{date_text};
 ghost use Rattle.civil_dates.specs.Days.{is_day};
 ghost use Rattle.field_forms.specs.TextLists.{text_array, array_text};
-ghost use Rattle.field_forms.specs.ValueTexts.{chosen_names, are_inside, IsInside, IsTextOf};
+ghost use Rattle.field_forms.specs.ValueTexts.{chosen_names, IsInside, IsTextOf};
 
 use crate::number_text::number_text;
 use civil_dates::date_text;
@@ -45,14 +45,35 @@ fn name_at(alloc: Global, names: &[Text], place: u16) -> Result<Text, Memory>
     names[usize::from(place)].copy(alloc)
 }
 
-/// The names of the choices.
-fn chosen_names(alloc: Global, names: &[Text], choices: &[ChoiceNo]) -> Result<Names, Memory>
-    requires { are_inside (length names.now) choices.now ≡ true }
+/// The name of a choice, where it has one.
+fn chosen_name(names: &[Text], choice: ChoiceNo) -> Option<&Text>
+    ensures { option_map (λ name. name.now) result ≡ slice_get names.now choice.0 }
+{
+    names.get(usize::from(choice.0))
+}
+
+/// Puts the name of a choice, where it has one, behind the others.
+fn put_chosen(
+    alloc: Global,
+    names: &[Text],
+    choice: ChoiceNo,
+    chosen: &mut Names,
+) -> Result<(), Memory>
+    ensures { OnOk result (chosen.new ≡ chosen.old ++ chosen_names names.now (choice ∷ [])) }
+{
+    let Some(name) = chosen_name(names, choice) else {
+        return Ok(());
+    };
+    chosen.push(name.copy(alloc)?)
+}
+
+/// The names of the choices in their order. A set that fits its field is read back from them.
+pub fn chosen_names(alloc: Global, names: &[Text], choices: &[ChoiceNo]) -> Result<Names, Memory>
     ensures { IfOk result (λ chosen. chosen ≡ chosen_names names.now choices.now) }
 {
     let mut chosen = Names::new(alloc);
     for choice in choices {
-        chosen.push(name_at(alloc, names, choice.0)?)?;
+        put_chosen(alloc, names, *choice, &mut chosen)?;
     }
     Ok(chosen)
 }
@@ -72,12 +93,13 @@ fn sprint_text(alloc: Global, number: u32) -> Result<Text, Memory>
 }
 
 /// The text of a value that may stand in a field of some form.
-pub fn value_text(alloc: Global, names: &[Text], value: &Value) -> Result<Text, Memory>
+pub(crate) fn value_text(alloc: Global, names: &[Text], value: &Value) -> Result<Text, Memory>
     requires choice { IsInside names.now value.now }
+    requires some { value.now ≢ Value.Empty }
     ensures { IfOk result (IsTextOf names.now value.now) }
 {
     match value {
-        Value::Empty => Text::copy_of(alloc, ""),
+        Value::Empty => unreachable!(),
         Value::Text(text) => text.copy(alloc),
         Value::Number(number) => number_text(alloc, *number),
         Value::Choice(choice) => name_at(alloc, names, choice.0),

@@ -1,7 +1,9 @@
--- Groups of which one has got other members.
-use Rattle.std.specs.Prelude.{ℕ, zero, suc, ◌<◌, Bool, true, ◌&&◌, nat_lt, List, [], ◌∷◌}
-use Rattle.std.specs.List.{AllPairs, All}
+-- The members of groups, and groups of which one has got other members.
+use Rattle.std.specs.Prelude.{ℕ, zero, suc, ◌-◌, ◌<◌, ◌==◌, Bool, true, false, ◌&&◌, nat_lt, List, [], ◌∷◌, slice_get}
+use Rattle.std.specs.List.{AllPairs, All, list_any}
+use Rattle.std.specs.Option.{option_map_or}
 use Rattle.field_values.specs.declared.numbers.UserNo.{UserNo}
+use Rattle.field_values.specs.declared.numbers.GroupNo.{GroupNo}
 use Rattle.field_values.specs.declared.parts.Group.{Group}
 
 -- the group at a place has these members
@@ -23,3 +25,11 @@ AreRising users = AllPairs (λ one other. one.0 < other.0) users
 -- those of the members of each group do
 abbrev pub HaveRising : List Group → Type 0
 HaveRising groups = All (λ group. AreRising group.members) groups
+
+-- the user is one of these
+abbrev pub is_member : List UserNo → ℕ → Bool
+is_member members user = list_any (λ member. member.0 == user) members
+
+-- the group has the user
+abbrev pub has_member : List Group → ℕ → GroupNo → Bool
+has_member groups user group = option_map_or (λ g. is_member g.members user) (slice_get groups (group.0 - 1)) false

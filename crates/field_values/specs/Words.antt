@@ -26,8 +26,8 @@ category_of word =
     else if bytes_eq word (codes "done") then Some Done
     else None
 
-abbrev pub kind_of : List ℕ → Option FieldKind
-kind_of word =
+abbrev pub field_kind_of : List ℕ → Option FieldKind
+field_kind_of word =
     if bytes_eq word (codes "text") then Some Text
     else if bytes_eq word (codes "number") then Some Number
     else if bytes_eq word (codes "choice") then Some Choice

@@ -2,7 +2,9 @@
 //! holds, and the parts of which a setup is made.
 #![tactic(auto)]
 
+pub mod digits;
 pub mod field;
+pub mod membership;
 pub mod memory;
 pub mod moment;
 pub mod names;

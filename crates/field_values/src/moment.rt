@@ -1,5 +1,6 @@
 ghost use Rattle.std.specs.Prelude.{◌≡◌, ℕ, ◌≤◌};
 ghost use Rattle.std.specs.Option.{SomeIff};
+ghost use Rattle.field_values.specs.Years.{last_second};
 
 use std::marker::Model;
 
@@ -15,7 +16,7 @@ impl Model for Moment {
 
     ghost view = { λ m. m.seconds };
 
-    ghost invariant = { λ m. m.seconds ≤ 4102444799 };
+    ghost invariant = { λ m. m.seconds ≤ last_second };
 
     ghost inverse = { λ n. record { seconds = n } };
 }
@@ -33,7 +34,7 @@ impl Moment {
 
     /// The moment of that many seconds; `None` exactly past [`Moment::LAST`].
     pub fn new(seconds: u64) -> Option<Self>
-        ensures { SomeIff result (seconds ≤ Self.LAST) seconds }
+        ensures { SomeIff result (seconds ≤ last_second) seconds }
     {
         if seconds <= Self::LAST {
             Some(Moment { seconds })

@@ -20,6 +20,35 @@ pub struct ChoiceNo(pub u16);
 #[derive(Clone, Copy, PartialEq, Eq, PartialOrd, Ord)]
 pub struct FieldNo(pub u16);
 
+// The fields that every tracker has.
+impl FieldNo {
+    pub const TYPE: FieldNo = FieldNo(1);
+
+    pub const SUMMARY: FieldNo = FieldNo(2);
+
+    pub const DESCRIPTION: FieldNo = FieldNo(3);
+
+    pub const STATUS: FieldNo = FieldNo(4);
+
+    pub const ASSIGNEE: FieldNo = FieldNo(5);
+
+    pub const REPORTER: FieldNo = FieldNo(6);
+
+    pub const PRIORITY: FieldNo = FieldNo(7);
+
+    pub const RESOLUTION: FieldNo = FieldNo(8);
+
+    pub const FIX_VERSION: FieldNo = FieldNo(9);
+
+    pub const LABELS: FieldNo = FieldNo(10);
+
+    pub const DUE: FieldNo = FieldNo(11);
+
+    pub const POINTS: FieldNo = FieldNo(12);
+
+    pub const SPRINT: FieldNo = FieldNo(13);
+}
+
 /// An issue, numbered from 1 over the whole tracker in order of creation.
 #[derive(Clone, Copy, Debug, PartialEq, Eq, PartialOrd, Ord)]
 pub struct IssueNo(pub u32);
@@ -39,3 +68,8 @@ pub struct BoardNo(pub u32);
 /// A local day, counted from 1970-01-01, which is day 0.
 #[derive(Clone, Copy, PartialEq, Eq, PartialOrd, Ord)]
 pub struct Day(pub i32);
+
+impl Day {
+    /// 2099-12-31.
+    pub const LAST: Day = Day(47_481);
+}

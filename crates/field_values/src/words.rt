@@ -1,6 +1,6 @@
 // The words that the setup has for a few things.
 ghost use Rattle.std.specs.Prelude.{◌≡◌, ◌≤◌};
-ghost use Rattle.field_values.specs.Words.{day_number, weekday_of, category_of, kind_of};
+ghost use Rattle.field_values.specs.Words.{day_number, weekday_of, category_of, field_kind_of};
 
 /// A day of the week.
 #[derive(Clone, Copy, PartialEq, Eq)]
@@ -90,8 +90,8 @@ pub fn category_of(word: &str) -> Option<Category>
 }
 
 /// The kind of field of that name.
-pub fn kind_of(word: &str) -> Option<FieldKind>
-    ensures { result ≡ kind_of word.now }
+pub fn field_kind_of(word: &str) -> Option<FieldKind>
+    ensures { result ≡ field_kind_of word.now }
 {
     if word == "text" {
         Some(FieldKind::Text)

@@ -7,6 +7,7 @@ use Rattle.std.proofs.lemmas.Int.{ints, by_lt_z}
 use Rattle.jiff_core.specs.Calendar.{IsBetween, IsWithin}
 use Rattle.jiff_core.proofs.SignedLemmas.{signed_arith, one_part}
 use Rattle.jiff_core.proofs.CalendarLemmas.{days_in_month_bounds}
+use Rattle.relative_dates.specs.Years.{last_second}
 use Rattle.relative_dates.specs.declared.term.Period.{Period}
 use Rattle.relative_dates.specs.declared.term.Period.TheVariants.{Day, Week, Month, Year}
 use Rattle.relative_dates.specs.declared.term.Edge.{Edge}
@@ -136,12 +137,12 @@ boundary_second-le calendar boundary a b is months le near_a near_b =
     moved x y m e le = omega (arith, signed_arith)
 
 -- the local day of a moment of the calendar
-present_day : (zone : Zone) (at : ℕ) → IsZone zone → at ≤ 4_102_444_799 → IsPresent (local_day zone (pos at))
+present_day : (zone : Zone) (at : ℕ) → IsZone zone → at ≤ last_second → IsPresent (local_day zone (pos at))
 present_day zone at is in' =
     let offset = minutes_from_in zone.first_offset zone.steps (pos at) is.first_in is.steps_in in
     (omega (arith, signed_arith), omega (arith, signed_arith))
 
-pub second-le : (calendar : LocalCalendar) (term : Term) (at later : ℕ) → IsCalendar calendar → IsTerm term → at ≤ later → later ≤ 4_102_444_799 → second calendar term (pos at) ≤ℤ second calendar term (pos later)
+pub second-le : (calendar : LocalCalendar) (term : Term) (at later : ℕ) → IsCalendar calendar → IsTerm term → at ≤ later → later ≤ last_second → second calendar term (pos at) ≤ℤ second calendar term (pos later)
 second-le calendar Now at later is bounded le in' = omega (arith, signed_arith)
 second-le calendar (Literal local) at later is bounded le in' = omega (arith, signed_arith)
 second-le calendar (FromNow minutes) at later is bounded le in' = omega (arith, signed_arith)

@@ -4,6 +4,7 @@ use Rattle.std.specs.Prelude.{◌≡◌, ℕ, Bool, not, ◌==◌, List, [], ◌
 use Rattle.std.specs.Int.{int_div_euclid}
 use Rattle.std.specs.List.{list_all}
 use Rattle.jiff_core.specs.Calendar.{IsBetween, IsWithin}
+use Rattle.relative_dates.specs.Years.{last_second}
 use Rattle.relative_dates.specs.declared.calendar.OffsetStep.{OffsetStep}
 use Rattle.relative_dates.specs.declared.calendar.StepFault.{StepFault}
 use Rattle.relative_dates.specs.declared.calendar.StepFault.TheVariants.{NotLater, DayGoesBack, Full, Memory}
@@ -57,7 +58,7 @@ IsOffset minutes = IsWithin 840 minutes
 
 -- a moment that a step may have
 abbrev pub IsMoment : ℤ → Type 0
-IsMoment at = IsBetween (pos 0) (pos 4_102_444_799) at
+IsMoment at = IsBetween (pos 0) (pos last_second) at
 
 -- a step with a moment and an offset in their range
 abbrev pub IsStep : OffsetStep → Type 0

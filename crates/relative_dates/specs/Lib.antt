@@ -2,6 +2,8 @@ pub mod Calendar
 pub mod Call
 pub mod Change
 pub mod Civil
+pub mod Laws
 pub mod Least
 pub mod Reading
 pub mod Term
+pub mod Years

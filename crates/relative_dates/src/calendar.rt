@@ -4,6 +4,7 @@ ghost use Rattle.std.specs.Prelude.{◌≡◌, ℕ, ◌+◌, ◌-◌, ◌<◌, �
 ghost use Rattle.std.specs.Int.{int_div_euclid, int_max};
 ghost use Rattle.std.specs.List.{AllWithin, list_all};
 ghost use Rattle.jiff_core.specs.Calendar.{IsBetween, IsWithin};
+ghost use Rattle.relative_dates.specs.Years.{last_second};
 ghost use Rattle.relative_dates.specs.Calendar.{minutes_from, minutes_at, local_second, local_day, first_at, midnight, fixed_calendar, calendar_with, goes_back, step_fault, IsRefusal, IsFirstAt, IsZone, IsCalendar, IsOffset, IsStep, step_at};
 
 use std::alloc::{AllocError, Global};
@@ -83,7 +84,7 @@ impl Calendar {
 
     /// Takes one step more of the local clock. After a refusal the calendar is as before.
     pub fn add_step(&mut self, from: u64, minutes: i32) -> Result<(), StepFault>
-        requires from { from ≤ 4_102_444_799 }
+        requires from { from ≤ last_second }
         requires minutes { IsOffset minutes }
         ensures ok { OnOk result ((step_fault self.old.zone (step_at from minutes) ≡ None) × (self.new ≡ calendar_with self.old (step_at from minutes))) }
         ensures refused { IfErr result (IsRefusal (step_fault self.old.zone (step_at from minutes))) }

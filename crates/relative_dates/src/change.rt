@@ -1,6 +1,7 @@
 //! When the comparison of a date term with a mark changes.
 
 ghost use Rattle.std.specs.Prelude.{◌≡◌, ◌↔◌, IsTrue, ℕ, ◌<◌, ◌≤◌, ℤ, pos, ◌≤ℤ◌};
+ghost use Rattle.relative_dates.specs.Years.{last_second};
 ghost use Rattle.relative_dates.specs.Term.{second, IsTerm};
 ghost use Rattle.relative_dates.specs.Change.{compared, IsNextChange};
 
@@ -8,16 +9,16 @@ use crate::calendar::Calendar;
 use crate::term::Term;
 use std::cmp::Ordering;
 
-/// The last moment of the calendar.
+/// The last second of the year 2099.
 const LAST: u64 = 4_102_444_799;
 
 impl Term {
     /// The least later moment at which the term's second compares with the mark otherwise than at `at`:
-    /// less, equal or greater. `None` where there is none up to the last moment, 4,102,444,799.
+    /// less, equal or greater. `None` where there is none up to the last second of 2099.
     ///
-    /// The second never falls, so halving finds it: 33 evaluations of the term at most.
+    /// The second never falls, so halving finds it: 34 evaluations of the term at most.
     pub fn next(&self, calendar: &Calendar, at: u64, mark: i64) -> Option<u64>
-        requires { at ≤ 4_102_444_799 }
+        requires { at ≤ last_second }
         ensures { IsNextChange calendar.now self.now mark at result }
     {
         self.never_falls(calendar);
@@ -40,7 +41,7 @@ impl Term {
 
     /// The second of a term never falls as the moment rises.
     pub fn never_falls(&self, calendar: &Calendar)
-        ensures { (at later : ℕ) → at ≤ later → later ≤ 4_102_444_799 → second calendar.now self.now (pos at) ≤ℤ second calendar.now self.now (pos later) }
+        ensures { (at later : ℕ) → at ≤ later → later ≤ last_second → second calendar.now self.now (pos at) ≤ℤ second calendar.now self.now (pos later) }
     {
         let _ = calendar.first_day();
         self.is_bounded();
@@ -60,7 +61,7 @@ impl Term {
 
     /// How the term's second compares with a mark.
     fn compared(&self, calendar: &Calendar, at: u64, mark: i64) -> Ordering
-        requires { at ≤ 4_102_444_799 }
+        requires { at ≤ last_second }
         ensures { result ≡ compared calendar.now self.now mark at }
     {
         self.at(calendar, at).cmp(&mark)

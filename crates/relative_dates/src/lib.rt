@@ -6,6 +6,7 @@ mod calendar;
 mod call;
 mod change;
 mod civil;
+pub mod laws;
 mod reading;
 mod second;
 mod term;

@@ -2,6 +2,7 @@
 
 ghost use Rattle.std.specs.Prelude.{◌≡◌, ◌≤◌, ℤ, pos, neg_ℤ, ◌+ℤ◌, ◌-ℤ◌, ◌*ℤ◌, ◌≤ℤ◌};
 ghost use Rattle.jiff_core.specs.Calendar.{IsBetween, IsWithin, IsEpochDay};
+ghost use Rattle.relative_dates.specs.Years.{last_second};
 ghost use Rattle.relative_dates.specs.Term.{period_begin, one_later, edge_day, before_edge, boundary_day, boundary_second, second, IsTerm};
 
 use crate::calendar::Calendar;
@@ -11,7 +12,7 @@ use crate::term::{Boundary, Edge, LocalSecond, Period, Term};
 impl Term {
     /// The second that the term means at a moment.
     pub fn at(&self, calendar: &Calendar, at: u64) -> i64
-        requires { at ≤ 4_102_444_799 }
+        requires { at ≤ last_second }
         ensures value { result ≡ second calendar.now self.now (pos at) }
         ensures bound { IsWithin 200_000_000_000_000 result }
     {

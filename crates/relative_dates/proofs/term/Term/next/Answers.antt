@@ -1,5 +1,6 @@
 use Rattle.std.proofs.Common.{◌≡◌, ◌∙◌, sym, arith, rules, FitsSigned, w64}
 use Rattle.std.proofs.lemmas.Int.{to_z-of_z}
+use Rattle.relative_dates.specs.Years.{last_second}
 use Rattle.relative_dates.proofs.OrderLemmas.{between_alike}
 use Rattle.relative_dates.proofs.term.Term.next.Goals as goal
 
@@ -10,7 +11,7 @@ returns-then-is_same c =
     let last = simp to_z-of_z at c.compared.ensures in
     let same : c.compared.result ≡ c.compared-order.result = search rules in
     λ t after within.
-    between_alike _ _ _ c.args.mark (c.never_falls.ensures c.args.at t (omega arith) within) (c.never_falls.ensures t 4_102_444_799 within (omega arith)) (sym last ∙ same ∙ first)
+    between_alike _ _ _ c.args.mark (c.never_falls.ensures c.args.at t (omega arith) within) (c.never_falls.ensures t last_second within (omega arith)) (sym last ∙ same ∙ first)
 
 pub returns : goal.returns
 returns c =

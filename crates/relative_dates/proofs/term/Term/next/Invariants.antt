@@ -1,4 +1,5 @@
 use Rattle.std.proofs.Common.{◌≡◌, ◌≢◌, ◌≤◌, ◌<◌, ◌-◌}
+use Rattle.relative_dates.specs.Years.{last_second}
 use Rattle.relative_dates.specs.Change.{compared}
 use Rattle.relative_dates.proofs.term.Term.next.Given as goal
 
@@ -6,7 +7,7 @@ abbrev pub invariant-loop-other : goal.invariant-loop-other
 invariant-loop-other l = record {
   order : l.at ≤ l.same;
   apart : l.same < l.other;
-  within : l.other ≤ 4_102_444_799;
+  within : l.other ≤ last_second;
   alike : compared l.calendar l.self l.mark l.same ≡ compared l.calendar l.self l.mark l.at;
   unlike : compared l.calendar l.self l.mark l.other ≢ compared l.calendar l.self l.mark l.at;
 }

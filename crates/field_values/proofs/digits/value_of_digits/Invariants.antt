@@ -1,6 +1,6 @@
 use Rattle.std.proofs.Common.{◌≡◌, ◌<◌, ◌^◌, drop}
-use Rattle.field_forms.specs.Numbers.{read_on}
-use Rattle.field_forms.proofs.number_text.value_of_digits.Given as goal
+use Rattle.field_values.specs.Digits.{read_on}
+use Rattle.field_values.proofs.digits.value_of_digits.Given as goal
 
 abbrev pub invariant-loop-digit : goal.invariant-loop-digit
 invariant-loop-digit l =

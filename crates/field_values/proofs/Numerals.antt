@@ -1,9 +1,9 @@
 -- Digits and the numbers that they write.
-use Rattle.std.proofs.Common.{◌≡◌, ℕ, ◌+◌, ◌-◌, ◌*◌, ◌^◌, ◌<◌, ◌≤◌, List, length, get_or, drop, true, arith, add-one, drop-cons, refl}
+use Rattle.std.proofs.Common.{◌≡◌, ℕ, ◌+◌, ◌-◌, ◌*◌, ◌^◌, ◌<◌, ◌≤◌, List, [], ◌∷◌, length, get_or, drop, true, arith, add-one, drop-cons, refl}
 use Rattle.std.proofs.Math.Nat.{pow-succ'}
 use Rattle.std.proofs.lemmas.List.Sums.{AllPass-from_list_all}
 use Rattle.std.specs.List.{list_all}
-use Rattle.civil_dates.specs.Reading.{read_on, is_digit}
+use Rattle.field_values.specs.Digits.{is_digit, read_on}
 
 -- a digit is 48 to 57
 pub digit_at : (ds : List ℕ) → list_all is_digit ds ≡ true → (i : ℕ) → i < length ds → (48 ≤ get_or ds i 0) × (get_or ds i 0 ≤ 57)
@@ -18,3 +18,8 @@ next_power value digit i small one = rw (add-one, pow-succ') (omega (arith, smal
 -- one step of reading
 pub read_next : (value : ℕ) (ds : List ℕ) (i : ℕ) → i < length ds → read_on value (drop i ds) ≡ read_on (10 * value + (get_or ds i 0 - 48)) (drop (i + 1) ds)
 read_next value ds i inside = rw (add-one, drop-cons ds i 0 inside) refl
+
+-- further digits make no number less
+pub read_grows : (n : ℕ) (ds : List ℕ) → n ≤ read_on n ds
+read_grows n [] = omega arith
+read_grows n (d ∷ ds) = omega (arith, read_grows (10 * n + (d - 48)) ds)
