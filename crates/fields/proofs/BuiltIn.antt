@@ -1,5 +1,5 @@
 -- The built-in text is a setup.
-use Rattle.std.proofs.Common.{◌≡◌, ◌≢◌, ◌∙◌, Bool, true, false, Result, Ok, Err, refl, sym, ap}
+use Rattle.std.proofs.Common.{◌≡◌, ◌≢◌, ◌∙◌, Ok, Err, refl, sym}
 use Rattle.std.specs.Str.{chars}
 use Rattle.toml.proofs.OnLiterals.{toml_on_literals}
 use Rattle.field_forms.specs.Known.{field_named, form_of, choices_of, value_of, fits}
@@ -11,27 +11,30 @@ use Rattle.setup_drafts.specs.Drafts.{head_fault, head_of, lists_fault, lists_of
 use Rattle.setup_drafts.specs.Groups.{group_fault, group_draft}
 use Rattle.setup_drafts.specs.Projects.{project_fault, project_draft}
 use Rattle.setup_drafts.specs.Statuses.{status_fault, status_of}
+use Rattle.setup_drafts.specs.Fields.{field_fault, field_of}
 use Rattle.setup_drafts.specs.Transitions.{transition_fault, transition_draft}
-use Rattle.setup_drafts.specs.Offsets.{offsets_fault, offsets_in}
+use Rattle.setup_drafts.specs.Offsets.{offset_fault, offset_of, offsets_fault, offsets_in}
 use Rattle.setup_drafts.specs.Keys.{strange_in_tables, key_fault}
-use Rattle.setup_reading.specs.Ties.{group_unknown, project_unknown, transition_unknown, rights_unknown, tables_unknown, tie_fault_by, tie_fault}
+use Rattle.setup_reading.specs.Ties.{group_unknown, group_tied, project_unknown, project_tied, transition_unknown, transition_tied, rights_unknown, rights_tied, tables_unknown, tables_tied, tie_fault_by, tied_by, tie_fault, tied}
 use Rattle.setup_reading.specs.Reading.{first_fault, parts_in, parts_or_fault, setup_in}
 use Rattle.setup_reading.specs.declared.built_in_text.TheConstants.{BUILT_IN}
 use Rattle.field_values.specs.Parts.{Parts}
+use Rattle.fields.specs.BuiltInParts.{built_in_parts}
+use Rattle.fields.proofs.Sound.{ok_is}
 
-abbrev is_setup : Result Parts SetupFault → Bool
-is_setup (Ok parts) = true
-is_setup (Err fault) = false
+-- the parts that its text reads to
+pub built_in_reads : setup_in BUILT_IN.now ≡ Ok built_in_parts
+unfolding chars toml_on_literals field_named form_of choices_of value_of fits value_in test_of tests_of condition_of validator_of post_of head_fault head_of lists_fault lists_of rights_fault rights_of groups_fault groups_of projects_fault projects_of statuses_fault statuses_of transitions_fault transitions_of fields_fault fields_of tables_fault tables_of draft_fault draft_of group_fault group_draft project_fault project_draft status_fault status_of transition_fault transition_draft offsets_fault offsets_in strange_in_tables key_fault group_unknown project_unknown transition_unknown rights_unknown tables_unknown tie_fault_by tie_fault first_fault parts_in parts_or_fault setup_in group_tied project_tied transition_tied rights_tied tables_tied tied_by tied field_fault field_of offset_fault offset_of built_in_parts
+built_in_reads = refl
 
-computed : is_setup (setup_in BUILT_IN.now) ≡ true
-unfolding chars toml_on_literals field_named form_of choices_of value_of fits value_in test_of tests_of condition_of validator_of post_of head_fault head_of lists_fault lists_of rights_fault rights_of groups_fault groups_of projects_fault projects_of statuses_fault statuses_of transitions_fault transitions_of fields_fault fields_of tables_fault tables_of draft_fault draft_of group_fault group_draft project_fault project_draft status_fault status_of transition_fault transition_draft offsets_fault offsets_in strange_in_tables key_fault group_unknown project_unknown transition_unknown rights_unknown tables_unknown tie_fault_by tie_fault first_fault parts_in parts_or_fault setup_in
-computed = refl
+pub reads_to : (parts : Parts) → setup_in BUILT_IN.now ≡ Ok parts → parts ≡ built_in_parts
+reads_to parts reads = ok_is parts built_in_parts (setup_in BUILT_IN.now) reads built_in_reads
 
 -- so a fault of it could only be want of memory
 pub no_fault : (fault : SetupFault) → (fault ≢ Memory → setup_in BUILT_IN.now ≡ Err fault) → fault ≡ Memory
-no_fault fault told = by_case fault (λ other. false_is (sym (ap is_setup (told other)) ∙ computed)) where
-  false_is : false ≡ true → ⊥
-  false_is e = cc
+no_fault fault told = by_case fault (λ other. not_both (sym (told other) ∙ built_in_reads)) where
+  not_both : Err fault ≡ Ok built_in_parts → ⊥
+  not_both e = cc
 
   by_case : (f : SetupFault) → (f ≢ Memory → ⊥) → f ≡ Memory
   by_case Memory denied = refl

@@ -1,22 +1,24 @@
 -- What a setup without faults keeps: names are distinct, and entries are of their form.
-use Rattle.std.proofs.Common.{◌≡◌, ℕ, zero, suc, ◌<◌, List, [], ◌∷◌, ◌++◌, length, map, get_or, Bool, true, false, not, Option, Some, None, option_map, refl, ap, inl, inr, arith}
+use Rattle.std.proofs.Common.{◌≡◌, ℕ, zero, suc, ◌+◌, ◌<◌, ◌≤◌, List, [], ◌∷◌, ◌++◌, length, map, get_or, Bool, true, false, not, nat_lt, is_some, Option, Some, None, option_map, refl, ap, inl, inr, arith, subst}
 use Rattle.std.specs.List.{list_all, list_any, All}
 use Rattle.std.specs.Option.{option_or, option_map_or}
 use Rattle.std.specs.Str.{str_eq_ignore_ascii_case}
 use Rattle.std.proofs.lemmas.Bool.{cases_Bool}
-use Rattle.std.proofs.lemmas.List.{append_assoc, append-nil}
+use Rattle.std.proofs.lemmas.List.{append_assoc, append-nil, length-map}
+use Rattle.std.proofs.lemmas.List.Folds.{list_all-map}
 use Rattle.std.proofs.lemmas.List.Quantifiers.{all_pairs_push}
-use Rattle.toml.specs.Data.{Data, Members, as_str}
+use Rattle.field_values.proofs.Rising.{each_fails}
+use Rattle.toml.specs.Data.{Data, array, Items, no_items, item, Members, as_str, as_table}
 use Rattle.setup_drafts.specs.declared.fault.SetupFault.{SetupFault}
-use Rattle.setup_drafts.specs.declared.fault.SetupFault.TheVariants.{Missing, BadValue, Duplicate}
+use Rattle.setup_drafts.specs.declared.fault.SetupFault.TheVariants.{Missing, BadValue, TooMany, Duplicate}
 use Rattle.field_forms.specs.declared.name_form.NameForm.{NameForm}
 use Rattle.setup_drafts.specs.Faults.{fault_if}
-use Rattle.field_forms.specs.Names.{is_among, first_double}
+use Rattle.field_forms.specs.Names.{is_among, first_double, AreDistinct}
 use Rattle.field_forms.specs.NameForms.{has_form}
-use Rattle.setup_drafts.specs.Cells.{new_name_fault, text_in, names_in, list_fault, names_fault, optional_names_fault, crowd_fault}
-use Rattle.setup_drafts.specs.Written.{texts_of, has_fewer_than}
-use Rattle.field_forms.specs.Names.{AreDistinct}
-use Rattle.setup_drafts.specs.Entries.{entries_fault, with_name}
+use Rattle.setup_drafts.specs.Cells.{new_name_fault, text_in, names_in, list_fault, names_fault, optional_names_fault, rules_fault, tables_fault, tables_in, crowd_fault}
+use Rattle.setup_drafts.specs.Written.{all_texts, texts_of, all_tables, tables_of, count, has_fewer_than}
+use Rattle.setup_drafts.specs.Entries.{entries_fault}
+use Rattle.fields.specs.Sound.{IsNameList}
 
 pub none_first : {X : Type 0} (a b : Option X) → option_or a b ≡ None → a ≡ None
 none_first None b h = refl
@@ -33,12 +35,6 @@ not_faulty false fault h = refl
 not_not : (test : Bool) → not test ≡ false → test ≡ true
 not_not true h = refl
 not_not false h = absurd (cc)
-
--- none of a list passes a test that none passes
-pub each_fails : {X : Type 0} (p : X → Bool) (xs : List X) → list_any p xs ≡ false → (k : ℕ) (d : X) → k < length xs → p (get_or xs k d) ≡ false
-each_fails p [] none k d inside = absurd (omega arith)
-each_fails p (x ∷ xs) none zero d inside = elim (cases_Bool (p x)) [ inl passes ↦ absurd (grind (arith, passes, none)) | inr other ↦ other ]
-each_fails p (x ∷ xs) none (suc k) d inside = elim (cases_Bool (p x)) [ inl passes ↦ absurd (grind (arith, passes, none)) | inr other ↦ each_fails p xs (grind (arith, other, none)) k d (omega arith) ]
 
 -- one more name that is none of them
 pub one_more : (names : List (List ℕ)) (name : List ℕ) → AreDistinct names → is_among names name ≡ false → AreDistinct (names ++ name ∷ [])
@@ -70,13 +66,6 @@ new_name key form earlier (Some d) h = new_text key form earlier d (as_str d) re
     new = not_faulty _ _ double;
   }
 
--- entries whose names are new one after another have distinct names
-pub distinct_entries : (fault : List (List ℕ) → Members → Option SetupFault) (name : Members → List ℕ) → ((earlier : List (List ℕ)) (e : Members) → fault earlier e ≡ None → is_among earlier (name e) ≡ false) → (earlier : List (List ℕ)) (es : List Members) → AreDistinct earlier → entries_fault fault (with_name name) earlier es ≡ None → AreDistinct (earlier ++ map name es)
-distinct_entries fault name new earlier [] distinct none = rw append-nil distinct
-distinct_entries fault name new earlier (e ∷ es) distinct none =
-    let more : AreDistinct ((earlier ++ name e ∷ []) ++ map name es) = distinct_entries fault name new (earlier ++ name e ∷ []) es (one_more earlier (name e) distinct (new earlier e (none_first _ _ none))) (none_second _ _ none) in
-    rw append_assoc at more
-
 -- what holds of each entry without a fault holds of all
 pub each_entry : {S : Type 0} (fault : S → Members → Option SetupFault) (after : S → Members → S) (test : Members → Bool) → ((before : S) (e : Members) → fault before e ≡ None → test e ≡ true) → (before : S) (es : List Members) → entries_fault fault after before es ≡ None → list_all test es ≡ true
 each_entry fault after test holds before [] none = refl
@@ -85,23 +74,163 @@ each_entry fault after test holds before (e ∷ es) none =
     let rest : list_all test es ≡ true = each_entry fault after test holds (after before e) es (none_second (fault before e) (entries_fault fault after (after before e) es) none) in
     grind (arith, first, rest)
 
--- a list of names without a fault is distinct
-list_distinct : (key : List ℕ) (form : NameForm) (least : ℕ) (most : Option ℕ) (d : Data) → list_fault key form least most d ≡ None → AreDistinct (names_in (Some d))
-list_distinct key form least most d h =
-    let few = none_second (fault_if (has_fewer_than least d) (Missing key)) _ h in
-    let formed = none_second (fault_if (not (option_map_or (list_all (has_form form)) (texts_of d) false)) (BadValue key)) _ few in
-    by_double d (first_double [] (names_in (Some d))) refl (none_second (crowd_fault key most (length (names_in (Some d)))) _ formed) where
-      by_double : (d : Data) (double : Option (List ℕ)) → first_double [] (names_in (Some d)) ≡ double → option_map Duplicate (first_double [] (names_in (Some d))) ≡ None → AreDistinct (names_in (Some d))
-      by_double d None e none = without_double [] (names_in (Some d)) (λ i j n lt inside. absurd (omega arith)) e
-      by_double d (Some name) e none = absurd (grind (arith, e, none))
+-- as many texts as items, and as many tables
+texts_count : (ds : Items) (texts : List (List ℕ)) → all_texts ds ≡ Some texts → length texts ≡ count ds
+texts_count no_items texts e =
+    let none : [] ≡ texts = cc in
+    grind (arith, none)
+texts_count (item d ds) texts e = by_text (as_str d) (all_texts ds) refl refl (texts_count ds) where
+  by_text : (s : Option (List ℕ)) (rest : Option (List (List ℕ))) → as_str d ≡ s → all_texts ds ≡ rest → ((more : List (List ℕ)) → all_texts ds ≡ Some more → length more ≡ count ds) → length texts ≡ count ds + 1
+  by_text None rest d_is rest_is counts = absurd (grind (arith, d_is, e))
+  by_text (Some s) None d_is rest_is counts = absurd (grind (arith, d_is, rest_is, e))
+  by_text (Some s) (Some more) d_is rest_is counts =
+      let all : s ∷ more ≡ texts = grind (arith, d_is, rest_is, e) in
+      let counted : length more ≡ count ds = counts more rest_is in
+      grind (arith, all, counted)
 
-pub names_distinct : (key : List ℕ) (form : NameForm) (least : ℕ) (most : Option ℕ) (value : Option Data) → names_fault key form least most value ≡ None → AreDistinct (names_in value)
-names_distinct key form least most None h = absurd (cc)
-names_distinct key form least most (Some d) h = list_distinct key form least most d h
+tables_count : (ds : Items) (tables : List Members) → all_tables ds ≡ Some tables → length tables ≡ count ds
+tables_count no_items tables e =
+    let none : [] ≡ tables = cc in
+    grind (arith, none)
+tables_count (item d ds) tables e = by_table (as_table d) (all_tables ds) refl refl (tables_count ds) where
+  by_table : (t : Option Members) (rest : Option (List Members)) → as_table d ≡ t → all_tables ds ≡ rest → ((more : List Members) → all_tables ds ≡ Some more → length more ≡ count ds) → length tables ≡ count ds + 1
+  by_table None rest d_is rest_is counts = absurd (grind (arith, d_is, e))
+  by_table (Some t) None d_is rest_is counts = absurd (grind (arith, d_is, rest_is, e))
+  by_table (Some t) (Some more) d_is rest_is counts =
+      let all : t ∷ more ≡ tables = grind (arith, d_is, rest_is, e) in
+      let counted : length more ≡ count ds = counts more rest_is in
+      grind (arith, all, counted)
 
-pub optional_distinct : (key : List ℕ) (form : NameForm) (least : ℕ) (most : Option ℕ) (value : Option Data) → optional_names_fault key form least most value ≡ None → AreDistinct (names_in value)
-optional_distinct key form least most None h = λ i j d lt inside. absurd (omega arith)
-optional_distinct key form least most (Some d) h = list_distinct key form least most d h
+enough_texts : (least : ℕ) (d : Data) (texts : List (List ℕ)) → texts_of d ≡ Some texts → has_fewer_than least d ≡ false → least ≤ length texts
+enough_texts least (array ds) texts e many = grind (arith, texts_count ds texts e, many)
+enough_texts least _ texts e many = absurd (cc)
+
+enough_tables : (least : ℕ) (d : Data) (tables : List Members) → tables_of d ≡ Some tables → has_fewer_than least d ≡ false → least ≤ length tables
+enough_tables least (array ds) tables e many = grind (arith, tables_count ds tables e, many)
+enough_tables least _ tables e many = absurd (cc)
+
+no_pairs : AreDistinct []
+no_pairs = λ i j n lt inside. absurd (omega arith)
+
+-- what the checks of a list of names keep
+module _ (key : List ℕ) (form : NameForm) (least : ℕ) (most : Option ℕ) (d : Data) (none : list_fault key form least most d ≡ None) where
+  list_many : has_fewer_than least d ≡ false
+  list_many = not_faulty (has_fewer_than least d) (Missing key) (none_first _ _ none)
+
+  list_formed : option_map_or (list_all (has_form form)) (texts_of d) false ≡ true
+  list_formed =
+      let many = none_second (fault_if (has_fewer_than least d) (Missing key)) _ none in
+      not_not _ (not_faulty (not (option_map_or (list_all (has_form form)) (texts_of d) false)) (BadValue key) (none_first _ _ many))
+
+  list_crowd : crowd_fault key most (length (names_in (Some d))) ≡ None
+  list_crowd =
+      let many = none_second (fault_if (has_fewer_than least d) (Missing key)) _ none in
+      let formed = none_second (fault_if (not (option_map_or (list_all (has_form form)) (texts_of d) false)) (BadValue key)) _ many in
+      none_first (crowd_fault key most (length (names_in (Some d)))) _ formed
+
+  list_single : option_map Duplicate (first_double [] (names_in (Some d))) ≡ None
+  list_single =
+      let many = none_second (fault_if (has_fewer_than least d) (Missing key)) _ none in
+      let formed = none_second (fault_if (not (option_map_or (list_all (has_form form)) (texts_of d) false)) (BadValue key)) _ many in
+      none_second (crowd_fault key most (length (names_in (Some d)))) _ formed
+
+  list_enough : least ≤ length (names_in (Some d))
+  list_enough = by_texts (texts_of d) refl where
+    by_texts : (texts : Option (List (List ℕ))) → texts_of d ≡ texts → least ≤ length (names_in (Some d))
+    by_texts None e = absurd (grind (arith, e, list_formed))
+    by_texts (Some texts) e = grind (arith, e, enough_texts least d texts e list_many)
+
+  list_all_formed : list_all (has_form form) (names_in (Some d)) ≡ true
+  list_all_formed = by_texts (texts_of d) refl where
+    by_texts : (texts : Option (List (List ℕ))) → texts_of d ≡ texts → list_all (has_form form) (names_in (Some d)) ≡ true
+    by_texts None e = absurd (grind (arith, e, list_formed))
+    by_texts (Some texts) e = grind (arith, e, list_formed)
+
+  list_distinct : AreDistinct (names_in (Some d))
+  list_distinct = by_double (first_double [] (names_in (Some d))) refl list_single where
+    by_double : (double : Option (List ℕ)) → first_double [] (names_in (Some d)) ≡ double → option_map Duplicate (first_double [] (names_in (Some d))) ≡ None → AreDistinct (names_in (Some d))
+    by_double None e none = without_double [] (names_in (Some d)) no_pairs e
+    by_double (Some name) e none = absurd (grind (arith, e, none))
+
+-- names without a fault, in a list that may have so many
+list_right : (key : List ℕ) (form : NameForm) (least most : ℕ) (d : Data) → list_fault key form least (Some most) d ≡ None → IsNameList form least most (names_in (Some d))
+list_right key form least most d none = record {
+  enough = list_enough key form least (Some most) d none;
+  few = grind (arith, not_faulty (nat_lt most (length (names_in (Some d)))) (TooMany key most) (list_crowd key form least (Some most) d none));
+  formed = list_all_formed key form least (Some most) d none;
+  distinct = list_distinct key form least (Some most) d none;
+}
+
+pub names_right : (key : List ℕ) (form : NameForm) (least most : ℕ) (value : Option Data) → names_fault key form least (Some most) value ≡ None → IsNameList form least most (names_in value)
+names_right key form least most None h = absurd (cc)
+names_right key form least most (Some d) h = list_right key form least most d h
+
+pub optional_right : (key : List ℕ) (form : NameForm) (most : ℕ) (value : Option Data) → optional_names_fault key form 0 (Some most) value ≡ None → IsNameList form 0 most (names_in value)
+optional_right key form most None h = record { enough = omega arith; few = omega arith; formed = refl; distinct = no_pairs }
+optional_right key form most (Some d) h = list_right key form 0 most d h
+
+-- a list that must have some isn't empty
+pub names_enough : (key : List ℕ) (form : NameForm) (least : ℕ) (value : Option Data) → names_fault key form least None value ≡ None → least ≤ length (names_in value)
+names_enough key form least None h = absurd (cc)
+names_enough key form least (Some d) h = list_enough key form least None d h
+
+-- at most twenty rules
+pub rules_few : (key : List ℕ) (value : Option Data) → rules_fault key value ≡ None → length (names_in value) ≤ 20
+rules_few key None h = omega arith
+rules_few key (Some d) h =
+    let few = not_faulty (nat_lt 20 (length (names_in (Some d)))) (TooMany key 20) (none_second (fault_if (not (is_some (texts_of d))) (BadValue key)) _ h) in
+    grind (arith, few)
+
+-- tables without a fault, in a list that may have so many
+pub record IsCounted (least most n : ℕ) : Type 0 where
+  pub enough : least ≤ n
+  pub few : n ≤ most
+
+pub tables_right : (key : List ℕ) (least most : ℕ) (value : Option Data) → tables_fault key least most value ≡ None → IsCounted least most (length (tables_in value))
+tables_right key least most None h = record {
+  enough = grind (arith, not_faulty (nat_lt 0 least) (Missing key) h);
+  few = omega arith;
+}
+tables_right key least most (Some d) h = by_tables (tables_of d) refl where
+  many : has_fewer_than least d ≡ false
+  many = not_faulty (has_fewer_than least d) (Missing key) (none_first _ _ h)
+
+  tabled : is_some (tables_of d) ≡ true
+  tabled =
+      let rest = none_second (fault_if (has_fewer_than least d) (Missing key)) _ h in
+      not_not _ (not_faulty (not (is_some (tables_of d))) (BadValue key) (none_first _ _ rest))
+
+  few : nat_lt most (length (tables_in (Some d))) ≡ false
+  few =
+      let rest = none_second (fault_if (has_fewer_than least d) (Missing key)) _ h in
+      not_faulty (nat_lt most (length (tables_in (Some d)))) (TooMany key most) (none_second (fault_if (not (is_some (tables_of d))) (BadValue key)) _ rest)
+
+  by_tables : (tables : Option (List Members)) → tables_of d ≡ tables → IsCounted least most (length (tables_in (Some d)))
+  by_tables None e = absurd (grind (arith, e, tabled))
+  by_tables (Some tables) e = record {
+    enough = grind (arith, e, enough_tables least d tables e many);
+    few = grind (arith, few);
+  }
+
+-- the names of entries without a fault, each of which is looked at beside the names of those before it
+module _ {S : Type 0} (form : NameForm) (names : S → List (List ℕ)) (fault : S → Members → Option SetupFault) (after : S → Members → S) (name : Members → List ℕ)
+    (more : (before : S) (e : Members) → names (after before e) ≡ names before ++ name e ∷ [])
+    (new : (before : S) (e : Members) → fault before e ≡ None → IsNewName form (names before) (name e)) where
+  entries_distinct : (before : S) (es : List Members) → AreDistinct (names before) → entries_fault fault after before es ≡ None → AreDistinct (names before ++ map name es)
+  entries_distinct before [] distinct none = rw append-nil distinct
+  entries_distinct before (e ∷ es) distinct none =
+      let first : AreDistinct (names (after before e)) = rw (more before e) (one_more (names before) (name e) distinct (new before e (none_first _ _ none)).new) in
+      let rest : AreDistinct (names (after before e) ++ map name es) = entries_distinct (after before e) es first (none_second (fault before e) _ none) in
+      let spread : AreDistinct ((names before ++ name e ∷ []) ++ map name es) = subst (λ (ns : List (List ℕ)). AreDistinct (ns ++ map name es)) (more before e) rest in
+      rw append_assoc at spread
+
+  pub entries_right : (least most : ℕ) (before : S) (es : List Members) → names before ≡ [] → IsCounted least most (length es) → entries_fault fault after before es ≡ None → IsNameList form least most (map name es)
+  entries_right least most before es empty counted none = record {
+    enough = omega (arith, counted.enough, length-map es name);
+    few = omega (arith, counted.few, length-map es name);
+    formed = rw list_all-map (each_entry fault after (λ e. has_form form (name e)) (λ before e h. (new before e h).formed) before es none);
+    distinct = subst (λ (ns : List (List ℕ)). AreDistinct (ns ++ map name es)) empty (entries_distinct before es (rw empty no_pairs) none);
+  }
 
 -- the names of mapped things
 pub map_map : {A B C : Type 0} (f : B → C) (g : A → B) (xs : List A) → map f (map g xs) ≡ map (λ x. f (g x)) xs

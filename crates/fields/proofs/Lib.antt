@@ -6,4 +6,6 @@ pub mod Sound
 pub mod Rising
 pub mod Choices
 pub mod Found
+pub mod PlaceNames
+pub mod FieldNames
 pub mod BuiltIn

@@ -18,10 +18,10 @@ use Rattle.fields.proofs.Facts.{none_first, none_second}
 use Rattle.field_values.proofs.Members.{same_names, same_length}
 use Rattle.field_forms.specs.SoundRules.{rules_are_sound}
 use Rattle.fields.specs.Sound.{part_names}
-use Rattle.fields.proofs.DraftFacts.{users_are_distinct, types_are_distinct, priorities_are_distinct, resolutions_are_distinct, versions_are_distinct, keys_are_distinct, keys_are_formed, numbers_are_distinct, numbers_are_own, statuses_are_distinct, options_are_distinct}
-use Rattle.fields.proofs.TieFacts.{first_is_inside, transitions_are_inside, rebalancer_is_inside, plan_is_inside, administer_is_inside, projects_are_inside, rules_are_inside, members_are_inside, keys_stay, key_forms, group_count}
+use Rattle.fields.proofs.DraftFacts.{users_are_right, types_are_right, priorities_are_right, resolutions_are_right, versions_are_right, groups_are_right, keys_are_right, statuses_are_right, transition_names_are_right, own_names_are_right, numbers_are_distinct, numbers_are_own, options_are_right, transitions_are_started, transitions_have_few}
+use Rattle.fields.proofs.TieFacts.{first_is_inside, transitions_are_inside, rebalancer_is_inside, plan_is_inside, administer_is_inside, projects_are_inside, rules_are_inside, members_are_inside, keys_stay, group_names_stay, transition_names_stay, starts_stay, few_stay, tests_are_some, group_count}
 
-ok_is : (p q : Parts) (r : Result Parts SetupFault) → r ≡ Ok p → r ≡ Ok q → p ≡ q
+pub ok_is : (p q : Parts) (r : Result Parts SetupFault) → r ≡ Ok p → r ≡ Ok q → p ≡ q
 ok_is p q r one other = cc
 
 -- what holds of each setup without faults
@@ -31,24 +31,29 @@ sound_parts ms none =
     let in_draft : draft_fault ms ≡ None = none_first (draft_fault ms) _ none in
     let in_ties : tie_fault (draft_of ms) ≡ None = none_first (tie_fault (draft_of ms)) _ (none_second (draft_fault ms) _ none) in
     record {
-      users = users_are_distinct ms in_draft;
-      types = types_are_distinct ms in_draft;
-      priorities = priorities_are_distinct ms in_draft;
-      resolutions = resolutions_are_distinct ms in_draft;
-      versions = versions_are_distinct ms in_draft;
-      keys = rw (keys_stay (draft_of ms)) (keys_are_distinct ms in_draft);
-      key_forms = key_forms (draft_of ms) (keys_are_formed ms in_draft);
+      users = users_are_right ms in_draft;
+      types = types_are_right ms in_draft;
+      priorities = priorities_are_right ms in_draft;
+      resolutions = resolutions_are_right ms in_draft;
+      versions = versions_are_right ms in_draft;
+      groups = rw (group_names_stay (draft_of ms)) (groups_are_right ms in_draft);
+      keys = rw (keys_stay (draft_of ms)) (keys_are_right ms in_draft);
+      statuses = statuses_are_right ms in_draft;
+      transition_names = rw (transition_names_stay (draft_of ms)) (transition_names_are_right ms in_draft);
+      field_names = own_names_are_right ms in_draft;
       numbers = numbers_are_distinct ms in_draft;
       own_numbers = numbers_are_own ms in_draft;
+      options = options_are_right ms in_draft;
       first_status = first_is_inside (draft_of ms) in_ties;
-      transitions = transitions_are_inside (draft_of ms) in_ties;
-      members = members_are_inside (draft_of ms);
-      statuses = statuses_are_distinct ms in_draft;
-      options = options_are_distinct ms in_draft;
       rebalancer = rebalancer_is_inside (draft_of ms) in_ties;
       plan = rw (group_count (draft_of ms)) (plan_is_inside (draft_of ms) in_ties);
       administer = rw (group_count (draft_of ms)) (administer_is_inside (draft_of ms) in_ties);
+      members = members_are_inside (draft_of ms);
       projects = rw (group_count (draft_of ms)) (projects_are_inside (draft_of ms) in_ties);
+      transitions = transitions_are_inside (draft_of ms) in_ties;
+      starts = starts_stay (draft_of ms) (transitions_are_started ms in_draft);
+      tests = tests_are_some (draft_of ms);
+      few_rules = few_stay (draft_of ms) (transitions_have_few ms in_draft);
       rules = rules_are_inside (draft_of ms);
     }
 
@@ -86,19 +91,24 @@ still_sound parts place members sound new =
       priorities = sound.priorities;
       resolutions = sound.resolutions;
       versions = sound.versions;
+      groups = rw called sound.groups;
       keys = sound.keys;
-      key_forms = sound.key_forms;
+      statuses = sound.statuses;
+      transition_names = sound.transition_names;
+      field_names = sound.field_names;
       numbers = sound.numbers;
       own_numbers = sound.own_numbers;
-      first_status = sound.first_status;
-      transitions = sound.transitions;
-      members = still_members (length parts.users) parts.group place members sound.members new;
-      statuses = sound.statuses;
       options = sound.options;
+      first_status = sound.first_status;
       rebalancer = sound.rebalancer;
       plan = rw count sound.plan;
       administer = rw count sound.administer;
+      members = still_members (length parts.users) parts.group place members sound.members new;
       projects = rw count sound.projects;
+      transitions = sound.transitions;
+      starts = sound.starts;
+      tests = sound.tests;
+      few_rules = sound.few_rules;
       rules = subst (λ (names : known.Names). list_all (rules_are_sound names) parts.transition ≡ true) same sound.rules;
     }
 
@@ -110,18 +120,23 @@ at_offset parts minutes sound = record {
   priorities = sound.priorities;
   resolutions = sound.resolutions;
   versions = sound.versions;
+  groups = sound.groups;
   keys = sound.keys;
-  key_forms = sound.key_forms;
+  statuses = sound.statuses;
+  transition_names = sound.transition_names;
+  field_names = sound.field_names;
   numbers = sound.numbers;
   own_numbers = sound.own_numbers;
-  first_status = sound.first_status;
-  transitions = sound.transitions;
-  members = sound.members;
-  statuses = sound.statuses;
   options = sound.options;
+  first_status = sound.first_status;
   rebalancer = sound.rebalancer;
   plan = sound.plan;
   administer = sound.administer;
+  members = sound.members;
   projects = sound.projects;
+  transitions = sound.transitions;
+  starts = sound.starts;
+  tests = sound.tests;
+  few_rules = sound.few_rules;
   rules = sound.rules;
 }

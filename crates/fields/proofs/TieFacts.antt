@@ -1,27 +1,31 @@
 -- What names that are known keep of what they name.
-use Rattle.std.proofs.Common.{◌≡◌, ℕ, ◌+◌, ◌<◌, List, [], ◌∷◌, length, map, Bool, true, nat_lt, nat_le, None, subst, refl, ap, sym, inl, inr, arith}
+use Rattle.std.proofs.Common.{◌≡◌, ℕ, ◌+◌, ◌<◌, ◌≤◌, ◌==◌, List, [], ◌∷◌, length, map, Bool, true, ◌&&◌, nat_lt, nat_le, Option, Some, None, option_map, option_and_then, subst, refl, ap, sym, inl, inr, arith, codes}
 use Rattle.std.specs.List.{list_all, filter_map}
-use Rattle.std.proofs.lemmas.Bool.{cases_Bool}
+use Rattle.std.specs.Option.{option_map_or}
+use Rattle.std.specs.Str.{bytes_eq}
+use Rattle.std.proofs.lemmas.Bool.{cases_Bool, and_parts}
 use Rattle.std.proofs.lemmas.List.{length-map}
 use Rattle.std.proofs.lemmas.List.Folds.{list_all-map}
 use Rattle.field_values.specs.declared.numbers.UserNo.{UserNo}
-use Rattle.field_forms.specs.Names.{is_among, is_project_key}
-use Rattle.setup_reading.specs.Ties.{unknown, place_in, choice_in, first_over, members_in, group_unknown, group_tied, project_unknown, project_tied, transition_unknown, transition_tied, rights_unknown, rights_tied, tables_unknown, tables_tied, tie_fault, tie_fault_by, tied, tied_by, names_in as known_in}
-use Rattle.field_forms.specs.Known as known
-use Rattle.setup_drafts.specs.declared.draft.Draft.{Draft}
+use Rattle.field_values.specs.declared.rules.CallerTest.{CallerTest}
+use Rattle.field_values.specs.declared.rules.Condition.{Condition}
 use Rattle.field_values.specs.declared.status.Status.{Status}
-use Rattle.setup_drafts.specs.declared.draft.group.GroupDraft.{GroupDraft}
-use Rattle.setup_drafts.specs.declared.draft.transition.TransitionDraft.{TransitionDraft}
 use Rattle.field_values.specs.GroupMembers.{is_user_list}
-use Rattle.fields.specs.Sound.{goes_inside, has_members_in}
-use Rattle.fields.proofs.Facts.{none_first, none_second, map_map}
-use Rattle.setup_drafts.specs.declared.draft.project.ProjectDraft.{ProjectDraft}
-use Rattle.field_forms.specs.Rules.{condition_of, validator_of, post_of}
+use Rattle.field_forms.specs.Cuts.{cut_at, pieces_at, onto_first}
+use Rattle.field_forms.specs.Known as known
+use Rattle.field_forms.specs.Names.{is_among}
+use Rattle.field_forms.specs.Rules.{named_test, test_of, all_tests, any_of, tests_of, condition_of, validator_of, post_of}
 use Rattle.field_forms.specs.SoundRules.{is_group, condition_is_sound, validator_is_sound, post_is_sound, rules_are_sound}
 use Rattle.field_forms.proofs.SoundRules.{all_made, condition_sound, validator_sound, post_sound}
-use Rattle.setup_reading.specs.Ties.{group_in}
+use Rattle.setup_drafts.specs.declared.draft.Draft.{Draft}
+use Rattle.setup_drafts.specs.declared.draft.group.GroupDraft.{GroupDraft}
+use Rattle.setup_drafts.specs.declared.draft.project.ProjectDraft.{ProjectDraft}
+use Rattle.setup_drafts.specs.declared.draft.transition.TransitionDraft.{TransitionDraft}
+use Rattle.setup_reading.specs.Ties.{unknown, place_in, choice_in, group_in, first_over, members_in, group_unknown, group_tied, project_unknown, project_tied, transition_unknown, transition_tied, rights_unknown, rights_tied, tables_unknown, tables_tied, tie_fault, tie_fault_by, tied, tied_by, names_in as known_in}
 use Rattle.setup_reading.specs.Reading.{parts_of}
-use Rattle.fields.specs.Sound.{project_is_sound, part_names}
+use Rattle.fields.specs.Sound.{goes_inside, has_start, has_tests, have_tests, has_few_rules, has_members_in, project_is_sound, part_names}
+use Rattle.fields.proofs.Facts.{none_first, none_second, map_map}
+use Rattle.fields.proofs.DraftFacts.{is_started, has_few_texts}
 use Rattle.fields.proofs.KnownNames.{known_inside, each_over, inside_mapped}
 
 -- the first of the users, if there is one, is not before a place
@@ -121,6 +125,120 @@ all_rules names (draft ∷ drafts) =
     let rest : list_all (λ t. rules_are_sound names (transition_tied names t)) drafts ≡ true = all_rules names drafts in
     rw (first, rest) refl
 
+-- a text is cut into at least one piece
+some_pieces : (mark : ℕ) (text : List ℕ) → nat_lt 0 (length (pieces_at mark text)) ≡ true
+some_pieces mark [] = refl
+some_pieces mark (b ∷ text) = elim (cases_Bool (b == mark)) [
+  | inl here ↦ rw here (grind arith)
+  | inr later ↦ rw later (still_some b (pieces_at mark text) (some_pieces mark text))
+] where
+  still_some : (b : ℕ) (pieces : List (List ℕ)) → nat_lt 0 (length pieces) ≡ true → nat_lt 0 (length (onto_first b pieces)) ≡ true
+  still_some b [] h = absurd (cc)
+  still_some b (piece ∷ pieces) h = grind arith
+
+-- each text that is a test is one of the tests
+as_many_tests : (names : known.Names) (texts : List (List ℕ)) (tests : List CallerTest) → all_tests names texts ≡ Some tests → length tests ≡ length texts
+as_many_tests names [] tests e =
+    let none : [] ≡ tests = cc in
+    grind (arith, none)
+as_many_tests names (text ∷ texts) tests e = by_test (test_of names text) (all_tests names texts) refl refl (as_many_tests names texts) where
+  by_test : (test : Option CallerTest) (rest : Option (List CallerTest)) → test_of names text ≡ test → all_tests names texts ≡ rest → ((more : List CallerTest) → all_tests names texts ≡ Some more → length more ≡ length texts) → length tests ≡ length (text ∷ texts)
+  by_test None rest test_is rest_is counts = absurd (grind (arith, test_is, e))
+  by_test (Some test) None test_is rest_is counts = absurd (grind (arith, test_is, rest_is, e))
+  by_test (Some test) (Some more) test_is rest_is counts =
+      let all : test ∷ more ≡ tests = grind (arith, test_is, rest_is, e) in
+      let counted : length more ≡ length texts = counts more rest_is in
+      grind (arith, all, counted)
+
+-- there is at least one
+abbrev are_some : Option (List CallerTest) → Bool
+are_some tests = option_map_or (λ ts. nat_lt 0 (length ts)) tests true
+
+any_has_some : (names : known.Names) (word rest : List ℕ) → are_some (any_of names word rest) ≡ true
+any_has_some names word rest = elim (cases_Bool (bytes_eq word (codes "any"))) [
+  | inl any ↦ rw any (by_tests (all_tests names (pieces_at 124 rest)) refl)
+  | inr other ↦ rw other (by_one (named_test names word rest))
+] where
+  by_tests : (tests : Option (List CallerTest)) → all_tests names (pieces_at 124 rest) ≡ tests → are_some tests ≡ true
+  by_tests None e = refl
+  by_tests (Some tests) e = grind (arith, as_many_tests names (pieces_at 124 rest) tests e, some_pieces 124 rest)
+
+  by_one : (test : Option CallerTest) → are_some (option_map (λ one. one ∷ []) test) ≡ true
+  by_one None = refl
+  by_one (Some test) = refl
+
+tests_have_some : (names : known.Names) (text : List ℕ) → are_some (tests_of names text) ≡ true
+unfolding tests_of
+tests_have_some names text = elim (cases_Bool (bytes_eq text (codes "assignee"))) [
+  | inl assignee ↦ rw assignee refl
+  | inr other ↦ elim (cases_Bool (bytes_eq text (codes "reporter"))) [
+    | inl reporter ↦ rw (other, reporter) refl
+    | inr cut ↦ rw (other, cut) (by_cut (cut_at 58 text))
+  ]
+] where
+  by_cut : (parts : Option (List ℕ × List ℕ)) → are_some (option_and_then (λ p. any_of names p.0 p.1) parts) ≡ true
+  by_cut None = refl
+  by_cut (Some parts) = any_has_some names parts.0 parts.1
+
+-- a condition asks for something
+condition_has_tests : (names : known.Names) (text : List ℕ) (condition : Condition) → condition_of names text ≡ Some condition → has_tests condition ≡ true
+unfolding condition_of
+condition_has_tests names text condition e = by_tests (tests_of names text) refl where
+  by_tests : (tests : Option (List CallerTest)) → tests_of names text ≡ tests → has_tests condition ≡ true
+  by_tests None tests_is = absurd (grind (arith, tests_is, e))
+  by_tests (Some tests) tests_is =
+      let some : are_some (Some tests) ≡ true = subst (λ (t : Option (List CallerTest)). are_some t ≡ true) tests_is (tests_have_some names text) in
+      let same : record { any_of = tests } ≡ condition = grind (arith, tests_is, e) in
+      subst (λ (c : Condition). has_tests c ≡ true) same some
+
+-- no more are made than there are texts
+few_made : {X Y : Type 0} (make : X → Option Y) (xs : List X) → length (filter_map make xs) ≤ length xs
+few_made make [] = omega arith
+few_made {X} {Y} make (x ∷ xs) = by_made (make x) (few_made make xs) refl where
+  by_made : (made : Option Y) → length (filter_map make xs) ≤ length xs → make x ≡ made → length (filter_map make (x ∷ xs)) ≤ length (x ∷ xs)
+  by_made None few e = rw e (omega (arith, few))
+  by_made (Some y) few e = rw e (omega (arith, few))
+
+-- what a transition keeps of how it is written
+starts_somewhere : (names : known.Names) (t : TransitionDraft) → is_started t ≡ true → has_start (transition_tied names t) ≡ true
+unfolding transition_tied
+starts_somewhere names t started = rw length-map started
+
+asks_something : (names : known.Names) (t : TransitionDraft) → have_tests (transition_tied names t) ≡ true
+unfolding transition_tied
+asks_something names t = all_made (condition_of names) has_tests (condition_has_tests names) t.conditions
+
+still_few : (a b : ℕ) → a ≤ b → nat_le b 20 ≡ true → nat_le a 20 ≡ true
+still_few a b le few = grind (arith, le, few)
+
+all_three : (a b c : Bool) → a ≡ true → b ≡ true → c ≡ true → (a && (b && c)) ≡ true
+all_three a b c one two three = rw (one, two, three) refl
+
+has_few : (names : known.Names) (t : TransitionDraft) → has_few_texts t ≡ true → has_few_rules (transition_tied names t) ≡ true
+unfolding transition_tied
+has_few names t few =
+    let conditions = and_parts (nat_le (length t.conditions) 20) _ few in
+    let others = and_parts (nat_le (length t.validators) 20) (nat_le (length t.post) 20) conditions.1 in
+    all_three _ _ _
+    (still_few (length (filter_map (condition_of names) t.conditions)) (length t.conditions) (few_made (condition_of names) t.conditions) conditions.0)
+    (still_few (length (filter_map (validator_of names) t.validators)) (length t.validators) (few_made (validator_of names) t.validators) others.0)
+    (still_few (length (filter_map (post_of names) t.post)) (length t.post) (few_made (post_of names) t.post) others.1)
+
+-- what follows from a test holds of what passes it
+all_follow : {X : Type 0} (test other : X → Bool) → ((x : X) → test x ≡ true → other x ≡ true) → (xs : List X) → list_all test xs ≡ true → list_all other xs ≡ true
+all_follow test other holds [] all = refl
+all_follow test other holds (x ∷ xs) all =
+    let parts = and_parts (test x) (list_all test xs) all in
+    let rest : list_all other xs ≡ true = all_follow test other holds xs parts.1 in
+    grind (arith, holds x parts.0, rest)
+
+each_asks : (names : known.Names) (drafts : List TransitionDraft) → list_all (λ t. have_tests (transition_tied names t)) drafts ≡ true
+each_asks names [] = refl
+each_asks names (t ∷ ts) =
+    let first : have_tests (transition_tied names t) ≡ true = asks_something names t in
+    let rest : list_all (λ t. have_tests (transition_tied names t)) ts ≡ true = each_asks names ts in
+    rw (first, rest) refl
+
 -- what names that are known keep
 module _ (draft : Draft) (none : tie_fault draft ≡ None) where
   none_in_rights : rights_unknown (known_in draft) draft ≡ None
@@ -197,9 +315,21 @@ module _ (draft : Draft) where
   unfolding tied tied_by tables_tied project_tied
   keys_stay = map_map (λ p. p.key) (project_tied draft.lists.users (map (λ g. g.name) draft.tables.groups)) draft.tables.projects
 
-  pub key_forms : list_all (λ p. is_project_key p.key) draft.tables.projects ≡ true → list_all (λ p. is_project_key p.key) ((tied draft).tables.projects) ≡ true
-  unfolding tied tied_by tables_tied project_tied
-  key_forms formed = rw list_all-map formed
+  pub transition_names_stay : map (λ t. t.name) ((tied draft).tables.transitions) ≡ map (λ t. t.name) draft.tables.transitions
+  unfolding tied tied_by tables_tied transition_tied
+  transition_names_stay = map_map (λ t. t.name) (transition_tied (known_in draft)) draft.tables.transitions
+
+  pub starts_stay : list_all is_started draft.tables.transitions ≡ true → list_all has_start ((tied draft).tables.transitions) ≡ true
+  unfolding tied tied_by tables_tied
+  starts_stay started = rw list_all-map (all_follow is_started (λ t. has_start (transition_tied (known_in draft) t)) (starts_somewhere (known_in draft)) draft.tables.transitions started)
+
+  pub few_stay : list_all has_few_texts draft.tables.transitions ≡ true → list_all has_few_rules ((tied draft).tables.transitions) ≡ true
+  unfolding tied tied_by tables_tied
+  few_stay few = rw list_all-map (all_follow has_few_texts (λ t. has_few_rules (transition_tied (known_in draft) t)) (has_few (known_in draft)) draft.tables.transitions few)
+
+  pub tests_are_some : list_all have_tests ((tied draft).tables.transitions) ≡ true
+  unfolding tied tied_by tables_tied
+  tests_are_some = rw list_all-map (each_asks (known_in draft) draft.tables.transitions)
 
   pub group_count : length ((tied draft).tables.groups) ≡ length draft.tables.groups
   unfolding tied tied_by tables_tied

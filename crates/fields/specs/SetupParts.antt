@@ -13,6 +13,7 @@ use Rattle.field_values.specs.declared.parts.Project.{Project}
 use Rattle.field_forms.specs.Names.{place_named}
 use Rattle.fields.specs.Sound.{part_names}
 use Rattle.field_forms.specs.Known.{Names, form_of, choices_of}
+use Rattle.field_values.specs.GroupMembers.{has_member}
 use Rattle.field_values.specs.Parts.{Parts}
 
 abbrev pub parts : Setup → Parts
@@ -66,11 +67,6 @@ abbrev pub groups_with : Parts → Permission → Option ℕ → List GroupNo
 groups_with setup Plan place = setup.plan
 groups_with setup Administer place = setup.administer
 groups_with setup permission place = groups_in permission (option_and_then (slice_get setup.project) place)
-
--- the group has the user
-abbrev pub has_member : List Group → ℕ → GroupNo → Bool
-has_member groups user group =
-    option_map_or (λ g. list_any (λ member. member.0 == user) g.members) (slice_get groups (group.0 - 1)) false
 
 -- one of the permission's groups has the user
 abbrev pub may : Parts → ℕ → Permission → Option ℕ → Bool

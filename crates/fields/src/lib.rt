@@ -3,7 +3,9 @@
 #![tactic(auto)]
 
 mod indexed_lists;
+pub mod laws;
 mod lookup;
+mod naming;
 mod places;
 mod setup;
 mod table_names;
@@ -15,6 +17,7 @@ pub use field_values::{
     ProjectNo, Sequence, SprintNo, Status, Steps, Text, Transition, UserNo, Validator, Value,
     Weekday,
 };
+pub use naming::name_at;
 pub use setup::Setup;
 pub use setup_drafts::SetupFault;
 pub use setup_reading::BUILT_IN;

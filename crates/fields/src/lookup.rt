@@ -6,15 +6,16 @@ ghost use Rattle.field_forms.specs.Known.{names_of, AreFew, own_field_named, fie
 ghost use Rattle.relative_dates.specs.Calendar.{local_day};
 ghost use Rattle.setup_drafts.specs.Offsets.{zone_of};
 ghost use Rattle.field_values.specs.Words.{day_number};
-ghost use Rattle.field_values.specs.GroupMembers.{with_members, is_user_list, AreRising, HaveRising};
+ghost use Rattle.field_values.specs.GroupMembers.{with_members, is_user_list, HaveRising, has_member};
 ghost use Rattle.field_forms.specs.ValueTexts.{IsTextOf, IsReadBack};
-ghost use Rattle.fields.specs.SetupParts.{parts, names, groups_in, groups_with, has_member, may};
+ghost use Rattle.fields.specs.SetupParts.{parts, names, groups_in, groups_with, may};
 
 use crate::setup::Setup;
 use field_forms::built_in::built_in_no;
 use field_forms::fit;
 use field_forms::known::{Known, text_of};
 use field_values::field::Field;
+use field_values::membership::has_member;
 use field_values::memory::Memory;
 use field_values::moment::Moment;
 use field_values::numbers::{Day, FieldNo, GroupNo, ProjectNo, UserNo};
@@ -25,26 +26,6 @@ use field_values::text::Text;
 use field_values::value::Value;
 use relative_dates::Calendar;
 use std::alloc::Global;
-
-fn is_member(members: &[UserNo], user: UserNo) -> bool
-    requires { AreRising members.now }
-    ensures { result ≡ list_any (λ member. member.0 == user.0) members.now }
-{
-    members
-        .binary_search_by_key(&user.0, |member| member.0)
-        .is_ok()
-}
-
-/// Whether the group has the user.
-fn has_member(groups: &[Group], user: UserNo, group: GroupNo) -> bool
-    requires { HaveRising groups.now }
-    ensures { result ≡ has_member groups.now user.0 group }
-{
-    match groups.get(usize::from(group.0.saturating_sub(1))) {
-        Some(group) => is_member(group.members.as_slice(), user),
-        None => false,
-    }
-}
 
 /// Whether one of these groups has the user.
 fn has_member_in(groups: &[Group], user: UserNo, wanted: &[GroupNo]) -> bool

@@ -40,13 +40,13 @@ impl Setup {
         ensures place { result ≡ place_named name.now (choices_of (names self.now) field.0) }
         ensures few { IfSome result (λ place. place < 500) }
     {
-        match field.0 {
-            1 => self.types.place_of(name),
-            4 => self.table_names.statuses.place_of(name),
-            5 | 6 => self.users.place_of(name),
-            7 => self.priorities.place_of(name),
-            8 => self.resolutions.place_of(name),
-            9 => self.versions.place_of(name),
+        match field {
+            FieldNo::TYPE => self.types.place_of(name),
+            FieldNo::STATUS => self.table_names.statuses.place_of(name),
+            FieldNo::ASSIGNEE | FieldNo::REPORTER => self.users.place_of(name),
+            FieldNo::PRIORITY => self.priorities.place_of(name),
+            FieldNo::RESOLUTION => self.resolutions.place_of(name),
+            FieldNo::FIX_VERSION => self.versions.place_of(name),
             _ => self.place_among_own(field, name),
         }
     }

@@ -76,7 +76,7 @@ pub struct Setup {
     ghost named_fields: { table_names.fields ≡ map (λ f. f.name) field },
     ghost listed_options: { table_names.options ≡ map (λ f. f.options) field },
     ghost clock: { calendar ≡ record { zone = zone_of utc_offset_minutes offset; first_day = day_number week_starts } },
-    ghost reads: { kept_in text ≡ Ok (memberless (record { utc_offset_minutes = utc_offset_minutes; week_starts = week_starts; rebalancer = rebalancer; users = users; types = types; priorities = priorities; resolutions = resolutions; versions = versions; first_status = first_status; plan = plan; administer = administer; group = group; project = project; status = status; transition = transition; field = field; offset = offset })) },
+    pub ghost reads: { kept_in text ≡ Ok (memberless (record { utc_offset_minutes = utc_offset_minutes; week_starts = week_starts; rebalancer = rebalancer; users = users; types = types; priorities = priorities; resolutions = resolutions; versions = versions; first_status = first_status; plan = plan; administer = administer; group = group; project = project; status = status; transition = transition; field = field; offset = offset })) },
     pub ghost sound: { IsSound (record { utc_offset_minutes = utc_offset_minutes; week_starts = week_starts; rebalancer = rebalancer; users = users; types = types; priorities = priorities; resolutions = resolutions; versions = versions; first_status = first_status; plan = plan; administer = administer; group = group; project = project; status = status; transition = transition; field = field; offset = offset }) },
 }
 
@@ -114,6 +114,7 @@ impl Setup {
     ghost use Rattle.setup_drafts.specs.Offsets.{steps_of};
     ghost use Rattle.setup_reading.specs.Reading.{parts_of, setup_in, Explains};
     ghost use Rattle.fields.specs.SetupParts.{parts};
+    ghost use Rattle.fields.specs.BuiltInParts.{built_in_parts};
 
     /// Reads a setup from the bytes of a TOML text. The first fault is told, in the order of the setup's keys: first of
     /// what the keys hold, then of the names and rules in it, then of keys that aren't the setup's.
@@ -130,7 +131,9 @@ impl Setup {
     }
 
     /// The setup that a new tracker has: the reading of [`BUILT_IN`].
+    #[tactic(auto, using(crate::proofs::BuiltIn::reads_to))]
     pub fn built_in(alloc: Global) -> Result<Setup, Memory>
+        ensures known { IfOk result (λ setup. parts setup ≡ built_in_parts) }
         ensures parts { IfOk result (λ setup. setup_in BUILT_IN.now ≡ Ok (parts setup)) }
         ensures text { IfOk result (λ setup. setup.text ≡ BUILT_IN.now) }
     {

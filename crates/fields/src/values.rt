@@ -1,10 +1,10 @@
 // The values that texts stand for.
-ghost use Rattle.std.specs.Prelude.{◌≡◌, ◌≤◌, length, option_map, IfOk};
+ghost use Rattle.std.specs.Prelude.{◌≡◌, ◌≤◌, true, length, option_map, IfOk, IfSome};
 ghost use Rattle.std.specs.List.{list_all};
 ghost use Rattle.field_values.specs.declared.value.Value.{Value};
 ghost use Rattle.field_forms.specs.Names.{place_named, is_among};
-ghost use Rattle.field_forms.specs.Values.{chosen, set_value, listed_set, set_of};
-ghost use Rattle.field_forms.specs.Known.{choices_of, value_of, listed_value_of};
+ghost use Rattle.field_forms.specs.Values.{chosen, set_value, listed_set, set_in};
+ghost use Rattle.field_forms.specs.Known.{choices_of, value_of, listed_value_of, fits};
 ghost use Rattle.fields.specs.SetupParts.{names};
 
 use crate::setup::Setup;
@@ -21,26 +21,45 @@ use std::alloc::Global;
 
 impl Setup {
     /// The value that a text stands for in the field; `None` exactly where it is none of the field's.
-    #[tactic(auto, unfolding(field_forms::specs::Known::value_of, field_forms::specs::Values::value_in))]
     pub fn value_of(
         &self,
         alloc: Global,
         field: FieldNo,
         text: &str,
     ) -> Result<Option<Value>, Memory>
+        ensures value { IfOk result (λ value. value ≡ value_of (names self.now) field.0 text.now) }
+        ensures fits { IfOk result (λ value. IfSome value (λ v. fits (names self.now) field.0 v ≡ true)) }
+    {
+        self.read_value(alloc, field, text)
+    }
+
+    #[tactic(auto, unfolding(field_forms::specs::Known::value_of, field_forms::specs::Values::value_in))]
+    fn read_value(&self, alloc: Global, field: FieldNo, text: &str) -> Result<Option<Value>, Memory>
         ensures { IfOk result (λ value. value ≡ value_of (names self.now) field.0 text.now) }
     {
         match form_of(self.field.as_slice(), field) {
             Some(Form::Choice) => Ok(self.choice_of(field, text)),
             Some(Form::User) => Ok(self.user_of(field, text)),
-            Some(Form::Set) => self.set_of(alloc, field, text),
+            Some(Form::Set) => self.set_in(alloc, field, text),
             _ => value_of(alloc, &self.known(), field, text),
         }
     }
 
     /// The value that a list of texts stands for in the field, a set or labels; `None` exactly where it is none of the field's.
-    #[tactic(auto, unfolding(field_forms::specs::Known::listed_value_of))]
     pub fn listed_value_of(
+        &self,
+        alloc: Global,
+        field: FieldNo,
+        texts: &[Text],
+    ) -> Result<Option<Value>, Memory>
+        ensures value { IfOk result (λ value. value ≡ listed_value_of (names self.now) field.0 texts.now) }
+        ensures fits { IfOk result (λ value. IfSome value (λ v. fits (names self.now) field.0 v ≡ true)) }
+    {
+        self.read_list(alloc, field, texts)
+    }
+
+    #[tactic(auto, unfolding(field_forms::specs::Known::listed_value_of))]
+    fn read_list(
         &self,
         alloc: Global,
         field: FieldNo,
@@ -69,8 +88,8 @@ impl Setup {
     }
 
     // The set that a JSON array of texts names.
-    fn set_of(&self, alloc: Global, field: FieldNo, text: &str) -> Result<Option<Value>, Memory>
-        ensures { IfOk result (λ value. value ≡ set_of (choices_of (names self.now) field.0) text.now) }
+    fn set_in(&self, alloc: Global, field: FieldNo, text: &str) -> Result<Option<Value>, Memory>
+        ensures { IfOk result (λ value. value ≡ set_in (choices_of (names self.now) field.0) text.now) }
     {
         let Some(texts) = texts_in(alloc, text)? else {
             return Ok(None);

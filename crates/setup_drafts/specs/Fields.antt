@@ -11,7 +11,7 @@ use Rattle.field_values.specs.declared.words.FieldKind.TheVariants.{Text, Choice
 use Rattle.field_values.specs.declared.field.Field.{Field}
 use Rattle.setup_drafts.specs.Faults.{first_of, fault_if}
 use Rattle.setup_drafts.specs.Cells.{whole_fault, whole_in, new_name_fault, text_in, names_fault, names_in, word_fault, word_in}
-use Rattle.field_values.specs.Words.{kind_of}
+use Rattle.field_values.specs.Words.{field_kind_of}
 
 -- the number that is written at a key
 abbrev pub number_in : Option Data → ℕ
@@ -36,16 +36,16 @@ unfoldable pub field_fault : List Field → Members → Option SetupFault
 field_fault earlier e = first_of
     (number_fault (codes "number") earlier (get_member (codes "number") e)
     ∷ new_name_fault (codes "name") OwnField (map (λ f. f.name) earlier) (get_member (codes "name") e)
-    ∷ word_fault kind_of (codes "kind") (get_member (codes "kind") e)
-    ∷ options_fault (codes "options") (word_in kind_of Text (get_member (codes "kind") e)) (get_member (codes "options") e)
+    ∷ word_fault field_kind_of (codes "kind") (get_member (codes "kind") e)
+    ∷ options_fault (codes "options") (word_in field_kind_of Text (get_member (codes "kind") e)) (get_member (codes "options") e)
     ∷ [])
 
 unfoldable pub field_of : Members → Field
 field_of e = record {
   number = record { 0 = number_in (get_member (codes "number") e) };
   name = text_in (get_member (codes "name") e);
-  kind = word_in kind_of Text (get_member (codes "kind") e);
-  options = options_in (word_in kind_of Text (get_member (codes "kind") e)) (get_member (codes "options") e);
+  kind = word_in field_kind_of Text (get_member (codes "kind") e);
+  options = options_in (word_in field_kind_of Text (get_member (codes "kind") e)) (get_member (codes "options") e);
 }
 
 -- the fields so far, and one more

@@ -7,10 +7,11 @@ ghost use Rattle.setup_drafts.specs.Written.{texts_of, tables_of, has_fewer_than
 ghost use Rattle.setup_drafts.specs.Cells.{IsWithin, whole_fault, whole_in, text_fault, text_in, new_name_fault, list_fault, names_fault, optional_names_fault, names_in, rules_fault, tables_fault, tables_in, crowd_fault};
 
 use crate::fault::SetupFault;
-use field_forms::name_form::{NameForm, all_have_form, first_double, has_form, is_among};
+use field_forms::name_form::{NameForm, all_have_form, has_form, is_among};
 use field_values::memory::Memory;
 use field_values::names::Names;
 use field_values::text::Text;
+use name_index::first_double;
 use std::alloc::Global;
 use toml::{Table, Value};
 
@@ -152,7 +153,7 @@ fn names_in(
     if let Some(fault) = crowd_of(alloc, key, most, names.as_slice().len()) {
         return Err(fault);
     }
-    if let Some(double) = first_double(names.as_slice()) {
+    if let Some(double) = first_double(alloc, names.as_slice())? {
         return Err(SetupFault::duplicate(alloc, double.as_str()));
     }
     Ok(names)

@@ -5,7 +5,7 @@ ghost use Rattle.toml.specs.View.{table_view};
 ghost use Rattle.setup_drafts.specs.Faults.{Answers};
 ghost use Rattle.setup_drafts.specs.Cells.{word_fault, word_in};
 ghost use Rattle.setup_drafts.specs.Entries.{entries_fault};
-ghost use Rattle.field_values.specs.Words.{kind_of};
+ghost use Rattle.field_values.specs.Words.{field_kind_of};
 ghost use Rattle.setup_drafts.specs.Fields.{number_fault, number_in, options_fault, options_in, field_fault, field_of, with_field};
 ghost use Rattle.field_forms.specs.Known.{has_few_options};
 
@@ -17,7 +17,7 @@ use field_values::names::Names;
 use field_values::numbers::FieldNo;
 use field_values::sequence::Sequence;
 use field_values::text::Text;
-use field_values::words::{FieldKind, kind_of};
+use field_values::words::{FieldKind, field_kind_of};
 use std::alloc::Global;
 use toml::Table;
 
@@ -47,13 +47,13 @@ fn number_at(
 }
 
 fn kind_at(alloc: Global, table: &Table, key: &str) -> Result<FieldKind, SetupFault>
-    ensures { Answers (word_fault kind_of key.now (get_member key.now (table_view table.now)))
-        (word_in kind_of FieldKind.Text (get_member key.now (table_view table.now))) result }
+    ensures { Answers (word_fault field_kind_of key.now (get_member key.now (table_view table.now)))
+        (word_in field_kind_of FieldKind.Text (get_member key.now (table_view table.now))) result }
 {
     match value_at(table, key) {
         None => Err(SetupFault::missing(alloc, key)),
         Some(value) => match value.as_str() {
-            Some(word) => match kind_of(word) {
+            Some(word) => match field_kind_of(word) {
                 Some(kind) => Ok(kind),
                 None => Err(SetupFault::bad_value(alloc, key)),
             },
