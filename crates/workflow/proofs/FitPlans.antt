@@ -19,7 +19,7 @@ use Rattle.fields.specs.SetupParts.{names_in}
 use Rattle.change_history.specs.declared.change.Change.{Change}
 use Rattle.change_history.specs.History.{History, present}
 use Rattle.workflow.specs.declared.fault.PlanFault.{PlanFault}
-use Rattle.workflow.specs.FieldNumbers.{status, reporter}
+use Rattle.field_values.specs.declared.numbers.TheConstants.FieldNo.{STATUS as status, REPORTER as reporter}
 use Rattle.workflow.specs.Net.{last_value, with_changes, put_change, put_changes, is_news, net_changes}
 use Rattle.workflow.specs.Inputs.{is_refused, least_with, refused_input}
 use Rattle.workflow.specs.Conditions.{project_of}

@@ -12,9 +12,10 @@ use Rattle.field_values.specs.declared.parts.Transition.{Transition}
 use Rattle.field_values.specs.Parts.{Parts}
 use Rattle.field_forms.specs.Cuts.{cut_at}
 use Rattle.field_forms.specs.Names.{place_named}
-use Rattle.fields.specs.SetupParts.{has_member, may}
+use Rattle.field_values.specs.GroupMembers.{has_member}
+use Rattle.fields.specs.SetupParts.{may}
 use Rattle.change_history.specs.History.{History, present}
-use Rattle.workflow.specs.FieldNumbers.{status, assignee, reporter}
+use Rattle.field_values.specs.declared.numbers.TheConstants.FieldNo.{STATUS as status, ASSIGNEE as assignee, REPORTER as reporter}
 
 -- the place of the issue's project, whose key stands before the hyphen of the issue's key
 unfoldable pub project_of : Parts → History → Option ℕ

@@ -1,11 +1,12 @@
 -- The inputs of an edit or a transition.
 use Rattle.std.specs.Prelude.{ℕ, ◌==◌, Bool, not, ◌||◌, min, List, [], ◌∷◌, map, filter, Option, Some, None}
+use Rattle.field_values.specs.declared.numbers.TheConstants.FieldNo.{STATUS as status}
 use Rattle.change_history.specs.declared.change.Change.{Change}
 use Rattle.field_forms.specs.Known.{Names, fits}
 
 -- an input is refused where it is of the status, or its value doesn't fit its field
 abbrev pub is_refused : Names → Change → Bool
-is_refused names c = (c.field.0 == 4) || not (fits names c.field.0 c.to)
+is_refused names c = (c.field.0 == status.0) || not (fits names c.field.0 c.to)
 
 -- the least of some numbers and one that may be known before
 abbrev pub least_with : Option ℕ → List ℕ → Option ℕ

@@ -15,7 +15,7 @@ use Rattle.fields.specs.Sound.{IsSound as IsSoundSetup}
 use Rattle.fields.specs.SetupParts.{names_in}
 use Rattle.change_history.specs.declared.change.Change.{Change}
 use Rattle.change_history.specs.History.{History, present, updated, last_change, MayAdd}
-use Rattle.workflow.specs.FieldNumbers.{status, reporter}
+use Rattle.field_values.specs.declared.numbers.TheConstants.FieldNo.{STATUS as status, REPORTER as reporter}
 use Rattle.workflow.specs.Net.{with_changes, net_changes}
 use Rattle.workflow.specs.Difference.{IsDifference, entries_of}
 use Rattle.workflow.specs.Inputs.{refused_numbers, refused_input}

@@ -1,4 +1,3 @@
-pub mod FieldNumbers
 pub mod Same
 pub mod Net
 pub mod Conditions

@@ -10,7 +10,7 @@ use Rattle.change_history.specs.declared.change.Change.{Change}
 use Rattle.change_history.specs.History.{History, present}
 use Rattle.workflow.specs.declared.fault.PlanFault.{PlanFault}
 use Rattle.workflow.specs.declared.fault.PlanFault.TheVariants.{Condition, Value, Validator, Memory}
-use Rattle.workflow.specs.FieldNumbers.{status}
+use Rattle.field_values.specs.declared.numbers.TheConstants.FieldNo.{STATUS as status}
 use Rattle.workflow.specs.Net.{net_changes}
 use Rattle.workflow.specs.Conditions.{failing_condition}
 use Rattle.workflow.specs.Inputs.{refused_input}

@@ -10,7 +10,7 @@ use Rattle.field_values.specs.declared.rules.PostFunction.TheVariants.{Set, Clea
 use Rattle.field_values.specs.Parts.{Parts}
 use Rattle.change_history.specs.declared.change.Change.{Change}
 use Rattle.change_history.specs.History.{History, present}
-use Rattle.workflow.specs.FieldNumbers.{assignee, reporter, resolution}
+use Rattle.field_values.specs.declared.numbers.TheConstants.FieldNo.{ASSIGNEE as assignee, REPORTER as reporter, RESOLUTION as resolution}
 use Rattle.workflow.specs.Net.{with_changes}
 use Rattle.workflow.specs.Conditions.{project_of}
 

@@ -1,21 +1,17 @@
 -- Worked values, computed from the definitions.
 use Rattle.std.specs.Prelude.{◌≡◌, true, false, [], ◌∷◌, pos, refl}
 use Rattle.field_values.specs.declared.numbers.UserNo.{UserNo}
-use Rattle.field_values.specs.declared.numbers.FieldNo.{FieldNo}
 use Rattle.field_values.specs.declared.value.Value.TheVariants.{Empty, Number, User, Choice, Date}
 use Rattle.field_values.specs.declared.rules.CallerTest.TheVariants.{IsAssignee, IsReporter}
 use Rattle.field_values.specs.declared.rules.PostFunction.TheVariants.{AssignCaller, AssignReporter}
 use Rattle.field_values.specs.declared.rules.Validator.TheVariants.{Required, Changed}
 use Rattle.field_values.specs.Parts.{Parts}
 use Rattle.change_history.specs.History.{History, present}
-use Rattle.workflow.specs.FieldNumbers.{status, assignee}
+use Rattle.field_values.specs.declared.numbers.TheConstants.FieldNo.{STATUS as status, ASSIGNEE as assignee, POINTS as points}
 use Rattle.workflow.specs.Net.{net_changes}
 use Rattle.workflow.specs.Conditions.{condition_holds}
 use Rattle.workflow.specs.Validators.{is_open, validator_holds}
 use Rattle.workflow.specs.PostFunctions.{change, with_post}
-
-abbrev points : FieldNo
-points = record { 0 = 12 }
 
 abbrev anna : UserNo
 anna = record { 0 = 0 }

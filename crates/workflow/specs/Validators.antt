@@ -12,7 +12,7 @@ use Rattle.fields.specs.SetupParts.{may}
 use Rattle.relative_dates.specs.Calendar.{local_day}
 use Rattle.change_history.specs.declared.change.Change.{Change}
 use Rattle.change_history.specs.History.{History, present}
-use Rattle.workflow.specs.FieldNumbers.{due}
+use Rattle.field_values.specs.declared.numbers.TheConstants.FieldNo.{DUE as due}
 use Rattle.workflow.specs.Same.{same_value, is_empty}
 use Rattle.workflow.specs.Net.{with_changes}
 use Rattle.workflow.specs.Conditions.{project_of}

@@ -1,20 +1,13 @@
 // Who may make a transition, and from where.
 ghost use Rattle.std.specs.Prelude.{◌≡◌, ◌==◌, ◌<◌, length, not, position, IfSome};
 ghost use Rattle.std.specs.List.{list_any};
-ghost use Rattle.fields.specs.SetupParts.{parts, has_member};
+ghost use Rattle.fields.specs.SetupParts.{parts};
 ghost use Rattle.workflow.specs.Conditions.{is_user, passes, condition_holds, is_among, failing_condition};
 
 use crate::project::project_of;
 use change_history::Issue;
-use fields::{
-    CallerTest, ChoiceNo, Condition, FieldNo, Group, GroupNo, Setup, Transition, UserNo, Value,
-};
-
-const STATUS: FieldNo = FieldNo(4);
-
-const ASSIGNEE: FieldNo = FieldNo(5);
-
-const REPORTER: FieldNo = FieldNo(6);
+use field_values::membership::has_member;
+use fields::{CallerTest, ChoiceNo, Condition, FieldNo, Setup, Transition, UserNo, Value};
 
 fn is_user(user: UserNo, value: &Value) -> bool
     ensures { result ≡ is_user user value.now }
@@ -25,28 +18,12 @@ fn is_user(user: UserNo, value: &Value) -> bool
     }
 }
 
-fn is_member(members: &[UserNo], user: UserNo) -> bool
-    ensures { result ≡ list_any (λ member. member.0 == user.0) members.now }
-{
-    members.iter().any(|member| member.0 == user.0)
-}
-
-/// Whether the group has the user.
-fn has_member(groups: &[Group], user: UserNo, group: GroupNo) -> bool
-    ensures { result ≡ has_member groups.now user.0 group }
-{
-    match groups.get(usize::from(group.0.saturating_sub(1))) {
-        Some(group) => is_member(group.members.as_slice(), user),
-        None => false,
-    }
-}
-
 fn passes(setup: &Setup, issue: &Issue, caller: UserNo, test: CallerTest) -> bool
     ensures { result ≡ passes (parts setup.now) issue.now.history caller test }
 {
     match test {
-        CallerTest::IsAssignee => is_user(caller, issue.value(ASSIGNEE)),
-        CallerTest::IsReporter => is_user(caller, issue.value(REPORTER)),
+        CallerTest::IsAssignee => is_user(caller, issue.value(FieldNo::ASSIGNEE)),
+        CallerTest::IsReporter => is_user(caller, issue.value(FieldNo::REPORTER)),
         CallerTest::InGroup(group) => has_member(setup.group.as_slice(), caller, group),
         CallerTest::HasPermission(permission) => setup.may(
             caller,
@@ -108,7 +85,7 @@ pub fn failing_condition(
 ) -> Option<usize>
     ensures { result ≡ failing_condition (parts setup.now) issue.now.history caller transition.now }
 {
-    if !is_among(transition.from.as_slice(), issue.value(STATUS)) {
+    if !is_among(transition.from.as_slice(), issue.value(FieldNo::STATUS)) {
         return Some(0);
     }
     match first_failing(setup, issue, caller, transition.conditions.as_slice()) {

@@ -9,7 +9,7 @@ use fields::{FieldNo, Setup};
 fn is_refused(setup: &Setup, input: &Change) -> bool
     ensures { result ≡ is_refused (names_in (parts setup.now)) input.now }
 {
-    input.field.0 == 4 || !setup.fits(input.field, &input.to)
+    input.field == FieldNo::STATUS || !setup.fits(input.field, &input.to)
 }
 
 fn lesser(first: Option<u16>, no: u16) -> u16

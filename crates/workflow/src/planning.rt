@@ -12,8 +12,6 @@ use change_history::{Change, Changes, Issue};
 use fields::{FieldNo, Memory, Moment, Setup, Transition, UserNo, Value};
 use std::alloc::Global;
 
-const STATUS: FieldNo = FieldNo(4);
-
 fn copies(alloc: Global, changes: &[Change]) -> Result<Changes, Memory>
     ensures { IfOk result (λ copies. copies ≡ changes.now) }
 {
@@ -39,7 +37,7 @@ fn all_changes(
 {
     let mut changes = copies(alloc, inputs)?;
     changes.push(Change {
-        field: STATUS,
+        field: FieldNo::STATUS,
         to: Value::Choice(transition.to),
     })?;
     put_post(

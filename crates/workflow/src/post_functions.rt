@@ -11,12 +11,6 @@ use change_history::{Change, Changes, Issue};
 use fields::{FieldNo, Memory, PostFunction, Setup, UserNo, Value};
 use std::alloc::Global;
 
-const ASSIGNEE: FieldNo = FieldNo(5);
-
-const REPORTER: FieldNo = FieldNo(6);
-
-const RESOLUTION: FieldNo = FieldNo(8);
-
 /// The lead of the issue's project.
 #[tactic(auto, unfolding(crate::specs::PostFunctions::lead_of))]
 fn lead_of(setup: &Setup, issue: &Issue) -> Value
@@ -46,12 +40,15 @@ fn post_change(
     let (field, to) = match post {
         PostFunction::Set(field, value) => (*field, value.copy(alloc)?),
         PostFunction::Clear(field) => (*field, Value::Empty),
-        PostFunction::AssignCaller => (ASSIGNEE, Value::User(caller)),
+        PostFunction::AssignCaller => (FieldNo::ASSIGNEE, Value::User(caller)),
         PostFunction::AssignReporter => {
-            (ASSIGNEE, value_after(issue, so_far, REPORTER).copy(alloc)?)
+            (
+                FieldNo::ASSIGNEE,
+                value_after(issue, so_far, FieldNo::REPORTER).copy(alloc)?,
+            )
         }
-        PostFunction::AssignLead => (ASSIGNEE, lead_of(setup, issue)),
-        PostFunction::Resolution(no) => (RESOLUTION, Value::Choice(*no)),
+        PostFunction::AssignLead => (FieldNo::ASSIGNEE, lead_of(setup, issue)),
+        PostFunction::Resolution(no) => (FieldNo::RESOLUTION, Value::Choice(*no)),
     };
     Ok(Change { field, to })
 }

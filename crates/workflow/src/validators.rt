@@ -10,8 +10,6 @@ use crate::same::{is_empty, is_same};
 use change_history::{Change, Issue};
 use fields::{Day, FieldNo, Moment, Setup, Transition, UserNo, Validator, Value};
 
-const DUE: FieldNo = FieldNo(11);
-
 /// Whether the value is empty, or a date that isn't before the day.
 fn is_open(day: Day, value: &Value) -> bool
     ensures { result ≡ is_open day.0 value.now }
@@ -38,7 +36,7 @@ fn validator_holds(
         Validator::Changed(field) => {
             !is_same(value_after(issue, inputs, field), issue.value(field))
         }
-        Validator::Due => is_open(setup.day_of(at), value_after(issue, inputs, DUE)),
+        Validator::Due => is_open(setup.day_of(at), value_after(issue, inputs, FieldNo::DUE)),
         Validator::Permission(permission) => {
             setup.may(caller, permission, project_of(setup, issue))
         }
