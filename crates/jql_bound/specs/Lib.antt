@@ -1,2 +1,3 @@
 pub mod Condition
 pub mod Words
+pub mod Negation

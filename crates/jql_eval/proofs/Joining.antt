@@ -1,15 +1,15 @@
 -- Several conditions, one of which decides where it is so.
-use Rattle.std.proofs.Common.{◌≡◌, ◌⊎◌, ℕ, zero, suc, ◌+◌, ◌<◌, ◌≤◌, min, Bool, true, false, not, ◌&&◌, ◌||◌, List, [], ◌∷◌, ◌++◌, length, get_or, take, refl, ap, sym, subst, ◌∙◌, arith, inl, inr, Option, Some, None}
+use Rattle.std.proofs.Common.{◌≡◌, ℕ, zero, suc, ◌+◌, ◌<◌, min, Bool, true, false, not, ◌&&◌, ◌||◌, List, [], ◌∷◌, ◌++◌, length, get_or, take, refl, ap, sym, subst, ◌∙◌, arith, inl, inr, Option, Some, None}
 use Rattle.std.specs.Bool.{beq}
 use Rattle.std.proofs.lemmas.Bool.{cases_lt, true≢false}
 use Rattle.std.proofs.lemmas.List.{take_more}
 use Rattle.change_history.specs.History.{History}
 use Rattle.jql_bound.specs.declared.cond.Cond.{Cond}
-use Rattle.jql_bound.specs.Condition.{Condition, Conditions, condition, no_conditions, view, views}
+use Rattle.jql_bound.specs.Condition.{no_conditions, view, views}
 use Rattle.jql_meaning.specs.Surroundings.{Surroundings}
 use Rattle.jql_meaning.specs.Truth.{holds, all_hold, some_holds}
 use Rattle.jql_meaning.specs.Critical.{IsCritical, IsCriticalForOne}
-use Rattle.jql_meaning.specs.Ends.{Stays, StaysUntil}
+use Rattle.jql_meaning.specs.Ends.{Stays}
 use Rattle.jql_present.specs.Steady.{earlier}
 use Rattle.jql_eval.specs.Joined.{joined}
 

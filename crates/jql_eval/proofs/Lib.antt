@@ -3,3 +3,5 @@ pub mod Ordered
 pub mod Digits
 pub mod Joining
 pub mod Views
+pub mod Rights
+pub mod Sprints

@@ -1,18 +1,19 @@
 -- The order of issues is total.
 use Rattle.std.proofs.Common.{◌≡◌, ℕ, List, [], ◌∷◌, refl, ap, sym, subst, ◌∙◌}
 use Rattle.std.specs.Cmp.{IsTotalOrder}
-use Rattle.std.specs.Ordering.{nat_cmp, ordering_then, ordering_reverse, is_lt, is_gt}
+use Rattle.std.specs.Ordering.{ordering_then, ordering_reverse, is_lt, is_gt}
 use Rattle.std.proofs.lemmas.Bool.{true≢false}
 use Rattle.std.specs.declared.cmp.Ordering.{Ordering}
 use Rattle.std.specs.declared.cmp.Ordering.TheVariants.{Less, Equal, Greater}
 use Rattle.std.proofs.lemmas.Cmp.{nat_cmp_total, on_total, then_total, back_total, ranked}
+use Rattle.field_values.specs.declared.numbers.TheConstants.FieldNo as number
 use Rattle.field_values.specs.Parts.{Parts}
 use Rattle.field_values.specs.declared.numbers.IssueNo.{IssueNo}
 use Rattle.change_history.specs.History.{History, present}
 use Rattle.jql_bound.specs.declared.order.SortField.{SortField}
 use Rattle.jql_bound.specs.declared.order.Direction.{Direction}
 use Rattle.jql_bound.specs.declared.order.OrderKey.{OrderKey}
-use Rattle.jql_meaning.specs.Order.{standing, standing_cmp, category_standing, field_cmp, directed, issue_cmp}
+use Rattle.jql_meaning.specs.Order.{standing, category_standing, field_cmp, directed, issue_cmp}
 use Rattle.jql_eval.specs.Laws.{list_cmp}
 use Rattle.jql_eval.proofs.Standings.{standing_cmp-total}
 
@@ -30,7 +31,7 @@ reverse_then Greater p = refl
 
 field_turns : (parts : Parts) (ranks : Ordering) (one other : History) (field : SortField) → field_cmp parts ranks one other field ≡ ordering_reverse (field_cmp parts (ordering_reverse ranks) other one field)
 field_turns parts ranks one other (SortField.Subject subject) = standing_cmp-total.antisymm (standing parts one subject) (standing parts other subject)
-field_turns parts ranks one other SortField.StatusCategory = standing_cmp-total.antisymm (category_standing parts (present one (record { 0 = 4 }))) (category_standing parts (present other (record { 0 = 4 })))
+field_turns parts ranks one other SortField.StatusCategory = standing_cmp-total.antisymm (category_standing parts (present one number.STATUS)) (category_standing parts (present other number.STATUS))
 field_turns parts ranks one other SortField.Rank = sym (reverse_twice ranks)
 
 directed_turns : (direction : Direction) (o : Ordering) → directed direction (ordering_reverse o) ≡ ordering_reverse (directed direction o)
@@ -63,7 +64,7 @@ one_number_ties parts (sort ∷ sorts) ranks one other e =
 module _ (parts : Parts) (ranks : History → History → Ordering) (total : IsTotalOrder ranks) where
   field_total : (field : SortField) → IsTotalOrder (λ one other. field_cmp parts (ranks one other) one other field)
   field_total (SortField.Subject subject) = on_total (λ h. standing parts h subject) standing_cmp-total
-  field_total SortField.StatusCategory = on_total (λ h. category_standing parts (present h (record { 0 = 4 }))) standing_cmp-total
+  field_total SortField.StatusCategory = on_total (λ h. category_standing parts (present h number.STATUS)) standing_cmp-total
   field_total SortField.Rank = total
 
   reversed_total : {cmp : History → History → Ordering} → IsTotalOrder cmp → IsTotalOrder (λ one other. ordering_reverse (cmp one other))

@@ -1,12 +1,12 @@
 -- The order of standings is total.
-use Rattle.std.proofs.Common.{◌≡◌, ℕ, List, [], refl, ap, subst, sym, ◌∙◌, ℤ, pos}
+use Rattle.std.proofs.Common.{◌≡◌, ℕ, List, [], refl, subst, ℤ, pos}
 use Rattle.std.specs.Cmp.{IsTotalOrder}
 use Rattle.std.specs.Cmp.Lexicographic.{slice_cmp}
 use Rattle.std.specs.Ordering.{int_cmp, nat_cmp, ordering_then, on, then_cmp}
 use Rattle.std.specs.declared.cmp.Ordering.{Ordering}
 use Rattle.std.specs.declared.cmp.Ordering.TheVariants.{Less, Equal, Greater}
 use Rattle.std.proofs.lemmas.Cmp.{nat_cmp_total, int_cmp_total, nat_list_cmp_total, on_total, then_total}
-use Rattle.jql_meaning.specs.Order.{Standing, size, text, key, nothing, kind_of, text_cmp, standing_cmp}
+use Rattle.jql_meaning.specs.Order.{Standing, size, text, key, nothing, kind_place, text_cmp, standing_cmp}
 
 -- what a standing has of each kind
 abbrev size_of : Standing → ℤ
@@ -28,10 +28,10 @@ number_of (key project number) = number
 number_of nothing = 0
 
 abbrev part_cmp : Standing → Standing → Ordering
-part_cmp = then_cmp (on kind_of nat_cmp) (then_cmp (on size_of int_cmp) (then_cmp (on text_of (slice_cmp nat_cmp)) (on number_of nat_cmp)))
+part_cmp = then_cmp (on kind_place nat_cmp) (then_cmp (on size_of int_cmp) (then_cmp (on text_of (slice_cmp nat_cmp)) (on number_of nat_cmp)))
 
 part_cmp-total : IsTotalOrder part_cmp
-part_cmp-total = then_total (on_total kind_of nat_cmp_total) (then_total (on_total size_of int_cmp_total) (then_total (on_total text_of nat_list_cmp_total) (on_total number_of nat_cmp_total)))
+part_cmp-total = then_total (on_total kind_place nat_cmp_total) (then_total (on_total size_of int_cmp_total) (then_total (on_total text_of nat_list_cmp_total) (on_total number_of nat_cmp_total)))
 
 then_equal : (o : Ordering) → ordering_then o Equal ≡ o
 then_equal Less = refl

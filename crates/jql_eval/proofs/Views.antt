@@ -1,5 +1,5 @@
 -- What a condition in memory says, by its kind.
-use Rattle.std.proofs.Common.{◌≡◌, ℕ, true, false, Option, refl, ap, sym, subst, ◌∙◌, Vec, Global, rules}
+use Rattle.std.proofs.Common.{◌≡◌, ℕ, true, false, Option, refl, Vec, Global, rules}
 use Rattle.change_history.specs.History.{History}
 use Rattle.jql_bound.specs.declared.cond.Cond.{Cond, All, Any, Now, Past, the_lemmas}
 use Rattle.jql_bound.specs.declared.leaf.Leaf.{Leaf}

@@ -1,4 +1,5 @@
 pub mod Told
+pub mod Right
 pub mod Joined
 pub mod Numbers
 pub mod Standings

@@ -1,5 +1,5 @@
 -- Numbers by their digits.
-use Rattle.std.specs.Prelude.{ℕ, ◌-◌, ◌+◌, ◌*◌, ◌<◌, nat_lt, List, length, take, fold, slice_index_or, min, if◌then◌else◌}
+use Rattle.std.specs.Prelude.{ℕ, ◌-◌, ◌+◌, ◌*◌, nat_lt, List, length, take, fold, slice_index_or, min, if◌then◌else◌}
 
 -- the number that digits write
 abbrev pub number_in : List ℕ → ℕ

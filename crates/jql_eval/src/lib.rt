@@ -8,7 +8,7 @@ mod query;
 mod standing;
 mod verdict;
 
-pub use laws::order_of_issues;
+pub use laws::{order_of_issues, right_verdicts, sprints_of_issues};
 pub use order::compare;
 pub use query::evaluate;
 pub use verdict::Verdict;

@@ -11,8 +11,6 @@ use jql_bound::{Direction, OrderBy, SortField};
 use std::cmp::Ordering;
 
 /// The field of the status.
-const STATUS: FieldNo = FieldNo(4);
-
 /// How two issues stand to each other: the first sort key that tells them apart decides, and after all of them the issues' numbers.
 /// `ranks` says how they stand in the order of ranks.
 #[tactic(auto, unfolding(jql_meaning::specs::Order::issue_cmp))]
@@ -53,8 +51,8 @@ fn field_cmp(
             &standing_of(setup, other, subject),
         ),
         SortField::StatusCategory => standing_cmp(
-            &category_standing(setup, one.value(STATUS)),
-            &category_standing(setup, other.value(STATUS)),
+            &category_standing(setup, one.value(FieldNo::STATUS)),
+            &category_standing(setup, other.value(FieldNo::STATUS)),
         ),
         SortField::Rank => ranks,
     }

@@ -7,6 +7,7 @@ ghost use Rattle.jql_meaning.specs.Past.{holds_past};
 ghost use Rattle.jql_meaning.specs.Critical.{IsCritical, IsCriticalNow, IsCriticalForOne, IsCriticalForQuery, IsCriticalPast};
 ghost use Rattle.jql_meaning.specs.Ends.{Stays};
 ghost use Rattle.jql_meaning.specs.Present.{holds_now};
+ghost use Rattle.jql_eval.specs.Right.{IsRight};
 ghost use Rattle.jql_eval.specs.Joined.{joined};
 
 use crate::verdict::Verdict;
@@ -26,9 +27,7 @@ pub fn evaluate<L: Ledger>(
     at: Moment,
     steps: &mut Steps<L>,
 ) -> Verdict
-    ensures holds { result.holds ≡ query_holds (surroundings_of context.now) issue.now.history at (option_map view query.now.cond) }
-    ensures until { Stays (λ t. query_holds (surroundings_of context.now) issue.now.history t (option_map view query.now.cond))
-        (λ t. IsCriticalForQuery (surroundings_of context.now) issue.now.history t (option_map view query.now.cond)) at result.until }
+    ensures right { IsRight (surroundings_of context.now) issue.now.history (option_map view query.now.cond) at result.holds result.until }
     ensures steps { steps.new ≡ steps.old + 1 }
 {
     steps.tick();

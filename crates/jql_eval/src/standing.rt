@@ -3,7 +3,7 @@ ghost use Rattle.std.specs.Prelude.{◌≡◌, ◌==◌, unwrap_or, slice_get, n
 ghost use Rattle.std.specs.List.{after_first};
 ghost use Rattle.fields.specs.SetupParts.{parts};
 ghost use Rattle.jql_meaning.specs.Comparison.{project_of};
-ghost use Rattle.jql_meaning.specs.Order.{standing, standing_cmp, value_standing, category_standing, category_place, text_cmp, kind_of};
+ghost use Rattle.jql_meaning.specs.Order.{standing, standing_cmp, value_standing, category_standing, category_place, text_cmp, kind_place};
 ghost use Rattle.jql_eval.specs.Standings.{seen};
 
 use crate::number::number_cmp;
@@ -14,8 +14,6 @@ use jql_bound::Subject;
 use std::cmp::Ordering;
 
 /// The field whose choices stand from the last to the first: the first priority is the highest.
-const PRIORITY: FieldNo = FieldNo(7);
-
 /// What decides where an issue stands: a size, a text, the project and the number of its key, or nothing.
 #[derive(Drop)]
 pub(crate) enum Standing<'a> {
@@ -80,10 +78,14 @@ fn value_standing<'a>(setup: &'a Setup, field: FieldNo, value: &'a Value) -> Sta
 
 // Choices stand as in the setup, and priorities the other way round.
 fn choice_place(field: FieldNo, choice: ChoiceNo) -> i64
-    ensures { result ≡ if field.0 == 7 then neg_ℤ (pos choice.0) else pos choice.0 }
+    ensures { result ≡ if field.0 == FieldNo.PRIORITY.0 then neg_ℤ (pos choice.0) else pos choice.0 }
 {
     let place = i64::from(choice.0);
-    if field.0 == PRIORITY.0 { -place } else { place }
+    if field.0 == FieldNo::PRIORITY.0 {
+        -place
+    } else {
+        place
+    }
 }
 
 // The bytes of a user's name, and none of a user who isn't there.
@@ -118,7 +120,7 @@ pub(crate) fn standing_cmp(one: &Standing<'_>, other: &Standing<'_>) -> Ordering
         (Standing::Key(one, digits), Standing::Key(other, opposite)) => {
             text_cmp(one, other).then(number_cmp(digits, opposite))
         }
-        _ => kind_of(one).cmp(&kind_of(other)),
+        _ => kind_place(one).cmp(&kind_place(other)),
     }
 }
 
@@ -128,8 +130,8 @@ fn text_cmp(one: &[u8], other: &[u8]) -> Ordering
     one.cmp(other)
 }
 
-fn kind_of(standing: &Standing<'_>) -> u8
-    ensures { result ≡ kind_of (seen standing.now) }
+fn kind_place(standing: &Standing<'_>) -> u8
+    ensures { result ≡ kind_place (seen standing.now) }
 {
     match standing {
         Standing::Size(_) => 0,

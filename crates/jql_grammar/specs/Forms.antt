@@ -6,7 +6,7 @@ use Rattle.field_values.specs.declared.words.Category.{Category}
 use Rattle.field_values.specs.declared.words.Category.TheVariants.{ToDo, InProgress, Done}
 use Rattle.field_forms.specs.Cuts.{cut_at}
 use Rattle.field_forms.specs.Names.{is_project_key}
-use Rattle.field_forms.specs.Numbers.{read_on, is_digit}
+use Rattle.field_values.specs.Digits.{read_on, is_digit}
 use Rattle.jql_grammar.specs.Fields.{is_named}
 
 -- one digit or more

@@ -1,5 +1,6 @@
 -- What a field is compared with, and by which operators.
 use Rattle.std.specs.Prelude.{◌≡◌, ℕ, ◌==◌, Bool, true, false, ◌||◌, List, Option, Some, None, option_map, if◌then◌else◌, Result, Ok, Err}
+use Rattle.field_values.specs.declared.numbers.TheConstants.FieldNo as number
 use Rattle.field_values.specs.declared.field.Field.{Field as OwnField}
 use Rattle.field_values.specs.declared.numbers.FieldNo.{FieldNo}
 use Rattle.field_values.specs.declared.words.FieldKind.{FieldKind}
@@ -32,16 +33,16 @@ own_kind field = kind_by field.kind where
 -- what the field of that number is compared with
 unfoldable pub kind_numbered : List OwnField → FieldNo → Option ValueKind
 kind_numbered fields field =
-    if (field.0 == 1) || (field.0 == 4) then Some (Choice field)
-    else (if (field.0 == 2) || (field.0 == 3) then Some Text
-    else (if (field.0 == 5) || (field.0 == 6) then Some User
-    else (if field.0 == 7 then Some Priority
-    else (if field.0 == 8 then Some Resolution
-    else (if field.0 == 9 then Some Versions
-    else (if field.0 == 10 then Some Labels
-    else (if field.0 == 11 then Some Date
-    else (if field.0 == 12 then Some (Number field)
-    else (if field.0 == 13 then Some Sprint
+    if (field.0 == number.TYPE.0) || (field.0 == number.STATUS.0) then Some (Choice field)
+    else (if (field.0 == number.SUMMARY.0) || (field.0 == number.DESCRIPTION.0) then Some Text
+    else (if (field.0 == number.ASSIGNEE.0) || (field.0 == number.REPORTER.0) then Some User
+    else (if field.0 == number.PRIORITY.0 then Some Priority
+    else (if field.0 == number.RESOLUTION.0 then Some Resolution
+    else (if field.0 == number.FIX_VERSION.0 then Some Versions
+    else (if field.0 == number.LABELS.0 then Some Labels
+    else (if field.0 == number.DUE.0 then Some Date
+    else (if field.0 == number.POINTS.0 then Some (Number field)
+    else (if field.0 == number.SPRINT.0 then Some Sprint
     else option_map own_kind (own_field fields field.0))))))))))
 
 abbrev pub kind_of : List OwnField → Subject → Option ValueKind
@@ -54,7 +55,7 @@ kind_of fields Updated = Some Date
 -- what a comparison looks at: the category of a status is a question to the field status, and rank is never compared
 abbrev pub column_of : List OwnField → SortField → Result Column Fault
 column_of fields (TheSubject subject) = made (λ kind. record { subject = subject; kind = kind }) (some_or UnknownField (kind_of fields subject))
-column_of fields StatusCategory = Ok (record { subject = Held (record { 0 = 4 }); kind = Category })
+column_of fields StatusCategory = Ok (record { subject = Held number.STATUS; kind = Category })
 column_of fields Rank = Err OperatorNotForField
 
 abbrev pub column_in : List OwnField → Field → Result Column Fault

@@ -50,18 +50,18 @@ fn own_kind(field: &OwnField) -> ValueKind
 fn kind_numbered(fields: &[OwnField], no: FieldNo) -> Option<ValueKind>
     ensures { result ≡ kind_numbered fields.now no }
 {
-    match no.0 {
-        1 | 4 => Some(ValueKind::Choice(no)),
-        2 | 3 => Some(ValueKind::Text),
-        5 | 6 => Some(ValueKind::User),
-        7 => Some(ValueKind::Priority),
-        8 => Some(ValueKind::Resolution),
-        9 => Some(ValueKind::Versions),
-        10 => Some(ValueKind::Labels),
-        11 => Some(ValueKind::Date),
-        12 => Some(ValueKind::Number(no)),
-        13 => Some(ValueKind::Sprint),
-        number => match own_field(fields, u32::from(number)) {
+    match no {
+        FieldNo::TYPE | FieldNo::STATUS => Some(ValueKind::Choice(no)),
+        FieldNo::SUMMARY | FieldNo::DESCRIPTION => Some(ValueKind::Text),
+        FieldNo::ASSIGNEE | FieldNo::REPORTER => Some(ValueKind::User),
+        FieldNo::PRIORITY => Some(ValueKind::Priority),
+        FieldNo::RESOLUTION => Some(ValueKind::Resolution),
+        FieldNo::FIX_VERSION => Some(ValueKind::Versions),
+        FieldNo::LABELS => Some(ValueKind::Labels),
+        FieldNo::DUE => Some(ValueKind::Date),
+        FieldNo::POINTS => Some(ValueKind::Number(no)),
+        FieldNo::SPRINT => Some(ValueKind::Sprint),
+        _ => match own_field(fields, u32::from(no.0)) {
             Some(field) => Some(own_kind(field)),
             None => None,
         },
@@ -89,7 +89,7 @@ fn column_of(fields: &[OwnField], field: SortField) -> Result<Column, Stop>
             None => Err(Stop::At(Kind::UnknownField)),
         },
         SortField::StatusCategory => Ok(Column {
-            subject: Subject::Field(FieldNo(4)),
+            subject: Subject::Field(FieldNo::STATUS),
             kind: ValueKind::Category,
         }),
         SortField::Rank => Err(Stop::At(Kind::OperatorNotForField)),
@@ -138,7 +138,8 @@ impl Column {
     {
         match (self.kind, self.subject) {
             (ValueKind::Category, _) => None,
-            (_, Subject::Field(no)) if 4 <= no.0 && no.0 <= 9 => Some(no),
+            (_, Subject::Field(no))
+                if FieldNo::STATUS.0 <= no.0 && no.0 <= FieldNo::FIX_VERSION.0 => Some(no),
             _ => None,
         }
     }

@@ -1,23 +1,19 @@
 // Numbers in digits.
 ghost use Rattle.std.specs.Prelude.{◌≡◌, true};
 ghost use Rattle.std.specs.List.{list_all};
-ghost use Rattle.field_forms.specs.Numbers.{read_on, is_digit};
+ghost use Rattle.field_values.specs.Digits.{read_on, is_digit};
 ghost use Rattle.jql_grammar.specs.Forms.{are_digits, small, number_in};
 
-fn has_digits_alone(bytes: &[u8]) -> bool
-    ensures { result ≡ list_all is_digit bytes.now }
-{
-    bytes.iter().all(|byte| 48 <= *byte && *byte <= 57)
-}
+use field_values::digits;
 
 fn are_digits(bytes: &[u8]) -> bool
     ensures { result ≡ are_digits bytes.now }
 {
-    !bytes.is_empty() && has_digits_alone(bytes)
+    !bytes.is_empty() && digits::are_digits(bytes)
 }
 
 // What the digits write, where it isn't too large.
-#[tactic(auto, using(crate::proofs::Numerals::digit_at, crate::proofs::Numerals::read_next, crate::proofs::Numerals::too_large))]
+#[tactic(auto, using(field_values::proofs::Numerals::digit_at, field_values::proofs::Numerals::read_next, crate::proofs::Numerals::too_large))]
 fn written(digits: &[u8]) -> Option<u32>
     requires { list_all is_digit digits.now ≡ true }
     ensures { result ≡ small (read_on 0 digits.now) }

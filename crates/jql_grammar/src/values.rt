@@ -34,7 +34,7 @@ fn resolution_in(binder: &Binder<'_>, text: &str) -> Option<Operand>
     if is_named(text, "Unresolved") {
         Some(Operand::Empty)
     } else {
-        choice_in(binder, FieldNo(8), text)
+        choice_in(binder, FieldNo::RESOLUTION, text)
     }
 }
 
@@ -55,7 +55,7 @@ fn label_in(binder: &Binder<'_>, text: &str) -> Result<Option<Operand>, Memory>
     let mut labels = Names::new(binder.alloc);
     labels.push(Text::copy_of(binder.alloc, text)?)?;
     let value = Value::Labels(labels);
-    let fits = binder.setup.fits(FieldNo(10), &value);
+    let fits = binder.setup.fits(FieldNo::LABELS, &value);
     drop(value);
     if fits {
         Ok(Some(Operand::Label(Text::copy_of(binder.alloc, text)?)))
@@ -178,10 +178,10 @@ pub(crate) fn value_in(binder: &Binder<'_>, kind: ValueKind, text: &str) -> Resu
     match kind {
         ValueKind::Text => Err(Stop::At(Kind::UnknownValue)),
         ValueKind::Choice(field) => or_unknown(choice_in(binder, field, text)),
-        ValueKind::Priority => or_unknown(choice_in(binder, FieldNo(7), text)),
+        ValueKind::Priority => or_unknown(choice_in(binder, FieldNo::PRIORITY, text)),
         ValueKind::Resolution => or_unknown(resolution_in(binder, text)),
         ValueKind::User => user_in(binder, text),
-        ValueKind::Versions => or_unknown(choice_in(binder, FieldNo(9), text)),
+        ValueKind::Versions => or_unknown(choice_in(binder, FieldNo::FIX_VERSION, text)),
         ValueKind::Labels => or_unknown(label_in(binder, text)?),
         ValueKind::Date => or_unknown(date_in(text)),
         ValueKind::Number(field) => or_unknown(number_operand(binder, field, text)?),

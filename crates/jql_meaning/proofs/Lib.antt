@@ -1,7 +1,10 @@
 pub mod Spans
 pub mod Opposites
 pub mod OwnSprint
+pub mod Sprints
+pub mod Calendars
 pub mod Meetings
 pub mod Differing
 pub mod PastMeetings
 pub mod PastChanges
+pub mod CriticalRows

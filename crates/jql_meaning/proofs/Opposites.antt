@@ -1,4 +1,4 @@
--- NOT, pushed to the comparisons, and what it denies.
+-- NOT, carried to the comparisons, and what it denies.
 use Rattle.std.proofs.Common.{◌≡◌, ℕ, Bool, true, false, not, ◌||◌, ◌&&◌, List, inl, inr, refl, sym, Option, Some, None}
 use Rattle.std.specs.Prelude.{is_some}
 use Rattle.std.specs.List.{list_any}
@@ -20,7 +20,8 @@ use Rattle.jql_meaning.specs.Comparison.{equals, order, stands}
 use Rattle.jql_meaning.specs.Present.{text_passes, holds_now, operator_holds, lacks_value, has_text}
 use Rattle.jql_meaning.specs.Past.{holds_past, was, changed, test_holds}
 use Rattle.jql_meaning.specs.Truth.{holds, all_hold, some_holds}
-use Rattle.jql_meaning.specs.Negation.{opposite, opposite_operator, opposite_test, negation, negations, can_be_told, all_can_be_told, each_can_be_told}
+use Rattle.jql_bound.specs.Negation.{opposite, opposite_operator, opposite_test, negation, negations}
+use Rattle.jql_meaning.specs.Comparable.{can_be_told, all_can_be_told, each_can_be_told}
 
 not_not : (b : Bool) → not (not b) ≡ b
 not_not true = refl
@@ -113,23 +114,23 @@ opposite_past_holds s h t leaf (PastTest.NotChanged endpoints) = sym (not_not (c
 mutual
   unfolding holds negation all_can_be_told holds_now holds_past
 
-  pub pushed_is_the_negation : (s : Surroundings) (h : History) (t : ℕ) (c : Condition) → all_can_be_told s h t c ≡ true → holds s h t (negation c) ≡ not (holds s h t c)
-  pushed_is_the_negation s h t (now leaf) told = opposite_operator_holds s h t leaf.subject leaf.operator told
-  pushed_is_the_negation s h t (past leaf) told = opposite_past_holds s h t leaf leaf.test
-  pushed_is_the_negation s h t (all_of cs) told = some_denied s h t cs told
-  pushed_is_the_negation s h t (any_of cs) told = all_denied s h t cs told
+  pub negation_is_plain : (s : Surroundings) (h : History) (t : ℕ) (c : Condition) → all_can_be_told s h t c ≡ true → holds s h t (negation c) ≡ not (holds s h t c)
+  negation_is_plain s h t (now leaf) told = opposite_operator_holds s h t leaf.subject leaf.operator told
+  negation_is_plain s h t (past leaf) told = opposite_past_holds s h t leaf leaf.test
+  negation_is_plain s h t (all_of cs) told = some_denied s h t cs told
+  negation_is_plain s h t (any_of cs) told = all_denied s h t cs told
 
   some_denied : (s : Surroundings) (h : History) (t : ℕ) (cs : Conditions) → each_can_be_told s h t cs ≡ true → some_holds s h t (negations cs) ≡ not (all_hold s h t cs)
   some_denied s h t no_conditions told = refl
   some_denied s h t (condition c cs) told =
       let parts = and_parts (all_can_be_told s h t c) (each_can_be_told s h t cs) told in
-      rw (pushed_is_the_negation s h t c parts.0) (rw (some_denied s h t cs parts.1) (not_and (holds s h t c) (all_hold s h t cs)))
+      rw (negation_is_plain s h t c parts.0) (rw (some_denied s h t cs parts.1) (not_and (holds s h t c) (all_hold s h t cs)))
 
   all_denied : (s : Surroundings) (h : History) (t : ℕ) (cs : Conditions) → each_can_be_told s h t cs ≡ true → all_hold s h t (negations cs) ≡ not (some_holds s h t cs)
   all_denied s h t no_conditions told = refl
   all_denied s h t (condition c cs) told =
       let parts = and_parts (all_can_be_told s h t c) (each_can_be_told s h t cs) told in
-      rw (pushed_is_the_negation s h t c parts.0) (rw (all_denied s h t cs parts.1) (not_or (holds s h t c) (some_holds s h t cs)))
+      rw (negation_is_plain s h t c parts.0) (rw (all_denied s h t cs parts.1) (not_or (holds s h t c) (some_holds s h t cs)))
 
 mutual
   unfolding holds negation holds_now holds_past
@@ -153,37 +154,3 @@ mutual
         | inl here ↦ and_left (holds s h t (negation c)) (all_hold s h t (negations cs)) (never_both_hold s h t c here)
         | inr later ↦ and_right (holds s h t (negation c)) (all_hold s h t (negations cs)) (one_denied s h t cs later)
       ]
-
-twice_opposite : (i : Inequality) → opposite (opposite i) ≡ i
-twice_opposite Inequality.Less = refl
-twice_opposite Inequality.LessOrEqual = refl
-twice_opposite Inequality.Greater = refl
-twice_opposite Inequality.GreaterOrEqual = refl
-
-twice_opposite_operator : (operator : Operator) → opposite_operator (opposite_operator operator) ≡ operator
-twice_opposite_operator (Operator.In operands) = refl
-twice_opposite_operator (Operator.NotIn operands) = refl
-twice_opposite_operator (Operator.Compares i operand) = λ k. Operator.Compares (twice_opposite i k) operand
-twice_opposite_operator (Operator.Contains words) = refl
-twice_opposite_operator (Operator.Lacks words) = refl
-twice_opposite_operator Operator.IsEmpty = refl
-twice_opposite_operator Operator.IsNotEmpty = refl
-
-twice_opposite_test : (test : PastTest) → opposite_test (opposite_test test) ≡ test
-twice_opposite_test (PastTest.Was operands) = refl
-twice_opposite_test (PastTest.WasNot operands) = refl
-twice_opposite_test (PastTest.Changed endpoints) = refl
-twice_opposite_test (PastTest.NotChanged endpoints) = refl
-
-mutual
-  unfolding negation
-
-  pub not_of_not : (c : Condition) → negation (negation c) ≡ c
-  not_of_not (now leaf) = λ i. now (record { subject = leaf.subject; operator = twice_opposite_operator leaf.operator i })
-  not_of_not (past leaf) = λ i. past (record { field = leaf.field; test = twice_opposite_test leaf.test i; predicates = leaf.predicates })
-  not_of_not (all_of cs) = λ i. all_of (not_of_nots cs i)
-  not_of_not (any_of cs) = λ i. any_of (not_of_nots cs i)
-
-  not_of_nots : (cs : Conditions) → negations (negations cs) ≡ cs
-  not_of_nots no_conditions = refl
-  not_of_nots (condition c cs) = λ i. condition (not_of_not c i) (not_of_nots cs i)

@@ -28,7 +28,7 @@ use Rattle.jql_meaning.specs.Moments.{some_from, some_moment}
 use Rattle.jql_meaning.specs.Windows.{is_within, is_in_windows, is_by, is_by_each}
 use Rattle.jql_meaning.specs.Past.{holds_past, was, changed, span_answers, loses, endpoint_answers, entry_answers, test_holds}
 use Rattle.jql_meaning.specs.Truth.{holds, all_hold, some_holds, query_holds}
-use Rattle.jql_meaning.specs.Laws.{DifferInOtherSprints}
+use Rattle.jql_meaning.specs.Sprints.{DifferInOtherSprints}
 
 module _ (one other : Surroundings) (h : History) (d : DifferInOtherSprints one other h) where
   same_user : (operand : Operand) (user : UserNo) → names_user one operand user ≡ names_user other operand user

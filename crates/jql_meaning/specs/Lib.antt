@@ -7,11 +7,12 @@ pub mod Moments
 pub mod Windows
 pub mod Past
 pub mod Truth
-pub mod Negation
+pub mod Comparable
 pub mod Edges
 pub mod Marks
 pub mod Critical
 pub mod Ends
+pub mod Sprints
 pub mod Changes
 pub mod Order
 pub mod Rows

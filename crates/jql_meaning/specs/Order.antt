@@ -4,6 +4,7 @@ use Rattle.std.specs.List.{after_first}
 use Rattle.std.specs.Cmp.Lexicographic.{slice_cmp}
 use Rattle.std.specs.Ordering.{int_cmp, nat_cmp, ordering_then, ordering_reverse}
 use Rattle.std.specs.declared.cmp.Ordering.{Ordering}
+use Rattle.field_values.specs.declared.numbers.TheConstants.FieldNo as number
 use Rattle.field_values.specs.declared.numbers.FieldNo.{FieldNo}
 use Rattle.field_values.specs.declared.value.Value.{Value}
 use Rattle.field_values.specs.declared.words.Category.{Category}
@@ -23,11 +24,11 @@ pub data Standing : Type 0 where
   key : List ℕ → ℕ → Standing
   nothing : Standing
 
-abbrev pub kind_of : Standing → ℕ
-kind_of (size n) = 0
-kind_of (text t) = 1
-kind_of (key project number) = 2
-kind_of nothing = 3
+abbrev pub kind_place : Standing → ℕ
+kind_place (size n) = 0
+kind_place (text t) = 1
+kind_place (key project number) = 2
+kind_place nothing = 3
 
 abbrev pub text_cmp : List ℕ → List ℕ → Ordering
 text_cmp one other = slice_cmp nat_cmp one other
@@ -37,7 +38,7 @@ abbrev pub standing_cmp : Standing → Standing → Ordering
 standing_cmp (size n) (size m) = int_cmp n m
 standing_cmp (text t) (text u) = text_cmp t u
 standing_cmp (key p n) (key q m) = ordering_then (text_cmp p q) (nat_cmp n m)
-standing_cmp one other = nat_cmp (kind_of one) (kind_of other)
+standing_cmp one other = nat_cmp (kind_place one) (kind_place other)
 
 -- the number in an issue's key
 abbrev pub number_of : List ℕ → ℕ
@@ -48,7 +49,7 @@ number_of name = fold (λ number digit. 10 * number + (digit - 48)) 0 (after_fir
 abbrev pub value_standing : Parts → FieldNo → Value → Standing
 value_standing parts field (Value.Text t) = text t
 value_standing parts field (Value.Number n) = size n
-value_standing parts field (Value.Choice choice) = if field.0 == 7 then size (neg_ℤ (pos choice.0)) else size (pos choice.0)
+value_standing parts field (Value.Choice choice) = if field.0 == number.PRIORITY.0 then size (neg_ℤ (pos choice.0)) else size (pos choice.0)
 value_standing parts field (Value.User user) = text (unwrap_or (slice_get parts.users user.0) [])
 value_standing parts field (Value.Date day) = size day.0
 value_standing parts field (Value.Sprint sprint) = size (pos sprint.0)
@@ -77,7 +78,7 @@ standing parts h Subject.Updated = size (pos (updated h))
 -- `ranks` says how the two issues stand on the board, from the top
 abbrev pub field_cmp : Parts → Ordering → History → History → SortField → Ordering
 field_cmp parts ranks one other (SortField.Subject subject) = standing_cmp (standing parts one subject) (standing parts other subject)
-field_cmp parts ranks one other SortField.StatusCategory = standing_cmp (category_standing parts (present one (record { 0 = 4 }))) (category_standing parts (present other (record { 0 = 4 })))
+field_cmp parts ranks one other SortField.StatusCategory = standing_cmp (category_standing parts (present one number.STATUS)) (category_standing parts (present other number.STATUS))
 field_cmp parts ranks one other SortField.Rank = ranks
 
 -- going down, all stand the other way round, nothing first

@@ -18,6 +18,7 @@ use Rattle.jql_bound.specs.declared.past.PastLeaf.{PastLeaf}
 use Rattle.jql_bound.specs.declared.past.PastPredicate.{PastPredicate}
 use Rattle.jql_bound.specs.declared.past.PastTest.{PastTest}
 use Rattle.jql_bound.specs.Condition.{Condition, now, any_of, no_conditions, condition}
+use Rattle.jql_bound.specs.Negation.{negation}
 use Rattle.jql_bound.specs.Words.{words_of}
 use Rattle.jql_meaning.specs.Surroundings.{Surroundings}
 use Rattle.jql_meaning.specs.Words.{has_word, has_words}
@@ -25,7 +26,6 @@ use Rattle.jql_meaning.specs.Present.{holds_now}
 use Rattle.jql_meaning.specs.Moments.{some_from}
 use Rattle.jql_meaning.specs.Past.{was, changed, holds_past}
 use Rattle.jql_meaning.specs.Truth.{holds}
-use Rattle.jql_meaning.specs.Negation.{negation}
 use Rattle.jql_meaning.specs.Order.{standing_cmp, nothing, size}
 
 abbrev anna : UserNo

@@ -5,6 +5,6 @@
 mod laws;
 
 pub use laws::{
-    denials, only_the_own_sprint_matters, past_of_some_span, pushed_negations,
-    truth_changes_at_critical_moments,
+    critical_by_the_calendar, denials, negations, one_sprint_differs, only_the_own_sprint_matters,
+    past_of_some_span, truth_changes_at_critical_moments,
 };

@@ -5,6 +5,7 @@ ghost use Rattle.field_values.specs.GroupMembers.{AreRising};
 ghost use Rattle.jql_meaning.specs.Surroundings.{surroundings_of, members_of};
 ghost use Rattle.jql_meaning.specs.Naming.{names, names_nothing, names_text, names_number, names_choice, names_user, names_sprint, some_value};
 
+use field_values::membership::is_member;
 use field_values::{ChoiceNo, GroupNo, SprintNo, Text, UserNo, Value};
 use jql_bound::{Context, Operand};
 
@@ -70,7 +71,7 @@ pub fn names_user(context: &Context, operand: &Operand, user: UserNo) -> bool
 {
     match operand {
         Operand::User(other) => user.0 == other.0,
-        Operand::MembersOf(group) => has_user(members_of(context, *group), user),
+        Operand::MembersOf(group) => is_member(members_of(context, *group), user),
         _ => false,
     }
 }
@@ -100,13 +101,6 @@ fn has_choice(choices: &[ChoiceNo], choice: ChoiceNo) -> bool
     ensures { result ≡ list_any (λ other. other.0 == choice.0) choices.now }
 {
     choices.iter().any(|other| other.0 == choice.0)
-}
-
-fn has_user(users: &[UserNo], user: UserNo) -> bool
-    requires { AreRising users.now }
-    ensures { result ≡ list_any (λ other. other.0 == user.0) users.now }
-{
-    users.binary_search_by_key(&user.0, |other| other.0).is_ok()
 }
 
 // The users of a group.

@@ -3,6 +3,7 @@ use Rattle.std.proofs.Common.{◌≡◌, ◌≢◌, ◌⊎◌, ℕ, ◌≤◌, f
 use Rattle.std.specs.Ordering.{int_cmp}
 use Rattle.std.proofs.lemmas.Int.{ints, by_lt_z}
 use Rattle.jiff_core.proofs.SignedLemmas.{signed_arith, int_div_euclid-parts}
+use Rattle.field_values.specs.Years.{last_second}
 use Rattle.relative_dates.specs.declared.term.Term.{Term}
 use Rattle.relative_dates.specs.Term.{moves}
 use Rattle.relative_dates.specs.Calendar.{Zone, IsZone, local_second, local_day, midnight}
@@ -103,7 +104,7 @@ module _ (zone : Zone) (is : IsZone zone) where
   end_moves x y more same = let next = ahead_of_it y in absurd (omega (arith, signed_arith))
 
 -- both ends of a date's day stand until it comes to the day's end
-day_disturbed : (s : Surroundings) (predicates : List PastPredicate) (at : ℕ) (d : Term) (a b c : Option ℕ) → IsZone s.calendar.zone → ((t : ℕ) → at ≤ t → t ≤ 4_102_444_799 → second_now s at d ≤ℤ second_now s t d) → IsNext (λ t. compared s.calendar d (edge_at s (day_after d) at) t ≢ compared s.calendar d (edge_at s (day_after d) at) at) at a → IsNext (OneIsNear predicates (edge_at s (day d) at) (pos 2)) at b → IsNext (OneIsNear predicates (edge_at s (day_after d) at) (pos 2)) at c → IsNext (ToOne (IsDisturbed s predicates at) (day d ∷ day_after d ∷ [])) at (earlier a (earlier b c))
+day_disturbed : (s : Surroundings) (predicates : List PastPredicate) (at : ℕ) (d : Term) (a b c : Option ℕ) → IsZone s.calendar.zone → ((t : ℕ) → at ≤ t → t ≤ last_second → second_now s at d ≤ℤ second_now s t d) → IsNext (λ t. compared s.calendar d (edge_at s (day_after d) at) t ≢ compared s.calendar d (edge_at s (day_after d) at) at) at a → IsNext (OneIsNear predicates (edge_at s (day d) at) (pos 2)) at b → IsNext (OneIsNear predicates (edge_at s (day_after d) at) (pos 2)) at c → IsNext (ToOne (IsDisturbed s predicates at) (day d ∷ day_after d ∷ [])) at (earlier a (earlier b c))
 day_disturbed s predicates at d a b c is rises f g h =
     let zone = s.calendar.zone in
     let x = second_now s at d in
@@ -130,7 +131,7 @@ day_disturbed s predicates at d a b c is rises f g h =
     (next_of_both _ _ at a (earlier b c) f (next_of_both _ _ at b c g h))
 
 -- the same, where the two ends are computed
-pub day_disturbed_at : (s : Surroundings) (predicates : List PastPredicate) (at : ℕ) (d : Term) (begin end : ℤ) (a b c : Option ℕ) → IsZone s.calendar.zone → ((t : ℕ) → at ≤ t → t ≤ 4_102_444_799 → second_now s at d ≤ℤ second_now s t d) → begin ≡ edge_at s (day d) at → end ≡ edge_at s (day_after d) at → IsNext (λ t. compared s.calendar d end t ≢ compared s.calendar d end at) at a → IsNext (OneIsNear predicates begin (pos 2)) at b → IsNext (OneIsNear predicates end (pos 2)) at c → IsNext (ToOne (IsDisturbed s predicates at) (day d ∷ day_after d ∷ [])) at (earlier a (earlier b c))
+pub day_disturbed_at : (s : Surroundings) (predicates : List PastPredicate) (at : ℕ) (d : Term) (begin end : ℤ) (a b c : Option ℕ) → IsZone s.calendar.zone → ((t : ℕ) → at ≤ t → t ≤ last_second → second_now s at d ≤ℤ second_now s t d) → begin ≡ edge_at s (day d) at → end ≡ edge_at s (day_after d) at → IsNext (λ t. compared s.calendar d end t ≢ compared s.calendar d end at) at a → IsNext (OneIsNear predicates begin (pos 2)) at b → IsNext (OneIsNear predicates end (pos 2)) at c → IsNext (ToOne (IsDisturbed s predicates at) (day d ∷ day_after d ∷ [])) at (earlier a (earlier b c))
 day_disturbed_at s predicates at d begin end a b c is rises first last f g h =
     day_disturbed s predicates at d a b c is rises
     (subst (λ m. IsNext (λ t. compared s.calendar d m t ≢ compared s.calendar d m at) at a) last f)

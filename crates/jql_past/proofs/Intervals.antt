@@ -3,6 +3,7 @@ use Rattle.std.proofs.Common.{◌≡◌, ℕ, zero, suc, ◌+◌, ◌-◌, ◌<�
 use Rattle.std.specs.Prelude.{int_lt, int_le}
 use Rattle.std.specs.Int.{int_max, int_min}
 use Rattle.std.proofs.lemmas.Int.{ints}
+use Rattle.field_values.specs.Years.{last_second}
 use Rattle.relative_dates.specs.Calendar.{IsZone, local_day, midnight}
 use Rattle.change_history.specs.Span.{SpanOf}
 use Rattle.jql_bound.specs.declared.past.PastPredicate.{PastPredicate}
@@ -79,7 +80,7 @@ window_of_all s now i (predicate ∷ predicates) m is =
     ∙ ap (λ b. b && is_in_windows s now predicates m) (window_of_one s now i predicate m is)
     ∙ sym (and_right (has_moment i m) (is_within s now predicate m) (is_in_windows s now predicates m))
 
-among_all : (m : ℕ) → m ≤ 4_102_444_799 → has_moment all_moments m ≡ true
+among_all : (m : ℕ) → m ≤ last_second → has_moment all_moments m ≡ true
 among_all m less = grind (arith, ints)
 
 -- a moment lies in the interval of the windows exactly where it lies in each window
@@ -111,7 +112,7 @@ up_to : (low high : ℤ) (first after : ℕ) → int_lt (int_max low (pos first)
 up_to low high first after = grind (arith, ints)
 
 -- the interval of the windows has a moment of the span exactly where one of the span's moments lies in each window
-pub meets_is : (s : Surroundings) (now : ℕ) (predicates : List PastPredicate) (i : Interval) (span : SpanOf) → IsOfWindows s now predicates i → span.begin ≤ 4_102_444_799 → after_last span.end now ≤ 4_102_444_800 →
+pub meets_is : (s : Surroundings) (now : ℕ) (predicates : List PastPredicate) (i : Interval) (span : SpanOf) → IsOfWindows s now predicates i → span.begin ≤ last_second → after_last span.end now ≤ last_second + 1 →
     meets i span.begin span.end now ≡ some_moment (λ m. is_in_windows s now predicates m) span now
 meets_is s now predicates i span is begins ends =
     let after = after_last span.end now in

@@ -5,6 +5,7 @@ use Rattle.std.proofs.lemmas.List.{take_more}
 use Rattle.std.specs.Prelude.{slice_index_or}
 use Rattle.std.specs.List.{Contains, flat_map}
 use Rattle.std.proofs.lemmas.List.Elements.{Contains-append_right}
+use Rattle.field_values.specs.Years.{last_second}
 use Rattle.jql_present.specs.Steady.{earlier}
 use Rattle.jql_past.specs.Next.{IsNext, ToOne}
 
@@ -13,7 +14,7 @@ pub next_of_none : (P : ℕ → Type 0) (at : ℕ) → ((t : ℕ) → P t → �
 next_of_none P at never = λ t low high. never t
 
 -- what happens at the same moments happens next at the same one
-pub next_of_same : (P Q : ℕ → Type 0) (at : ℕ) (next : Option ℕ) → ((t : ℕ) → at < t → t ≤ 4_102_444_799 → P t → Q t) → ((t : ℕ) → at < t → t ≤ 4_102_444_799 → Q t → P t) → IsNext P at next → IsNext Q at next
+pub next_of_same : (P Q : ℕ → Type 0) (at : ℕ) (next : Option ℕ) → ((t : ℕ) → at < t → t ≤ last_second → P t → Q t) → ((t : ℕ) → at < t → t ≤ last_second → Q t → P t) → IsNext P at next → IsNext Q at next
 next_of_same P Q at None forth back n = λ t low high q. n t low high (back t low high q)
 next_of_same P Q at (Some next) forth back n = record {
   later = n.later;

@@ -1,6 +1,7 @@
 -- Windows as one interval of seconds.
 use Rattle.std.specs.Prelude.{◌≡◌, ◌≤◌, ℕ, ◌+◌, Bool, ◌&&◌, ◌||◌, List, [], ◌∷◌, Option, ℤ, pos, ◌+ℤ◌, int_lt, int_le}
 use Rattle.std.specs.Int.{int_max, int_min}
+use Rattle.field_values.specs.Years.{last_second}
 use Rattle.relative_dates.specs.Calendar.{local_day, midnight}
 use Rattle.jql_bound.specs.declared.past.PastPredicate.{PastPredicate}
 use Rattle.jql_meaning.specs.Surroundings.{Surroundings}
@@ -11,7 +12,7 @@ use Rattle.jql_past.specs.declared.windows.Interval.{Interval}
 
 -- from the first moment that there is to the last
 abbrev pub all_moments : Interval
-all_moments = record { first = pos 0; end = pos 4_102_444_800 }
+all_moments = record { first = pos 0; end = pos (last_second + 1) }
 
 -- what is left from a second on, and before a second
 abbrev pub starting : Interval → ℤ → Interval
@@ -51,4 +52,4 @@ meets interval begin end now = has_moment interval begin || has_second interval 
 -- a moment lies in the interval exactly where it lies in each of the windows
 abbrev pub IsOfWindows : Surroundings → ℕ → List PastPredicate → Interval → Type 0
 IsOfWindows s now predicates interval =
-    (moment : ℕ) → moment ≤ 4_102_444_799 → has_moment interval moment ≡ is_in_windows s now predicates moment
+    (moment : ℕ) → moment ≤ last_second → has_moment interval moment ≡ is_in_windows s now predicates moment

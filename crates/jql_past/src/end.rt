@@ -10,8 +10,8 @@ ghost use Rattle.jql_meaning.specs.Ends.{Stays};
 ghost use Rattle.jql_past.specs.Next.{IsNext, ToOne};
 ghost use Rattle.jql_past.specs.Near.{OneIsNear, IsNearMark, IsNearChange, MayChange};
 
+use crate::disturbed::{next_disturbance, start_of};
 use crate::moving::next_near;
-use crate::standing::{next_disturbance, start_of};
 use change_history::Issue;
 use field_values::{FieldNo, Moment, Value};
 use jql_bound::{Context, PastLeaf, PastPredicate};

@@ -2,12 +2,12 @@
 #![tactic(auto)]
 
 mod changes;
+mod disturbed;
 mod end;
 mod holds;
 mod moving;
 mod naming;
 mod spans;
-mod standing;
 mod windows;
 
 pub use end::next_past;

@@ -1,6 +1,7 @@
 // The moments that the windows of a comparison leave, as one interval: no moment is looked for in it.
-ghost use Rattle.std.specs.Prelude.{◌≡◌, ◌≤◌, pos, ◌+ℤ◌};
+ghost use Rattle.std.specs.Prelude.{◌≡◌, ◌+◌, ◌≤◌, pos, ◌+ℤ◌};
 ghost use Rattle.jiff_core.specs.Calendar.{IsWithin};
+ghost use Rattle.field_values.specs.Years.{last_second};
 ghost use Rattle.relative_dates.specs.Calendar.{local_day, midnight};
 ghost use Rattle.jql_meaning.specs.Surroundings.{surroundings_of};
 ghost use Rattle.jql_meaning.specs.Comparison.{second_now};
@@ -30,7 +31,7 @@ pub fn common_interval(context: &Context, at: Moment, predicates: &[PastPredicat
 /// Whether the moment lies in the interval.
 pub fn has_moment(interval: Interval, moment: Moment) -> bool
     ensures value { result ≡ has_moment interval moment }
-    ensures bound { moment ≤ 4_102_444_799 }
+    ensures bound { moment ≤ last_second }
 {
     let second = moment.seconds() as i64;
     interval.first <= second && second < interval.end
@@ -40,8 +41,8 @@ pub fn has_moment(interval: Interval, moment: Moment) -> bool
 /// none, up to the present moment.
 pub fn meets(interval: Interval, begin: Moment, end: Option<Moment>, at: Moment) -> bool
     ensures value { result ≡ meets interval begin end at }
-    ensures begin { begin ≤ 4_102_444_799 }
-    ensures end { after_last end at ≤ 4_102_444_800 }
+    ensures begin { begin ≤ last_second }
+    ensures end { after_last end at ≤ last_second + 1 }
 {
     has_moment(interval, begin)
         || has_second(
@@ -61,7 +62,7 @@ fn has_second(interval: Interval, first: i64, end: i64) -> bool
 // The moment after a span's last.
 fn after_last(end: Option<Moment>, at: Moment) -> u64
     ensures value { result ≡ after_last end at }
-    ensures bound { result ≤ 4_102_444_800 }
+    ensures bound { result ≤ last_second + 1 }
 {
     match end {
         Some(end) => end.seconds(),

@@ -1,5 +1,5 @@
 -- Conditions and queries read again as they are spelled.
-use Rattle.std.proofs.Common.{◌≡◌, ℕ, zero, suc, List, [], ◌∷◌, Option, Some, None, refl, ap, sym, ◌∙◌}
+use Rattle.std.proofs.Common.{◌≡◌, ℕ, zero, suc, ◌≤◌, arith, List, [], ◌∷◌, Option, Some, None, refl, ap, sym, ◌∙◌}
 use Rattle.jql_syntax.specs.Tree.{Tree, single, negation, all_of, any_of, Trees, no_trees, tree}
 use Rattle.jql_syntax.specs.Node.{Node, condition, conditions_of, one_or, made, negated, all, any}
 use Rattle.jql_syntax.specs.Form.{nothing, both, either, many, unit}
@@ -10,6 +10,7 @@ use Rattle.jql_syntax.specs.declared.token.Token.{Token}
 use Rattle.jql_syntax.specs.declared.token.Token.TheVariants.{Marked}
 use Rattle.jql_syntax.specs.Reader.{condition_parts}
 use Rattle.jql_print.specs.Print.{unit_text, conjunction_text, units_text, more_units_text, conjunctions_text, more_conjunctions_text, expression_text, condition_text, leaf_text}
+use Rattle.jql_print.specs.Nesting.{nesting, expression_nesting, unit_nesting, conjunction_nesting, units_nesting, conjunctions_nesting}
 use Rattle.jql_print.proofs.Spells.{AreGood}
 use Rattle.jql_print.proofs.Round.{Again, again_key, again_nothing, again_both, again_first, again_second, again_rule, again_none, again_more, good_after, both_parts, rule_parts, key_parts}
 use Rattle.jql_print.proofs.Parts.{leaf_back}
@@ -239,12 +240,47 @@ expression_again (single l) n f = alone_expression n (conjunction_again (single 
 expression_again (negation x) n f = alone_expression n (conjunction_again (negation x) n f)
 expression_again (all_of xs) n f = alone_expression n (conjunction_again (all_of xs) n f)
 
+-- ---- what fits nests no deeper than may be opened
+
+mutual
+  unit_nests : (x : Tree) (n : ℕ) → FitsUnit x n → unit_nesting x ≤ n
+  unit_nests (single l) n f = omega arith
+  unit_nests (negation x) zero f = absurd f
+  unit_nests (negation x) (suc n) f = omega (arith, unit_nests x n f)
+  unit_nests (all_of xs) zero f = absurd f
+  unit_nests (all_of xs) (suc n) f = omega (arith, units_nest xs n f.1)
+  unit_nests (any_of xs) zero f = absurd f
+  unit_nests (any_of xs) (suc n) f = omega (arith, conjunctions_nest xs n f.1)
+
+  conjunction_nests : (x : Tree) (n : ℕ) → FitsConjunction x n → conjunction_nesting x ≤ n
+  conjunction_nests (single l) n f = omega arith
+  conjunction_nests (negation x) zero f = absurd f
+  conjunction_nests (negation x) (suc n) f = omega (arith, unit_nests x n f)
+  conjunction_nests (all_of xs) n f = units_nest xs n f.1
+  conjunction_nests (any_of xs) zero f = absurd f
+  conjunction_nests (any_of xs) (suc n) f = omega (arith, conjunctions_nest xs n f.1)
+
+  units_nest : (xs : Trees) (n : ℕ) → FitUnits xs n → units_nesting xs ≤ n
+  units_nest no_trees n f = omega arith
+  units_nest (tree x xs) n f = omega (arith, unit_nests x n f.0, units_nest xs n f.1)
+
+  conjunctions_nest : (xs : Trees) (n : ℕ) → FitConjunctions xs n → conjunctions_nesting xs ≤ n
+  conjunctions_nest no_trees n f = omega arith
+  conjunctions_nest (tree x xs) n f = omega (arith, conjunction_nests x n f.0, conjunctions_nest xs n f.1)
+
+expression_nests : (x : Tree) (n : ℕ) → FitsExpression x n → expression_nesting x ≤ n
+expression_nests (any_of xs) n f = conjunctions_nest xs n f.1
+expression_nests (single l) n f = conjunction_nests (single l) n f
+expression_nests (negation x) n f = conjunction_nests (negation x) n f
+expression_nests (all_of xs) n f = conjunction_nests (all_of xs) n f
+
 -- the condition of a query, where it has one
 pub record BackCondition (n : ℕ) (xs : List Node) : Type 0 where
   pub part : Option Tree
   pub parts : xs ≡ condition_parts part
+  pub nests : nesting part ≤ n
   pub again : Again (either (expression n) nothing) (condition_text part) (condition_parts part)
 
 pub condition_back : {n : ℕ} {ts rest : List Token} {xs : List Node} → Is (either (expression n) nothing) ts rest xs → AreGood ts → BackCondition n xs
-condition_back {n = n} (is_first r) g = let b = expression_fits r g in record { part = Some b.part; parts = b.parts; again = again_first _ (expression_again b.part n b.does) }
-condition_back (is_second is_nothing) g = record { part = None; parts = refl; again = again_second _ again_nothing }
+condition_back {n = n} (is_first r) g = let b = expression_fits r g in record { part = Some b.part; parts = b.parts; nests = expression_nests b.part n b.does; again = again_first _ (expression_again b.part n b.does) }
+condition_back (is_second is_nothing) g = record { part = None; parts = refl; nests = omega arith; again = again_second _ again_nothing }

@@ -7,4 +7,4 @@ mod write_expr;
 mod write_test;
 mod write_value;
 
-pub use whole::{print, printed_reads};
+pub use whole::{nesting_is_limited, print, printed_reads};

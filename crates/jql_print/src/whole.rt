@@ -4,7 +4,9 @@ ghost use Rattle.std.specs.Str.{IsUtf8};
 ghost use Rattle.jql_syntax.specs.Tree.{Tree};
 ghost use Rattle.jql_syntax.specs.View.{view};
 ghost use Rattle.jql_syntax.specs.Fault.{IsQuery, IsWritten, most_bytes};
+ghost use Rattle.jql_syntax.specs.Grammar.{limit};
 ghost use Rattle.jql_print.specs.Print.{condition_text, direction_mark, each, keyed, key_text, order_text, separated};
+ghost use Rattle.jql_print.specs.Nesting.{nesting};
 ghost use Rattle.jql_print.specs.Spelling.{Writes, query_text};
 ghost use Rattle.jql_syntax.specs.declared.token.Mark.TheVariants.{Comma, Order, By};
 ghost use Rattle.jql_syntax.specs.declared.token.Token.TheVariants.{Marked};
@@ -105,4 +107,9 @@ pub fn print(alloc: Global, query: &Query) -> Result<Text, Memory>
 /// The spelling of what a text says is that query again, unless it is too long for one.
 pub fn printed_reads()
     ensures { (text : List ℕ) (q : Option Tree) (keys : List TheSortKey) → IsUtf8 text → IsQuery text q keys → length (query_text q keys) ≤ most_bytes → IsQuery (query_text q keys) q keys }
+{}
+
+/// What some text says, as each [`Query`] is, nests at most 64 deep in its spelling.
+pub fn nesting_is_limited()
+    ensures { (q : Option Tree) (keys : List TheSortKey) → IsWritten q keys → nesting q ≤ limit }
 {}

@@ -1,4 +1,4 @@
-use Rattle.std.proofs.Common.{◌≡◌, ◌∙◌, ◌≤◌, not, arith, ap, sym, subst}
+use Rattle.std.proofs.Common.{◌≡◌, ◌∙◌, arith, ap, sym, subst}
 use Rattle.jql_bound.specs.Condition.{Condition, view, views, all_of, any_of, now, past}
 use Rattle.jql_meaning.specs.Surroundings.{surroundings_of}
 use Rattle.jql_meaning.specs.Truth.{holds}

@@ -1,5 +1,5 @@
 use Rattle.std.proofs.Common.{◌≡◌, ◌≤◌, drop}
-use Rattle.field_forms.specs.Numbers.{read_on}
+use Rattle.field_values.specs.Digits.{read_on}
 use Rattle.jql_grammar.proofs.digits.written.Given as goal
 
 abbrev pub invariant-loop-digit : goal.invariant-loop-digit

@@ -6,7 +6,7 @@ use Rattle.jql_naming.proofs.Rising.{members-rise}
 use Rattle.jql_naming.proofs.naming.names_user.Goals as goal
 
 -- a context keeps the users of each group in order
-pub has_user-requires : goal.has_user-requires
-has_user-requires c =
+pub is_member-requires : goal.is_member-requires
+is_member-requires c =
     let P : List UserNo → Type 0 = λ users. AreRising users in
     subst P (sym c.members_of.ensures) (members-rise (surroundings_of c.args.context.now) c.in-MembersOf.group c.args.context.now.in_order)

@@ -1,7 +1,7 @@
 use Rattle.std.proofs.Common.{FitsSigned, w64, rules}
 use Rattle.std.proofs.lemmas.Int.{to_z-of_z}
 use Rattle.jql_past.proofs.Bounds.{midnight_bound}
-use Rattle.jql_past.proofs.standing.start_of.Goals as goal
+use Rattle.jql_past.proofs.disturbed.start_of.Goals as goal
 
 pub returns-clause-bound : goal.returns-clause-bound
 returns-clause-bound c =

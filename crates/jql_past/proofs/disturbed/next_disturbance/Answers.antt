@@ -5,7 +5,7 @@ use Rattle.jql_meaning.specs.Edges.{window_edges}
 use Rattle.jql_past.specs.Next.{IsNext, ToOne}
 use Rattle.jql_past.specs.Near.{IsDisturbed}
 use Rattle.jql_past.proofs.Nexts.{next_of_more}
-use Rattle.jql_past.proofs.standing.next_disturbance.Goals as goal
+use Rattle.jql_past.proofs.disturbed.next_disturbance.Goals as goal
 
 pub loop-predicate-preserved : goal.loop-predicate-preserved
 loop-predicate-preserved c =

@@ -2,7 +2,7 @@ use Rattle.jql_meaning.specs.Surroundings.{surroundings_of}
 use Rattle.jql_meaning.specs.Edges.{date}
 use Rattle.jql_past.specs.Near.{IsDisturbed}
 use Rattle.jql_past.proofs.Nexts.{next_of_two}
-use Rattle.jql_past.proofs.standing.disturbs_window.Goals as goal
+use Rattle.jql_past.proofs.disturbed.disturbs_window.Goals as goal
 
 pub returns-in-During : goal.returns-in-During
 returns-in-During c =

@@ -5,7 +5,7 @@ use Rattle.relative_dates.specs.Calendar.{local_day, midnight}
 use Rattle.jql_meaning.specs.Surroundings.{surroundings_of}
 use Rattle.jql_meaning.specs.Comparison.{second_now}
 use Rattle.jql_past.proofs.Disturbances.{day_disturbed_at}
-use Rattle.jql_past.proofs.standing.disturbs_day.Goals as goal
+use Rattle.jql_past.proofs.disturbed.disturbs_day.Goals as goal
 
 pub returns : goal.returns
 returns c =

@@ -3,7 +3,7 @@ use Rattle.std.proofs.lemmas.Int.{to_z-of_z}
 use Rattle.jql_meaning.specs.Surroundings.{surroundings_of}
 use Rattle.jql_meaning.specs.Comparison.{second_now}
 use Rattle.jql_past.proofs.Disturbances.{date_disturbed_at}
-use Rattle.jql_past.proofs.standing.disturbs_date.Goals as goal
+use Rattle.jql_past.proofs.disturbed.disturbs_date.Goals as goal
 
 pub returns : goal.returns
 returns c =
