@@ -6,3 +6,7 @@ pub mod Given
 pub mod Put
 pub mod Gaps
 pub mod Placing
+pub mod Issues
+pub mod Computed
+pub mod Rows
+pub mod Last

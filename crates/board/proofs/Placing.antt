@@ -163,7 +163,7 @@ high_above (Some l) (Some h) empty rank in_order chosen = by (cases_Bool (h.buck
         less_by_bucket rank h (grind (arith, nat_tests))
 
 -- a rank between those beside a gap fits there
-fits_between : (rest : List Pair) (g : ℕ) (rank : RankParts) → IsOrder rest → g ≤ length rest → IfSome (rank_above rest g) (λ l. IsBelow l rank) → IfSome (rank_below rest g) (λ h. IsBelow rank h) → Fits rest rank g
+pub fits_between : (rest : List Pair) (g : ℕ) (rank : RankParts) → IsOrder rest → g ≤ length rest → IfSome (rank_above rest g) (λ l. IsBelow l rank) → IfSome (rank_below rest g) (λ h. IsBelow rank h) → Fits rest rank g
 fits_between rest g rank order le low high = record { in_range = le; below = lower g le low; above = λ k ge lt. upper k ge lt (cases_eq k g) }
   where
     lower : (g : ℕ) → g ≤ length rest → IfSome (rank_above rest g) (λ l. IsBelow l rank) → (k : ℕ) → k < g → rank_cmp (rank_at rest k) rank ≡ Less
@@ -205,7 +205,7 @@ gap_in_range ps (Some issue) place order named = by place named (gap_among ps or
     by Last named g = omega arith
 
 -- what is asked for is left out
-others_asked : (ps : List Pair) (asked : Option IssueNo) (issue : IssueNo) → IsOrder ps → IsAskedFor ps asked issue → others ps asked ≡ without issue.0 ps
+pub others_asked : (ps : List Pair) (asked : Option IssueNo) (issue : IssueNo) → IsOrder ps → IsAskedFor ps asked issue → others ps asked ≡ without issue.0 ps
 others_asked ps None issue order new =
     sym (without-absent ps issue.0 (λ k lt same. new (let here = sym (places_before-number_at ps k order.once lt) ∙ ap (places_before ps) same in omega arith)))
 others_asked ps (Some i) issue order same = ap (λ j. without j.0 ps) same

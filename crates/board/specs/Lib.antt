@@ -3,6 +3,8 @@ pub mod Table
 pub mod Search
 pub mod Lengths
 pub mod Place
+pub mod Issues
+pub mod Moved
 pub mod Board
 pub mod Laws
 pub mod Rows

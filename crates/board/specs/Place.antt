@@ -5,7 +5,7 @@ use Rattle.rank_strings.specs.Rank.{RankParts}
 use Rattle.rank_strings.specs.Chosen.{IsChosen}
 use Rattle.rank_strings.specs.declared.fault.RankFault.{RankFault}
 use Rattle.rank_strings.specs.declared.fault.RankFault.TheVariants.{Exhausted, Memory}
-use Rattle.rank_strings.specs.Fault.{ExplainsFault}
+use Rattle.rank_strings.specs.NoRoom.{ExplainsFault}
 use Rattle.board.specs.declared.place.Place.{Place}
 use Rattle.board.specs.declared.place.Place.TheVariants.{Before, After, Last}
 use Rattle.board.specs.Order.{Pair, IsIn, places_before, place_in, pair_before, rank_in, without}

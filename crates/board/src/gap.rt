@@ -9,22 +9,22 @@ use field_values::IssueNo;
 use rank_strings::{Rank, RankFault, between};
 use std::alloc::Global;
 
-/// The rank at a place, where there is one.
-pub(crate) fn rank_at(pairs: &[(Rank, IssueNo)], place: usize) -> Option<&Rank>
-    ensures { option_copied result ≡ rank_below pairs.now place }
+/// The rank just below a gap with so many pairs above it, where there is one.
+pub fn rank_below(pairs: &[(Rank, IssueNo)], above: usize) -> Option<&Rank>
+    ensures { option_copied result ≡ rank_below pairs.now above }
 {
-    match pairs.get(place) {
+    match pairs.get(above) {
         Some(pair) => Some(&pair.0),
         None => None,
     }
 }
 
-/// The rank before a place, where there is one.
-pub(crate) fn rank_before(pairs: &[(Rank, IssueNo)], place: usize) -> Option<&Rank>
-    ensures { option_copied result ≡ rank_above pairs.now place }
+/// The rank just above a gap with so many pairs above it, where there is one.
+pub fn rank_above(pairs: &[(Rank, IssueNo)], above: usize) -> Option<&Rank>
+    ensures { option_copied result ≡ rank_above pairs.now above }
 {
-    match place.checked_sub(1) {
-        Some(before) => rank_at(pairs, before),
+    match above.checked_sub(1) {
+        Some(before) => rank_below(pairs, before),
         None => None,
     }
 }
@@ -94,7 +94,7 @@ pub(crate) fn rank_at_gap(
     ensures chosen { IfOk result (IsChosenBeside (rank_above pairs.now above) (rank_below pairs.now above) empty_bucket) }
     ensures fault { IfErr result (ExplainsBeside (rank_above pairs.now above) (rank_below pairs.now above) empty_bucket) }
 {
-    let low = rank_before(pairs, above);
-    let high = rank_at(pairs, above);
+    let low = rank_above(pairs, above);
+    let high = rank_below(pairs, above);
     rank_between(alloc, low, high, empty_bucket)
 }

@@ -12,5 +12,6 @@ mod search;
 mod shift;
 
 pub use board::Board;
+pub use gap::{rank_above, rank_below};
 pub use order::Order;
 pub use place::Place;

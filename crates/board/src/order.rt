@@ -1,9 +1,11 @@
 //! The order of all issues.
-ghost use Rattle.std.specs.Prelude.{◌≡◌, ◌≤◌, ◌<◌, ◌+◌, [], length, IfOk, IfErr, IfSome, IsSome, ◌↔◌, OnOk, OnErr, MatchOption, true, false, Some, option_map, slice_get};
+ghost use Rattle.std.specs.Prelude.{◌≡◌, ◌≤◌, ◌<◌, ◌+◌, [], length, IfOk, IfErr, IfSome, IsSome, IsTrue, Ok, ◌↔◌, OnOk, OnErr, MatchOption, true, false, Some, option_map, slice_get};
+ghost use Rattle.rank_strings.specs.Rank.{IsBelow};
 ghost use Rattle.board.specs.Order.{IsOrder, IsIn, IsFreeFor, HasRoomFor, place_in, places_before, beside, put_in, without, longest_in};
-ghost use Rattle.board.specs.Place.{AreNamed, IsRankFor, ExplainsNoRank, named_by, above_place, own_place, stands_at};
+ghost use Rattle.board.specs.Moved.{rank_given, IsRefusalOf};
+ghost use Rattle.board.specs.Place.{AreNamed, IsRankFor, ExplainsNoRank, named_by, above_place, own_place, rank_above, stands_at};
 
-use crate::gap::{is_beside, rank_at_gap};
+use crate::gap::{is_beside, rank_above, rank_at_gap};
 use crate::lengths::{longest, room_for_lengths};
 use crate::pairs::put_pair;
 use crate::place::Place;
@@ -114,6 +116,8 @@ impl Order {
         requires bucket { empty_bucket < 3 }
         ensures rank { IfOk result (IsRankFor self.now.pairs issue place empty_bucket) }
         ensures fault { IfErr result (ExplainsNoRank self.now.pairs issue place empty_bucket) }
+        ensures computed { IfOk result (λ r. rank_given self.now.pairs issue place empty_bucket ≡ Ok r) }
+        ensures refused { IfErr result (IsRefusalOf (rank_given self.now.pairs issue place empty_bucket)) }
     {
         match self.standing_at(issue, place) {
             Some(own) => Ok(self.pairs[own].0.copy(self.alloc)?),
@@ -168,6 +172,16 @@ impl Order {
         ensures order { IsOrder self.now.pairs }
     {
         &self.pairs
+    }
+
+    /// Whether the rank is above all of the order's, which is to be above the last one's.
+    pub fn is_above_all(&self, rank: &Rank) -> bool
+        ensures { IsTrue result ↔ IfSome (rank_above self.now.pairs (length self.now.pairs)) (λ last. IsBelow last rank.now) }
+    {
+        match rank_above(&self.pairs, self.pairs.len()) {
+            Some(last) => last.cmp(rank).is_lt(),
+            None => true,
+        }
     }
 
     /// The issue just before this one and the one just after it; `None` where there is none.

@@ -5,3 +5,6 @@ pub mod Plans
 pub mod Keeps
 pub mod Spacing
 pub mod Ends
+pub mod Planned
+pub mod Counted
+pub mod Agreeing

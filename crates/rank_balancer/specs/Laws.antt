@@ -1,13 +1,18 @@
 -- What holds of every pick and of every step.
-use Rattle.std.specs.Prelude.{ℕ, zero, suc, ◌≡◌, ◌+◌, ◌-◌, ◌/◌, ◌<◌, ◌≤◌, max, List, length, map, All, Option, Some}
+use Rattle.std.specs.Prelude.{ℕ, zero, suc, ◌≡◌, ◌+◌, ◌-◌, ◌/◌, ◌<◌, ◌≤◌, max, List, length, map, All, Option, Some, Ok, Err, IfOk, MatchResult}
 use Rattle.rank_strings.specs.Rank.{RankParts}
 use Rattle.rank_strings.specs.Text.{rank_text}
 use Rattle.rank_balancer.specs.declared.balance.Balance.{Balance}
 use Rattle.rank_balancer.specs.declared.balance.Balance.TheVariants.{Idle, Moving}
-use Rattle.board.specs.Order.{Pair, IsOrder, IsIn, IsFreeFor}
+use Rattle.field_values.specs.declared.numbers.IssueNo.{IssueNo}
+use Rattle.board.specs.declared.place.Place.{Place}
+use Rattle.board.specs.Order.{Pair, IsOrder, IsIn, IsFreeFor, without, put_in}
+use Rattle.board.specs.Place.{AreNamed, IsRankFor}
+use Rattle.board.specs.Moved.{moved}
 use Rattle.rank_balancer.specs.Balance.{next_bucket, Agrees, IsMoving, from_of, to_of}
 use Rattle.rank_balancer.specs.Pick.{pick_of, neighbour_in, IsNextRank}
 use Rattle.rank_balancer.specs.Step.{Move, after_move, after_moves, ArePicks, IsStep, IsStuck, left_in, balance_after}
+use Rattle.rank_balancer.specs.Planned.{planned}
 
 -- a pick finds its issue in the order and its rank free, and leaves an order that agrees with the balance, with the same issues at the
 -- same places and one rank less in the old bucket
@@ -59,3 +64,32 @@ abbrev pub StepsEnd : Type 0
 StepsEnd =
     (ps : List Pair) (bucket count steps : ℕ) (qs : List Pair) (e : Balance) → IsOrder ps → Agrees ps (Idle bucket) → length ps ≤ 50000 → 1 ≤ count →
     StepsLead count steps ps (Moving bucket (next_bucket bucket)) qs e → IsOnTheWay count steps (length ps) bucket qs e
+
+-- what is computed is a step, or what its refusal names
+abbrev pub StepIsComputed : Type 0
+StepIsComputed =
+    (ps : List Pair) (from to most : ℕ) → IsOrder ps → Agrees ps (Moving from to) →
+    MatchResult (planned ps from to most) (IsStep ps from to most) (λ sides. IsStuck ps from to most sides.0 sides.1)
+
+-- there is no other step
+abbrev pub NoOtherStep : Type 0
+NoOtherStep =
+    (ps : List Pair) (from to most : ℕ) (moves : List Move) → IsOrder ps → Agrees ps (Moving from to) →
+    IsStep ps from to most moves → planned ps from to most ≡ Ok moves
+
+-- and no other refusal
+abbrev pub NoOtherRefusal : Type 0
+NoOtherRefusal =
+    (ps : List Pair) (from to most : ℕ) (low high : Option RankParts) → IsOrder ps → Agrees ps (Moving from to) →
+    IsStuck ps from to most low high → planned ps from to most ≡ Err (low, high)
+
+-- a new issue or a moved one keeps the balance, where the first rank of all goes to the bucket that the balance goes to
+abbrev pub PlacesKeepTheBalance : Type 0
+PlacesKeepTheBalance =
+    (ps : List Pair) (b : Balance) (issue : IssueNo) (asked : Option IssueNo) (place : Place) (rank : RankParts) →
+    Agrees ps b → AreNamed ps asked place → IsRankFor ps asked place (to_of b) rank → Agrees (put_in (rank, issue) (without issue.0 ps)) b
+
+abbrev pub MovesKeepTheBalance : Type 0
+MovesKeepTheBalance =
+    (ps : List Pair) (b : Balance) (issue : IssueNo) (asked : Option IssueNo) (place : Place) →
+    IsOrder ps → Agrees ps b → AreNamed ps asked place → IfOk (moved ps asked issue place (to_of b)) (λ qs. Agrees qs b)

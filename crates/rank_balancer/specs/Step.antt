@@ -30,6 +30,11 @@ ArePicks ps from to (m ∷ ms) =
 abbrev pub left_in : ℕ → List Pair → ℕ
 left_in bucket ps = count_by (λ p. p.0.bucket == bucket) ps
 
+-- how many are left in the bucket that a balance leaves; none where it is idle
+abbrev pub ranks_left : List Pair → Balance → ℕ
+ranks_left ps (Idle bucket) = 0
+ranks_left ps (Moving from to) = left_in from ps
+
 -- a step of so many picks at most
 pub record IsStep (ps : List Pair) (from to most : ℕ) (moves : List Move) : Type 0 where
   pub picks : ArePicks ps from to moves

@@ -1,6 +1,7 @@
 //! Whether the ranks of an order are on the way to another bucket.
-ghost use Rattle.std.specs.Prelude.{◌≡◌, ◌<◌, MatchResult};
-ghost use Rattle.rank_balancer.specs.Balance.{next_bucket, after_start, IsInCircle};
+ghost use Rattle.std.specs.Prelude.{◌≡◌, ◌<◌, List, MatchResult};
+ghost use Rattle.board.specs.Order.{Pair};
+ghost use Rattle.rank_balancer.specs.Balance.{next_bucket, after_start, Agrees, IsInCircle, to_of};
 
 /// The balance of an order. Buckets are 0, 1 and 2.
 #[derive(Clone, Copy, PartialEq, Eq)]
@@ -36,6 +37,17 @@ impl Balance {
                 Ok(())
             }
             Balance::Moving { .. } => Err(BalanceIs(*self)),
+        }
+    }
+
+    /// The bucket of the first rank of an empty order: the idle one, or the one that the balance goes to.
+    pub fn empty_bucket(&self) -> u8
+        ensures bucket { result ≡ to_of self.now }
+        ensures in_circle { (ps : List Pair) → Agrees ps self.now → result < 3 }
+    {
+        match *self {
+            Balance::Idle(bucket) => bucket,
+            Balance::Moving { to, .. } => to,
         }
     }
 }

@@ -8,5 +8,5 @@ mod search;
 mod step;
 
 pub use balance::{Balance, BalanceIs};
-pub use search::pick;
+pub use search::{left, pick};
 pub use step::{StepPlan, apply, plan_step};

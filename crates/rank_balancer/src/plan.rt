@@ -9,7 +9,8 @@ ghost use Rattle.rank_balancer.specs.declared.balance.Balance.TheVariants.{Movin
 ghost use Rattle.rank_balancer.specs.Balance.{Agrees, next_bucket};
 ghost use Rattle.rank_balancer.specs.Pick.{first_rank, IsNextRank, ExplainsNoNext};
 
-use crate::search::{count_up_to, rank_at, rank_before};
+use crate::search::count_up_to;
+use board::{rank_above, rank_below};
 use field_values::IssueNo;
 use rank_strings::{Rank, RankFault, between};
 use std::alloc::Global;
@@ -64,7 +65,7 @@ fn plan_up(
 {
     let mut moves = Vec::with_capacity(alloc, count)?;
     for place in (border - count..border).rev() {
-        let beside = neighbour(&moves, rank_at(pairs, border));
+        let beside = neighbour(&moves, rank_below(pairs, border));
         match next_rank(alloc, from + 1, beside) {
             Ok(rank) => moves.push_reserved((pairs[place].1, rank)),
             Err(fault) => return Err(fault),
@@ -88,7 +89,7 @@ fn plan_down(
 {
     let mut moves = Vec::with_capacity(alloc, count)?;
     for place in border..border + count {
-        let beside = neighbour(&moves, rank_before(pairs, border));
+        let beside = neighbour(&moves, rank_above(pairs, border));
         match next_rank(alloc, 0, beside) {
             Ok(rank) => moves.push_reserved((pairs[place].1, rank)),
             Err(fault) => return Err(fault),

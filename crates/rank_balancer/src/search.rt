@@ -1,10 +1,9 @@
 //! Where an order changes from one bucket to another, and the issue that is picked.
 ghost use Rattle.std.specs.Prelude.{◌≡◌, None, MatchOption};
-ghost use Rattle.std.specs.Option.{option_copied};
 ghost use Rattle.board.specs.Order.{IsOrder};
-ghost use Rattle.board.specs.Place.{rank_above, rank_below};
 ghost use Rattle.rank_balancer.specs.Border.{IsBorder, StandsAt};
 ghost use Rattle.rank_balancer.specs.Pick.{first_in, last_in, pick_of};
+ghost use Rattle.rank_balancer.specs.Step.{left_in, ranks_left};
 
 use crate::balance::Balance;
 use board::Order;
@@ -17,26 +16,6 @@ pub(crate) fn count_up_to(pairs: &[(Rank, IssueNo)], bucket: u8) -> usize
     ensures { IsBorder pairs.now bucket result }
 {
     pairs.partition_point(|pair| pair.0.bucket() <= bucket)
-}
-
-/// The rank at a place, where there is one.
-pub(crate) fn rank_at(pairs: &[(Rank, IssueNo)], place: usize) -> Option<&Rank>
-    ensures { option_copied result ≡ rank_below pairs.now place }
-{
-    match pairs.get(place) {
-        Some(pair) => Some(&pair.0),
-        None => None,
-    }
-}
-
-/// The rank before a place, where there is one.
-pub(crate) fn rank_before(pairs: &[(Rank, IssueNo)], place: usize) -> Option<&Rank>
-    ensures { option_copied result ≡ rank_above pairs.now place }
-{
-    match place.checked_sub(1) {
-        Some(before) => rank_at(pairs, before),
-        None => None,
-    }
 }
 
 /// The place of the last rank in the bucket.
@@ -86,5 +65,27 @@ pub fn pick(order: &Order, balance: &Balance) -> Option<IssueNo>
     match place {
         Some(place) => Some(pairs[place].1),
         None => None,
+    }
+}
+
+/// How many pairs are in the bucket.
+fn count_in(pairs: &[(Rank, IssueNo)], bucket: u8) -> usize
+    requires { IsOrder pairs.now }
+    ensures { result ≡ left_in bucket pairs.now }
+{
+    let up_to = count_up_to(pairs, bucket);
+    match bucket.checked_sub(1) {
+        Some(below) => up_to - count_up_to(pairs, below),
+        None => up_to,
+    }
+}
+
+/// How many ranks are still in the bucket that the balance leaves; 0 where it is idle. It is found by halving.
+pub fn left(order: &Order, balance: &Balance) -> usize
+    ensures { result ≡ ranks_left order.now.pairs balance.now }
+{
+    match *balance {
+        Balance::Moving { from, .. } => count_in(order.list(), from),
+        Balance::Idle(_) => 0,
     }
 }

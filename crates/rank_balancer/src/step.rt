@@ -1,8 +1,10 @@
 //! A step of the rebalancing: planned first, and then applied.
-ghost use Rattle.std.specs.Prelude.{◌≡◌, ◌≤◌, ◌<◌, IfOk, IfErr, min, length, vec_len};
+ghost use Rattle.std.specs.Prelude.{◌≡◌, ◌≤◌, ◌<◌, IfOk, IfErr, Ok, min, length, vec_len};
 ghost use Rattle.board.specs.Order.{IsOrder};
+ghost use Rattle.board.specs.Moved.{IsRefusalOf};
 ghost use Rattle.rank_balancer.specs.Balance.{Agrees, IsMoving, next_bucket, from_of, to_of};
 ghost use Rattle.rank_balancer.specs.Step.{IsStep, ArePicks, ExplainsRefusal, after_moves, balance_after};
+ghost use Rattle.rank_balancer.specs.Planned.{planned};
 
 use crate::balance::Balance;
 use crate::plan::plan_moves;
@@ -52,11 +54,16 @@ pub fn plan_step(
     requires count { (1 ≤ at_most) × (at_most ≤ 1000) }
     ensures step { IfOk result (IsStep order.now.pairs (from_of balance.now) (to_of balance.now) at_most) }
     ensures fault { IfErr result (ExplainsRefusal order.now.pairs (from_of balance.now) (to_of balance.now) at_most) }
+    ensures computed { IfOk result (λ moves. planned order.now.pairs (from_of balance.now) (to_of balance.now) at_most ≡ Ok moves) }
+    ensures refused { IfErr result (IsRefusalOf (planned order.now.pairs (from_of balance.now) (to_of balance.now) at_most)) }
 {
     match *balance {
-        Balance::Moving { from, .. } => Ok(StepPlan {
-            moves: plan_moves(alloc, order.list(), from, at_most as usize)?,
-        }),
+        Balance::Moving { from, .. } => {
+            match plan_moves(alloc, order.list(), from, at_most as usize) {
+                Ok(moves) => Ok(StepPlan { moves }),
+                Err(fault) => Err(fault),
+            }
+        }
         Balance::Idle(_) => Ok(StepPlan {
             moves: Vec::new(alloc),
         }),

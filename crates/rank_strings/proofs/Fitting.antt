@@ -75,11 +75,11 @@ first-at_most low (b ∷ c ∷ high) x xs h =
     let inner = highest-inner b c high in
     elim (less-cases x b xs (c ∷ high) h.below) [ inl less ↦ omega (arith, inner) | inr same ↦ omega (arith, inner, same.0) ]
 
-shifted_lowest : (low : List ℕ) (k : ℕ) → lowest_at (drop 1 low) k ≡ lowest_at low (suc k)
+pub shifted_lowest : (low : List ℕ) (k : ℕ) → lowest_at (drop 1 low) k ≡ lowest_at low (suc k)
 shifted_lowest [] k = refl
 shifted_lowest (a ∷ low) k = refl
 
-shifted_highest : (high : List ℕ) (k : ℕ) → highest_at (drop 1 high) k ≡ highest_at high (suc k)
+pub shifted_highest : (high : List ℕ) (k : ℕ) → highest_at (drop 1 high) k ≡ highest_at high (suc k)
 shifted_highest [] k = grind (arith, nat_tests)
 shifted_highest (b ∷ high) k = grind (arith, nat_tests)
 

@@ -8,3 +8,4 @@ pub mod Room
 pub mod Finest
 pub mod InRange
 pub mod Unique
+pub mod Computed

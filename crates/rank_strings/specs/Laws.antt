@@ -1,13 +1,14 @@
 -- What holds of all ranks, of their texts and of the rank that is chosen.
-use Rattle.std.specs.Prelude.{ℕ, ◌≡◌, ◌+◌, ◌<◌, ◌≤◌, List, [], length, Option, Some, None}
+use Rattle.std.specs.Prelude.{ℕ, ◌≡◌, ◌+◌, ◌<◌, ◌≤◌, List, [], length, Option, Some, None, MatchOption}
 use Rattle.std.specs.declared.cmp.Ordering.TheVariants.{Equal}
 use Rattle.std.specs.Ordering.{nat_cmp}
 use Rattle.std.specs.Cmp.{IsTotalOrder}
 use Rattle.std.specs.Cmp.Lexicographic.{slice_cmp}
 use Rattle.rank_strings.specs.Rank.{RankParts, IsRank, rank_cmp}
 use Rattle.rank_strings.specs.Text.{rank_text, IsTextOf}
-use Rattle.rank_strings.specs.Between.{RanksGiven, LiesBetween, IsShortest}
+use Rattle.rank_strings.specs.Between.{RanksGiven, LiesBetween, IsShortest, HasNoRoom}
 use Rattle.rank_strings.specs.Chosen.{number, greatest_number, least_above, greatest_below, front_of, last_digit, IsChosen}
+use Rattle.rank_strings.specs.Choice.{chosen_between}
 
 -- the order of ranks is a total order
 abbrev pub OrderIsTotal : Type 0
@@ -43,6 +44,24 @@ abbrev pub OneRankIsChosen : Type 0
 OneRankIsChosen =
     (low high : Option RankParts) (bucket : ℕ) → RanksGiven low high bucket →
     (a b : RankParts) → IsChosen low high bucket a → IsChosen low high bucket b → a ≡ b
+
+-- what is computed from two neighbours is the chosen rank, and nothing is computed only where no rank lies between
+abbrev pub ChosenIsComputed : Type 0
+ChosenIsComputed =
+    (low high : Option RankParts) (bucket : ℕ) → RanksGiven low high bucket →
+    MatchOption (chosen_between low high bucket) (HasNoRoom low high bucket) (IsChosen low high bucket)
+
+-- it is the only rank that is chosen
+abbrev pub NoOtherIsChosen : Type 0
+NoOtherIsChosen =
+    (low high : Option RankParts) (bucket : ℕ) → RanksGiven low high bucket →
+    (r : RankParts) → IsChosen low high bucket r → chosen_between low high bucket ≡ Some r
+
+-- where no rank lies between, nothing is computed
+abbrev pub NoneWithoutRoom : Type 0
+NoneWithoutRoom =
+    (low high : Option RankParts) (bucket : ℕ) → RanksGiven low high bucket → HasNoRoom low high bucket →
+    chosen_between low high bucket ≡ None
 
 -- behind a lone neighbour with room for the step, the chosen rank is 8,192 above it and has nine bytes
 abbrev pub StepsUp : Type 0

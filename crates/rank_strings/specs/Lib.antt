@@ -3,7 +3,8 @@ pub mod Text
 pub mod Between
 pub mod Chosen
 pub mod Gap
-pub mod Fault
+pub mod Choice
+pub mod NoRoom
 pub mod Total
 pub mod Laws
 pub mod Rows

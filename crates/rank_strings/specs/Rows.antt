@@ -1,8 +1,9 @@
 -- Worked values, computed from the definitions.
-use Rattle.std.specs.Prelude.{ℕ, ◌≡◌, List, [], ◌∷◌, codes, Some, None, refl}
+use Rattle.std.specs.Prelude.{ℕ, ◌≡◌, List, [], ◌∷◌, ◌++◌, replicate, codes, Some, None, refl}
 use Rattle.rank_strings.specs.Rank.{RankParts}
 use Rattle.rank_strings.specs.Text.{rank_text}
 use Rattle.rank_strings.specs.Chosen.{number, greatest_number, least_above, greatest_below, spaced_number}
+use Rattle.rank_strings.specs.Choice.{further_between, chosen_between}
 
 -- a rank of six digits alone in bucket 0
 abbrev alone : ℕ → ℕ → ℕ → ℕ → ℕ → ℕ → RankParts
@@ -52,3 +53,42 @@ none_below_the_next = refl
 
 pub none_below_further : greatest_below (Some (with_further (1 ∷ []))) ≡ 1088391168
 none_below_further = refl
+
+-- the rank that is chosen, by its digits: in an empty bucket, behind `i00000`, before it, and between `i00000` and `i006bk`
+pub chosen_first : chosen_between None None 0 ≡ Some (alone 18 0 0 0 0 0)
+unfolding chosen_between
+chosen_first = refl
+
+pub chosen_behind : chosen_between (Some (alone 18 0 0 0 0 0)) None 0 ≡ Some (alone 18 0 0 6 11 20)
+unfolding chosen_between
+chosen_behind = refl
+
+pub chosen_before : chosen_between None (Some (alone 18 0 0 0 0 0)) 0 ≡ Some (alone 17 35 35 29 24 16)
+unfolding chosen_between
+chosen_before = refl
+
+pub chosen_halfway : chosen_between (Some (alone 18 0 0 0 0 0)) (Some (alone 18 0 0 6 11 20)) 0 ≡ Some (alone 18 0 0 3 5 28)
+unfolding chosen_between
+chosen_halfway = refl
+
+-- between `i00000` and `i00001`: `i00000:i`
+pub chosen_with_a_digit : chosen_between (Some (alone 18 0 0 0 0 0)) (Some (alone 18 0 0 0 0 1)) 0 ≡ Some (with_further (18 ∷ []))
+unfolding chosen_between further_between
+chosen_with_a_digit = refl
+
+-- between `i00000` and `i00000:1`: `i00000:0i`
+pub chosen_one_deeper : chosen_between (Some (alone 18 0 0 0 0 0)) (Some (with_further (1 ∷ []))) 0 ≡ Some (with_further (0 ∷ 18 ∷ []))
+unfolding chosen_between further_between
+chosen_one_deeper = refl
+
+-- behind `zzzzzz:z`: `zzzzzz:zi`
+pub chosen_behind_the_last :
+    chosen_between (Some (record { bucket = 0; front = replicate 6 35; further = 35 ∷ [] })) None 0
+    ≡ Some (record { bucket = 0; front = replicate 6 35; further = 35 ∷ 18 ∷ [] })
+unfolding chosen_between further_between
+chosen_behind_the_last = refl
+
+-- between `i00000` and the least rank above it none is left
+pub none_is_left : chosen_between (Some (alone 18 0 0 0 0 0)) (Some (with_further (replicate 244 0 ++ 1 ∷ []))) 0 ≡ None
+unfolding chosen_between further_between
+none_is_left = refl

@@ -1,11 +1,12 @@
 //! The rank between two neighbours.
-ghost use Rattle.std.specs.Prelude.{◌≡◌, ◌<◌, ◌≤◌, IfOk, IfErr, IsOk, IfSome};
+ghost use Rattle.std.specs.Prelude.{◌≡◌, ◌<◌, ◌≤◌, IfOk, IfErr, IsOk, IfSome, Some};
 ghost use Rattle.std.specs.Option.{option_copied};
 ghost use Rattle.rank_strings.specs.Rank.{IsRank, AreDigits};
 ghost use Rattle.rank_strings.specs.Between.{AreNeighbours, RanksGiven, LiesBetween, HasNoRoom};
 ghost use Rattle.rank_strings.specs.Chosen.{IsChosen, least_above, greatest_below, further_of, front_of};
+ghost use Rattle.rank_strings.specs.Choice.{chosen_between};
 ghost use Rattle.rank_strings.specs.Gap.{IsGap};
-ghost use Rattle.rank_strings.specs.Fault.{ExplainsFault};
+ghost use Rattle.rank_strings.specs.NoRoom.{ExplainsFault, IsNoneFor};
 
 use crate::fault::RankFault;
 use crate::gap::{Gap, digits_in_gap, find_gap};
@@ -96,6 +97,8 @@ pub fn between(
     ensures strictly { IfOk result (LiesBetween (option_copied low.entry) (option_copied high.entry) bucket) }
     ensures six_digits { least_above (option_copied low.entry) ≤ greatest_below (option_copied high.entry) → IsOk result }
     ensures fault { IfErr result (ExplainsFault (option_copied low.entry) (option_copied high.entry) bucket) }
+    ensures computed { IfOk result (λ r. chosen_between (option_copied low.entry) (option_copied high.entry) bucket ≡ Some r) }
+    ensures none { IfErr result (IsNoneFor (chosen_between (option_copied low.entry) (option_copied high.entry) bucket)) }
 {
     if least_above(low) <= greatest_below(high) {
         return Ok(spaced(alloc, low, high, bucket));

@@ -1,5 +1,5 @@
 //! What is proved of all ranks. These functions do nothing: each clause is a law.
-ghost use Rattle.rank_strings.specs.Laws.{OrderIsTotal, EqualRanksAreTheSame, RanksCompareAsTheirTexts, TextsAreOfOneRank, FrontIsNamed, ShortestDifferInTheLastDigit, OneRankIsChosen, StepsUp, StepsDown};
+ghost use Rattle.rank_strings.specs.Laws.{OrderIsTotal, EqualRanksAreTheSame, RanksCompareAsTheirTexts, TextsAreOfOneRank, FrontIsNamed, ShortestDifferInTheLastDigit, OneRankIsChosen, ChosenIsComputed, NoOtherIsChosen, NoneWithoutRoom, StepsUp, StepsDown};
 
 /// The order of ranks is total, and is that of their texts.
 pub fn order_of_ranks()
@@ -18,6 +18,13 @@ pub fn chosen_rank()
     ensures front { FrontIsNamed }
     ensures shortest { ShortestDifferInTheLastDigit }
     ensures one { OneRankIsChosen }
+{}
+
+/// The chosen rank is computed from its neighbours, and nothing is exactly where no rank lies between them.
+pub fn computed_rank()
+    ensures chosen { ChosenIsComputed }
+    ensures alone { NoOtherIsChosen }
+    ensures none { NoneWithoutRoom }
 {}
 
 /// Beside a lone neighbour the step is 8,192 wherever there is room for it.

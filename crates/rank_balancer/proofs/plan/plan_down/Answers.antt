@@ -15,7 +15,7 @@ loop-place-preserved c =
     let ps = c.args.pairs.now in
     let ms = c.loop-place.moves.items in
     let place = c.loop-place.place in
-    let beside : option_copied c.neighbour-beside.result ≡ neighbour_after ms (rank_above ps c.args.border) = rw (sym c.rank_before.ensures, sym c.deref.ensures.value) c.neighbour-beside.ensures in
+    let beside : option_copied c.neighbour-beside.result ≡ neighbour_after ms (rank_above ps c.args.border) = rw (sym c.rank_above.ensures, sym c.deref.ensures.value) c.neighbour-beside.ensures in
     let next = rw beside at c.in-Ok.ensures.next in
     let n = c.requires.count in
     let plans = plans_down ps c.args.border place ms c.in-Ok.rank (omega (arith, n)) c.loop-place.invariant.plans next in
@@ -31,7 +31,7 @@ pub returns-in-Err-clause-fault : goal.returns-in-Err-clause-fault
 returns-in-Err-clause-fault c =
     let ps = c.args.pairs.now in
     let ms = c.loop-place.moves.items in
-    let beside : option_copied c.neighbour-beside.result ≡ neighbour_after ms (rank_above ps c.args.border) = rw (sym c.rank_before.ensures, sym c.deref.ensures.value) c.neighbour-beside.ensures in
+    let beside : option_copied c.neighbour-beside.result ≡ neighbour_after ms (rank_above ps c.args.border) = rw (sym c.rank_above.ensures, sym c.deref.ensures.value) c.neighbour-beside.ensures in
     let no_rank = rw beside at c.in-Err.ensures.fault in
     let len : length ms ≡ vec_len c.loop-place.moves = search rules in
     refused_down ps c.args.border c.loop-place.place c.args.count ms c.in-Err.fault c.requires.parted c.loop-place.invariant.plans (omega (arith, len)) c.requires.count no_rank

@@ -17,7 +17,7 @@ loop-place-preserved c =
     let place = c.loop-place.place - 1 in
     let is : c.loop-place.place ≡ place + 1 = omega arith in
     let was = subst (λ k. PlansUp ps c.args.from c.args.border k ms) is c.loop-place.invariant.plans in
-    let beside : option_copied c.neighbour-beside.result ≡ neighbour_after ms (rank_below ps c.args.border) = rw (sym c.rank_at.ensures, sym c.deref.ensures.value) c.neighbour-beside.ensures in
+    let beside : option_copied c.neighbour-beside.result ≡ neighbour_after ms (rank_below ps c.args.border) = rw (sym c.rank_below.ensures, sym c.deref.ensures.value) c.neighbour-beside.ensures in
     let next = rw beside at c.in-Ok.ensures.next in
     let plans = plans_up ps c.args.from c.args.border place ms c.in-Ok.rank c.requires.from was next in
     let n = c.requires.parted.in_range in
@@ -37,7 +37,7 @@ returns-in-Err-clause-fault c =
     let place = c.loop-place.place - 1 in
     let is : c.loop-place.place ≡ place + 1 = omega arith in
     let was = subst (λ k. PlansUp ps c.args.from c.args.border k ms) is c.loop-place.invariant.plans in
-    let beside : option_copied c.neighbour-beside.result ≡ neighbour_after ms (rank_below ps c.args.border) = rw (sym c.rank_at.ensures, sym c.deref.ensures.value) c.neighbour-beside.ensures in
+    let beside : option_copied c.neighbour-beside.result ≡ neighbour_after ms (rank_below ps c.args.border) = rw (sym c.rank_below.ensures, sym c.deref.ensures.value) c.neighbour-beside.ensures in
     let no_rank = rw beside at c.in-Err.ensures.fault in
     let len : length ms ≡ vec_len c.loop-place.moves = search rules in
     refused_up ps c.args.from c.args.border place c.args.count ms c.in-Err.fault c.requires.from c.requires.parted was (omega (arith, len)) c.requires.count no_rank
