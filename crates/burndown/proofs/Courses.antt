@@ -13,7 +13,7 @@ use Rattle.burndown.specs.declared.progress.Stage.TheVariants.{Ahead, Running, E
 use Rattle.burndown.specs.Share.{names, counts_for, counted_before}
 use Rattle.burndown.specs.Group.{sprint_before, first_sprint, other_than, second_sprint}
 use Rattle.burndown.specs.Course.{Course, IsTotal, total_after, row_where_changed, told_in, after_group}
-use Rattle.burndown.specs.Line.{Line}
+use Rattle.burndown.specs.Tracked.{TrackedSprint}
 use Rattle.burndown.specs.Small.{IsSmall, SmallBefore}
 use Rattle.burndown.specs.Burndown.{course_of, remaining_of, HasRoom, FitsAfter, GrowsInRoom, TellsNamed, TellsGroup}
 
@@ -60,7 +60,7 @@ unnamed s group c first second =
     told_same c.stage s group c (ap (λ x. (c.total -ℤ x) +ℤ counts_for s group.after) lost ∙ ap (λ x. (c.total -ℤ pos 0) +ℤ x) gained ∙ same_total c.total)
 
 -- so, told of the sprint before and then of another one after, a burndown has each sprint take the group in
-pub tells_group : (old mid new : List Line) (group : Group) → TellsNamed old mid (first_sprint group) group → TellsNamed mid new (second_sprint group) group → TellsGroup old new group
+pub tells_group : (old mid new : List TrackedSprint) (group : Group) → TellsNamed old mid (first_sprint group) group → TellsNamed mid new (second_sprint group) group → TellsGroup old new group
 tells_group old mid new group first second = record {
   courses = λ s. both s (names (first_sprint group) s) refl (names (second_sprint group) s) refl;
   room = λ s. second.room s ∙ first.room s;
@@ -92,7 +92,7 @@ before_small : (s : ℕ) (before : Option Share) → SmallBefore before → IsSm
 before_small s None small = search rules
 before_small s (Some share) small = counts_small s share small
 
-pub small_fits : (b : List Line) (s : ℕ) (group : Group) → IsSmall (remaining_of b s) → SmallBefore group.before → IsSmall group.after.points → FitsAfter b s group
+pub small_fits : (b : List TrackedSprint) (s : ℕ) (group : Group) → IsSmall (remaining_of b s) → SmallBefore group.before → IsSmall group.after.points → FitsAfter b s group
 small_fits b s group total before after = by (course_of b s).stage
   where
     fits : (t l a : ℤ) → IsSmall t → IsSmall l → IsSmall a → IsTotal ((t -ℤ l) +ℤ a)
@@ -110,6 +110,6 @@ small_fits b s group total before after = by (course_of b s).stage
     by (Ended start) = small_total _ total
 
 -- room stays where room grows
-pub room_stays : (old new : List Line) (sprint : Option SprintNo) → GrowsInRoom old new → IfSome sprint (λ s. HasRoom old s.0) → IfSome sprint (λ s. HasRoom new s.0)
+pub room_stays : (old new : List TrackedSprint) (sprint : Option SprintNo) → GrowsInRoom old new → IfSome sprint (λ s. HasRoom old s.0) → IfSome sprint (λ s. HasRoom new s.0)
 room_stays old new None grows room = tt
 room_stays old new (Some sprint) grows room = omega (arith, room, ap (λ (c : Course). length c.rows) (grows.courses sprint.0), grows.room sprint.0)

@@ -1,4 +1,7 @@
-mod Lines
+mod TrackedSprints
 mod Search
 mod Sums
 pub mod Courses
+mod AfterGroups
+mod Charts
+mod Additions

@@ -10,7 +10,7 @@ use Rattle.burndown.specs.declared.progress.Stage.{Stage}
 use Rattle.burndown.specs.declared.progress.Stage.TheVariants.{Ahead, Running, Ended}
 use Rattle.burndown.specs.Share.{counts_for, counted_before}
 use Rattle.burndown.specs.Course.{Course, total_after, row_where_changed, told_in, begun, ended, start_in, start_of, stage_after_end, IsRunning}
-use Rattle.burndown.specs.Line.{Line}
+use Rattle.burndown.specs.Tracked.{TrackedSprint}
 use Rattle.burndown.specs.Burndown.{course_of, ChangesOnly}
 use Rattle.burndown.specs.Event.{Event, Changes, Begins, Ends, last_told, times, IsRightlyTold, NamesEachOnce, IsAfter}
 use Rattle.burndown.specs.Remaining.{before_begin, before_end, sum_of_shares, remaining, start, rows}
@@ -214,7 +214,7 @@ module _ (issues : List ℕ) (s t : ℕ) (past : List Event) (c : Course) (was :
   }
 
 -- a course that is changed only at one sprint
-at_sprint : (P : Course → Type 0) (old new : List Line) (t s : ℕ) (course : Course) → ChangesOnly old new t course →
+at_sprint : (P : Course → Type 0) (old new : List TrackedSprint) (t s : ℕ) (course : Course) → ChangesOnly old new t course →
     ((t == s) ≡ true → P course) → ((t == s) ≡ false → P (course_of old s)) → P (course_of new s)
 at_sprint P old new t s course changes own other = by (t == s) refl
   where
@@ -222,7 +222,7 @@ at_sprint P old new t s course changes own other = by (t == s) refl
     by true is = let same : s ≡ t = grind (arith, nat_tests, is) in subst P (sym (ap (course_of new) same ∙ changes.this)) (own is)
     by false is = let differs : s ≢ t = λ (e : s ≡ t). grind (arith, nat_tests, is, e) in subst P (sym (changes.others s differs)) (other is)
 
-agrees : (events : List Event) (issues : List ℕ) (b : List Line) → IsAfter events b → IsRightlyTold events → NamesEachOnce issues events → (s : ℕ) → Agrees issues s events (course_of b s)
+agrees : (events : List Event) (issues : List ℕ) (b : List TrackedSprint) → IsAfter events b → IsRightlyTold events → NamesEachOnce issues events → (s : ℕ) → Agrees issues s events (course_of b s)
 agrees [] issues b after right once s =
     subst (Agrees issues s []) (sym (after s)) (record { total = sum_none issues s; start = sum_none issues s; rows = refl; begun = refl; ended = refl })
 agrees (Changes group ∷ past) issues b after right once s =

@@ -6,50 +6,50 @@ use Rattle.burndown.specs.declared.group.Group.{Group}
 use Rattle.burndown.specs.declared.progress.Progress.{Progress}
 use Rattle.burndown.specs.Share.{names}
 use Rattle.burndown.specs.Course.{Course, IsTotal, after_group}
-use Rattle.burndown.specs.Line.{Line, line_of}
+use Rattle.burndown.specs.Tracked.{TrackedSprint, tracked_of}
 
-abbrev pub course_of : List Line → ℕ → Course
-course_of b s = (line_of b s).course
+abbrev pub course_of : List TrackedSprint → ℕ → Course
+course_of b s = (tracked_of b s).course
 
-abbrev pub slots_of : List Line → ℕ → ℕ
-slots_of b s = (line_of b s).slots
+abbrev pub slots_of : List TrackedSprint → ℕ → ℕ
+slots_of b s = (tracked_of b s).slots
 
-abbrev pub remaining_of : List Line → ℕ → ℤ
+abbrev pub remaining_of : List TrackedSprint → ℕ → ℤ
 remaining_of b s = (course_of b s).total
 
-abbrev pub rows_of : List Line → ℕ → List BurnRow
+abbrev pub rows_of : List TrackedSprint → ℕ → List BurnRow
 rows_of b s = (course_of b s).rows
 
 -- room was made for the sprint
-abbrev pub IsReserved : List Line → ℕ → Type 0
+abbrev pub IsReserved : List TrackedSprint → ℕ → Type 0
 IsReserved b s = 0 < slots_of b s
 
 -- there is room for one more row
-abbrev pub HasRoom : List Line → ℕ → Type 0
+abbrev pub HasRoom : List TrackedSprint → ℕ → Type 0
 HasRoom b s = length (rows_of b s) < slots_of b s
 
 -- the sprint's total stays in range when the group is taken in
-abbrev pub FitsAfter : List Line → ℕ → Group → Type 0
+abbrev pub FitsAfter : List TrackedSprint → ℕ → Group → Type 0
 FitsAfter b s group = IsTotal (after_group s group (course_of b s)).total
 
 -- one sprint's course becomes this one; all others stand, and so does all room
-pub record ChangesOnly (old new : List Line) (s : ℕ) (course : Course) : Type 0 where
+pub record ChangesOnly (old new : List TrackedSprint) (s : ℕ) (course : Course) : Type 0 where
   pub this : course_of new s ≡ course
   pub others : (q : ℕ) → q ≢ s → course_of new q ≡ course_of old q
   pub room : (q : ℕ) → slots_of new q ≡ slots_of old q
 
 -- each sprint takes the group in
-pub record TellsGroup (old new : List Line) (group : Group) : Type 0 where
+pub record TellsGroup (old new : List TrackedSprint) (group : Group) : Type 0 where
   pub courses : (s : ℕ) → course_of new s ≡ after_group s group (course_of old s)
   pub room : (s : ℕ) → slots_of new s ≡ slots_of old s
 
 -- this sprint takes the group in, if it is one
-pub record TellsNamed (old new : List Line) (sprint : Option SprintNo) (group : Group) : Type 0 where
+pub record TellsNamed (old new : List TrackedSprint) (sprint : Option SprintNo) (group : Group) : Type 0 where
   pub courses : (s : ℕ) → course_of new s ≡ (if names sprint s then after_group s group (course_of old s) else course_of old s)
   pub room : (s : ℕ) → slots_of new s ≡ slots_of old s
 
 -- room may grow, and all else stands
-pub record GrowsInRoom (old new : List Line) : Type 0 where
+pub record GrowsInRoom (old new : List TrackedSprint) : Type 0 where
   pub courses : (s : ℕ) → course_of new s ≡ course_of old s
   pub room : (s : ℕ) → slots_of old s ≤ slots_of new s
 

@@ -4,7 +4,7 @@ use Rattle.burndown.specs.declared.share.Share.{Share}
 use Rattle.burndown.specs.declared.group.Group.{Group}
 use Rattle.burndown.specs.declared.progress.Stage.TheVariants.{Ahead}
 use Rattle.burndown.specs.Course.{IsRunning, begun, ended}
-use Rattle.burndown.specs.Line.{Line}
+use Rattle.burndown.specs.Tracked.{TrackedSprint}
 use Rattle.burndown.specs.Burndown.{course_of, ChangesOnly, TellsGroup, GrowsInRoom}
 use Rattle.burndown.specs.Course.{untold}
 
@@ -40,12 +40,12 @@ NamesEachOnce issues (Begins s ∷ past) = NamesEachOnce issues past
 NamesEachOnce issues (Ends s ∷ past) = NamesEachOnce issues past
 
 -- what a call makes of a burndown
-abbrev pub Follows : List Line → Event → List Line → Type 0
+abbrev pub Follows : List TrackedSprint → Event → List TrackedSprint → Type 0
 Follows old (Changes group) new = TellsGroup old new group
 Follows old (Begins s) new = ((course_of old s).stage ≡ Ahead) × ChangesOnly old new s (begun (course_of old s))
 Follows old (Ends s) new = IsRunning (course_of old s).stage × ChangesOnly old new s (ended (course_of old s))
 
 -- a burndown to which these events led from an empty one; room may have been made at any time
-abbrev pub IsAfter : List Event → List Line → Type 0
+abbrev pub IsAfter : List Event → List TrackedSprint → Type 0
 IsAfter [] b = (s : ℕ) → course_of b s ≡ untold
-IsAfter (event ∷ past) b = (old : List Line) × (new : List Line) × IsAfter past old × Follows old event new × GrowsInRoom new b
+IsAfter (event ∷ past) b = (old : List TrackedSprint) × (new : List TrackedSprint) × IsAfter past old × Follows old event new × GrowsInRoom new b

@@ -1,10 +1,16 @@
 pub mod Share
 pub mod Group
 pub mod Course
-pub mod Line
+pub mod Tracked
 pub mod Burndown
 pub mod Event
 pub mod Remaining
 pub mod Small
 pub mod Laws
 pub mod Rows
+pub mod AfterGroup
+pub mod Reading
+pub mod Chart
+pub mod Told
+pub mod ChartLaws
+pub mod HistoryRows

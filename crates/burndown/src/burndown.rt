@@ -27,14 +27,14 @@ pub struct Burndown {
 
 impl Model for Burndown {
     ghost use Rattle.std.specs.Prelude.{List};
-    ghost use Rattle.burndown.specs.Line.{Line};
+    ghost use Rattle.burndown.specs.Tracked.{TrackedSprint};
 
-    ghost Value = { List Line };
+    ghost Value = { List TrackedSprint };
 
-    ghost use Rattle.burndown.specs.Line.{lines};
+    ghost use Rattle.burndown.specs.Tracked.{tracked_sprints};
     ghost use Rattle.burndown.specs.Burndown.{IsKept};
 
-    ghost view = { λ b. lines b.totals.items b.courses.items };
+    ghost view = { λ b. tracked_sprints b.totals.items b.courses.items };
 
     ghost invariant = { λ b. IsKept b.totals.items b.courses.items };
 }

@@ -1,7 +1,7 @@
 //! How far a sprint is, and its rows.
 ghost use Rattle.std.specs.Prelude.{◌≡◌, ◌<◌, ◌++◌, IfOk, vec_len, vec_capacity};
 ghost use Rattle.burndown.specs.Course.{IsTotal, after_group, row_where_changed, total_after, stage_after_end, start_in};
-ghost use Rattle.burndown.specs.Line.{course, IsAhead};
+ghost use Rattle.burndown.specs.Tracked.{course, IsAhead};
 
 use crate::group::Group;
 use crate::share::{BurnRow, counted_before};

@@ -6,10 +6,10 @@ use Rattle.std.proofs.lemmas.List.{length-append, get_or-set_other}
 use Rattle.std.proofs.lemmas.Grind.{get_or-set_at}
 use Rattle.filter_views.specs.declared.due.Due.{Due}
 use Rattle.filter_views.specs.RowParts.{RowParts}
-use Rattle.filter_views.specs.Row.{no_place, no_row, truth_at, place_at, filter_at, AreRising, place_in, truth_in}
+use Rattle.filter_views.specs.FilterRow.{no_place, no_row, truth_at, place_at, filter_at, AreRising, place_in, truth_in}
 use Rattle.filter_views.specs.Due.{due_at}
-use Rattle.filter_views.specs.Kept.{Agree, IsOf}
-use Rattle.filter_views.specs.Fields.{size, sizes, AllFit, AllBlank, AllAreShort, AllHaveRoom, Widen, with_issue, room_at, line, lines}
+use Rattle.filter_views.specs.Agreement.{Agree, IsOf}
+use Rattle.filter_views.specs.Fields.{size, sizes, AllFit, AllBlank, AllAreShort, AllHaveRoom, Widen, with_issue, room_at, filter_cells, table}
 
 -- a loop over the rows has left the rest as it was
 pub still_old : (old rows : List RowParts) (at : ℕ) (d : RowParts) → at < length old → rows ≡ map with_issue (take at old) ++ drop at old → get_or rows at d ≡ get_or old at d
@@ -46,11 +46,11 @@ length_widen [] (s ∷ ss) w = absurd w
 length_widen (r ∷ rs) [] w = absurd w
 length_widen (r ∷ rs) (s ∷ ss) w = ap suc (length_widen rs ss w.2)
 
-pub lines_widen : (ds : List Due) (rs ss : List RowParts) → Widen rs ss → lines ds ss ≡ lines ds rs
-lines_widen ds [] [] w = refl
-lines_widen ds [] (s ∷ ss) w = absurd w
-lines_widen ds (r ∷ rs) [] w = absurd w
-lines_widen ds (r ∷ rs) (s ∷ ss) w = ap (λ y. line ds y ∷ lines ds ss) w.0 ∙ ap (λ ls. line ds r ∷ ls) (lines_widen ds rs ss w.2)
+pub table_widen : (ds : List Due) (rs ss : List RowParts) → Widen rs ss → table ds ss ≡ table ds rs
+table_widen ds [] [] w = refl
+table_widen ds [] (s ∷ ss) w = absurd w
+table_widen ds (r ∷ rs) [] w = absurd w
+table_widen ds (r ∷ rs) (s ∷ ss) w = ap (λ y. filter_cells ds y ∷ table ds ss) w.0 ∙ ap (λ ls. filter_cells ds r ∷ ls) (table_widen ds rs ss w.2)
 
 pub place_in_widen : (rs ss : List RowParts) → Widen rs ss → (f j : ℕ) → place_in ss f j ≡ place_in rs f j
 place_in_widen [] [] w f j = refl

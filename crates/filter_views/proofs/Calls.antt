@@ -4,14 +4,14 @@ use Rattle.std.proofs.lemmas.List.{length-map, get_or_past}
 use Rattle.std.proofs.Math.Nat.{mul-le-mul, mul_comm, le_trans}
 use Rattle.filter_views.specs.declared.due.Due.{Due}
 use Rattle.filter_views.specs.RowParts.{RowParts}
-use Rattle.filter_views.specs.Row.{no_place, HasNumber, row_of, truth_in, place_in, IsCell}
+use Rattle.filter_views.specs.FilterRow.{no_place, HasNumber, row_of, truth_in, place_in, IsCell}
 use Rattle.filter_views.specs.Heap.{IsHeap}
-use Rattle.filter_views.specs.Kept.{Agree, end_at, end_in, PutsEnd}
-use Rattle.filter_views.specs.Cell.{Cell, unset, Line, Views, cell_of, is_there}
+use Rattle.filter_views.specs.Agreement.{Agree, end_at, end_in, PutsEnd}
+use Rattle.filter_views.specs.Cell.{Cell, unset, FilterCells, Views, cell_of, is_there}
 use Rattle.filter_views.specs.Views.{Shape, Settles, AddsIssue}
-use Rattle.filter_views.specs.Fields.{sizes, AllFit, lines, views, IsKept, PutsTruth, WritesCell, with_issue, Widen, AllHaveRoom}
+use Rattle.filter_views.specs.Fields.{sizes, AllFit, table, views, IsKept, PutsTruth, WritesCell, with_issue, Widen, AllHaveRoom}
 use Rattle.filter_views.proofs.Moves.{end_nowhere}
-use Rattle.filter_views.proofs.AllRows.{agree_alike, truth_in_longer, place_in_longer, filter_at_longer, fit_longer, blank_longer, lines_widen, place_in_widen, filter_at_widen, length_widen, fit_widen, fit_room, blank_widen}
+use Rattle.filter_views.proofs.AllRows.{agree_alike, truth_in_longer, place_in_longer, filter_at_longer, fit_longer, blank_longer, table_widen, place_in_widen, filter_at_widen, length_widen, fit_widen, fit_room, blank_widen}
 use Rattle.filter_views.proofs.Seen.{seen, few_truths, filters_sized, length_sized, sizes_framed, truth_framed, there_width}
 use Rattle.filter_views.proofs.Counting.{fewer_ends, few_places}
 
@@ -125,7 +125,7 @@ module _ (rs spare : List RowParts) (ds : List Due) (row_slots due_slots issues 
         same = shape_from _ _ (filters_longer rs) is (ap (λ m. m + length (map with_issue spare)) (length-map rs with_issue) ∙ ap (λ m. length rs + m) (length-map spare with_issue)) refl;
       }
     where
-      filters_longer : (rs : List RowParts) → map (λ l. l.filter) (lines ds (map with_issue rs)) ≡ map (λ l. l.filter) (lines ds rs)
+      filters_longer : (rs : List RowParts) → map (λ l. l.filter) (table ds (map with_issue rs)) ≡ map (λ l. l.filter) (table ds rs)
       filters_longer [] = refl
       filters_longer (r ∷ rs) = ap (λ ns. r.filter ∷ ns) (filters_longer rs)
 
@@ -148,8 +148,8 @@ module _ (rs spare : List RowParts) (ds : List Due) (row_slots due_slots issues 
 
   pub views_widen : (ss spares : List RowParts) → Widen rs ss → Widen spare spares → (n : ℕ) → views ss spares ds issues n ≡ record v { issue_room = n }
   views_widen ss spares w u n =
-      ap (λ (ls : List Line). let x : Views = record { lines = ls; issues = issues; filter_room = length ss + length spares; issue_room = n } in x) (lines_widen ds rs ss w)
-      ∙ ap (λ (m : ℕ). let x : Views = record { lines = lines ds rs; issues = issues; filter_room = m; issue_room = n } in x) (ap (λ m. m + length spares) (length_widen rs ss w) ∙ ap (λ m. length rs + m) (length_widen spare spares u))
+      ap (λ (ls : List FilterCells). let x : Views = record { table = ls; issues = issues; filter_room = length ss + length spares; issue_room = n } in x) (table_widen ds rs ss w)
+      ∙ ap (λ (m : ℕ). let x : Views = record { table = table ds rs; issues = issues; filter_room = m; issue_room = n } in x) (ap (λ m. m + length spares) (length_widen rs ss w) ∙ ap (λ m. length rs + m) (length_widen spare spares u))
 
   -- and there may be room for more issues
   pub kept_room : (ss spares : List RowParts) → Widen rs ss → Widen spare spares → (most more : ℕ) → issues ≤ most → AllHaveRoom most ss → AllHaveRoom most spares → (length ss + length spares) * most ≤ more → IsKept ss spares ds row_slots more issues most

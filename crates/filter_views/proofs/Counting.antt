@@ -6,8 +6,8 @@ use Rattle.std.proofs.lemmas.Nat.{mul-add-lt, same_from_place}
 use Rattle.filter_views.specs.declared.due.Due.{Due}
 use Rattle.filter_views.specs.RowParts.{RowParts}
 use Rattle.filter_views.specs.Due.{due_at}
-use Rattle.filter_views.specs.Row.{row_of, place_in, IsCell}
-use Rattle.filter_views.specs.Kept.{Agree}
+use Rattle.filter_views.specs.FilterRow.{row_of, place_in, IsCell}
+use Rattle.filter_views.specs.Agreement.{Agree}
 use Rattle.filter_views.specs.Fields.{sizes, AllFit}
 use Rattle.filter_views.proofs.Moves.{cell_there, distinct}
 

@@ -8,11 +8,11 @@ use Rattle.std.proofs.lemmas.List.Edits.{length-insert, get_or-insert_below, get
 use Rattle.filter_views.specs.declared.due.Due.{Due}
 use Rattle.filter_views.specs.RowParts.{RowParts}
 use Rattle.filter_views.specs.Due.{due_at}
-use Rattle.filter_views.specs.Row.{no_place, no_row, frames, truth_at, place_at, filter_at, AreRising, IsAt, IsGapFor, row_of, truth_in, place_in, IsCell}
-use Rattle.filter_views.specs.Kept.{IsOf, Agree, end_at, end_in, TakesEnds}
+use Rattle.filter_views.specs.FilterRow.{no_place, no_row, frames, truth_at, place_at, filter_at, AreRising, IsAt, IsGapFor, row_of, truth_in, place_in, IsCell}
+use Rattle.filter_views.specs.Agreement.{IsOf, Agree, end_at, end_in, TakesEnds}
 use Rattle.filter_views.specs.Cell.{cell_of}
 use Rattle.filter_views.specs.Views.{AddsFilter, RemovesFilter, with_filter, without_filter}
-use Rattle.filter_views.specs.Fields.{sizes, AllFit, IsBlank, AllBlank, lines, views, IsKept}
+use Rattle.filter_views.specs.Fields.{sizes, AllFit, IsBlank, AllBlank, table, views, IsKept}
 use Rattle.filter_views.proofs.Lookups.{NoneBefore, none_before_tail, is_at_tail, row_absent, row_missing, none_before_gap, none_in_list, no_place_there, false_there}
 use Rattle.filter_views.proofs.Moves.{cell_there, end_there, end_nowhere}
 use Rattle.filter_views.proofs.AllRows.{agree_read}
@@ -21,12 +21,12 @@ use Rattle.filter_views.proofs.Counting.{few_places}
 use Rattle.filter_views.proofs.Calls.{shape_from, cell_from}
 
 -- where the filter has a row it is there, and else it isn't
-pub there_at : (ds : List Due) (rs : List RowParts) (f k : ℕ) → IsAt rs f k → list_any (nat_eq f) (map (λ l. l.filter) (lines ds rs)) ≡ true
+pub there_at : (ds : List Due) (rs : List RowParts) (f k : ℕ) → IsAt rs f k → list_any (nat_eq f) (map (λ l. l.filter) (table ds rs)) ≡ true
 there_at ds [] f k at = absurd (omega (arith, at.in_range))
 there_at ds (r ∷ rs) f zero at = grind (arith, nat_tests, at.is_it)
 there_at ds (r ∷ rs) f (suc k) at = grind (arith, nat_tests, there_at ds rs f k (is_at_tail r rs f k at))
 
-pub not_there : (ds : List Due) (rs : List RowParts) (f : ℕ) → NoneBefore rs f (length rs) → list_any (nat_eq f) (map (λ l. l.filter) (lines ds rs)) ≡ false
+pub not_there : (ds : List Due) (rs : List RowParts) (f : ℕ) → NoneBefore rs f (length rs) → list_any (nat_eq f) (map (λ l. l.filter) (table ds rs)) ≡ false
 not_there ds [] f none = refl
 not_there ds (r ∷ rs) f none = grind (arith, nat_tests, none 0 (omega arith), not_there ds rs f (none_before_tail r rs f _ none))
 
@@ -55,16 +55,16 @@ length_push (r ∷ rs) x = ap suc (length_push rs x) ∙ (omega arith)
 gap_tail : (r : RowParts) (rs : List RowParts) (f k : ℕ) → IsGapFor (r ∷ rs) f (suc k) → IsGapFor rs f k
 gap_tail r rs f k gap = record { in_range = omega (arith, gap.in_range); smaller_before = λ j lt. gap.smaller_before (suc j) (omega arith); greater_after = λ j le lt. gap.greater_after (suc j) (omega arith) (omega arith) }
 
-filters_insert : (ds : List Due) (rs : List RowParts) (f k : ℕ) (x : RowParts) → x.filter ≡ f → IsGapFor rs f k → map (λ l. l.filter) (lines ds (insert rs k x)) ≡ with_filter f (map (λ l. l.filter) (lines ds rs))
+filters_insert : (ds : List Due) (rs : List RowParts) (f k : ℕ) (x : RowParts) → x.filter ≡ f → IsGapFor rs f k → map (λ l. l.filter) (table ds (insert rs k x)) ≡ with_filter f (map (λ l. l.filter) (table ds rs))
 filters_insert ds [] f zero x is gap = ap (λ n. n ∷ []) is
 filters_insert ds [] f (suc k) x is gap = absurd (omega (arith, gap.in_range))
 filters_insert ds (r ∷ rs) f zero x is gap =
     let first : nat_lt f r.filter ≡ true = let h = gap.greater_after 0 (omega arith) (omega arith) in grind (arith, nat_tests, h) in
-    let ns = map (λ l. l.filter) (lines ds rs) in
+    let ns = map (λ l. l.filter) (table ds rs) in
     ap (λ n. n ∷ r.filter ∷ ns) is ∙ sym (ap (λ b. if b then f ∷ r.filter ∷ ns else r.filter ∷ with_filter f ns) first)
 filters_insert ds (r ∷ rs) f (suc k) x is gap =
     let later : nat_lt f r.filter ≡ false = let h = gap.smaller_before 0 (omega arith) in grind (arith, nat_tests, h) in
-    let ns = map (λ l. l.filter) (lines ds rs) in
+    let ns = map (λ l. l.filter) (table ds rs) in
     ap (λ ns. r.filter ∷ ns) (filters_insert ds rs f k x is (gap_tail r rs f k gap)) ∙ sym (ap (λ b. if b then f ∷ r.filter ∷ ns else r.filter ∷ with_filter f ns) later)
 
 rising_insert : (rs : List RowParts) (f k : ℕ) (x : RowParts) → x.filter ≡ f → IsGapFor rs f k → AreRising rs → AreRising (insert rs k x)
@@ -185,7 +185,7 @@ rising_remove rs i lt rising j k less in_range =
     let above : (j : ℕ) → i ≤ j → filter_at new j ≡ filter_at rs (j + 1) = λ j l. ap number (get_or-remove_above rs i no_row j l lt) in
     grind (arith, below j, above j, below k, above k, rising j k, rising j (k + 1), rising (j + 1) (k + 1))
 
-filters_remove : (ds : List Due) (rs : List RowParts) (f k : ℕ) → AreRising rs → IsAt rs f k → map (λ l. l.filter) (lines ds (remove rs k)) ≡ without_filter f (map (λ l. l.filter) (lines ds rs))
+filters_remove : (ds : List Due) (rs : List RowParts) (f k : ℕ) → AreRising rs → IsAt rs f k → map (λ l. l.filter) (table ds (remove rs k)) ≡ without_filter f (map (λ l. l.filter) (table ds rs))
 filters_remove ds [] f k rising at = absurd (omega (arith, at.in_range))
 filters_remove ds (r ∷ rs) f zero rising at = let is : r.filter ≡ f = at.is_it in grind (arith, nat_tests, is)
 filters_remove ds (r ∷ rs) f (suc k) rising at =
@@ -274,6 +274,6 @@ module _ (rs spare : List RowParts) (ds : List Due) (row_slots due_slots issues 
       }
 
 -- where the filter has no row it isn't there
-pub never_missing : (rs ss : List RowParts) (ds es : List Due) (f k : ℕ) → frames ss ≡ frames rs → IsGapFor ss f k → list_any (nat_eq f) (map (λ l. l.filter) (lines ds rs)) ≡ true → ⊥
+pub never_missing : (rs ss : List RowParts) (ds es : List Due) (f k : ℕ) → frames ss ≡ frames rs → IsGapFor ss f k → list_any (nat_eq f) (map (λ l. l.filter) (table ds rs)) ≡ true → ⊥
 never_missing rs ss ds es f k same gap there =
     false≢true (sym (not_there ds ss f (none_in_list ss f k gap)) ∙ ap (list_any (nat_eq f)) (filters_sized ds ds rs ss (sizes_framed rs ss same)) ∙ there)

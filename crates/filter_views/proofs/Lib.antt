@@ -11,3 +11,6 @@ pub mod Filters
 pub mod AllRows
 pub mod Takes
 pub mod Truths
+pub mod Grid
+pub mod Members
+pub mod DueCells

@@ -5,7 +5,7 @@ use Rattle.std.proofs.lemmas.Bool.Decides.{nat_tests}
 use Rattle.std.proofs.lemmas.List.{length-set, get_or-set_other, get_or_default}
 use Rattle.std.proofs.lemmas.Grind.{get_or-set_at}
 use Rattle.filter_views.specs.RowParts.{RowParts}
-use Rattle.filter_views.specs.Row.{no_place, no_row, HasNumber, truth_at, place_at, frame, frames, filter_at, AreRising, IsAt, IsGapFor, row_of, place_in, PutsPlace}
+use Rattle.filter_views.specs.FilterRow.{no_place, no_row, HasNumber, truth_at, place_at, frame, frames, filter_at, AreRising, IsAt, IsGapFor, row_of, place_in, PutsPlace}
 
 abbrev pub NoneBefore : List RowParts → ℕ → ℕ → Type 0
 NoneBefore rs f k = (j : ℕ) → j < k → filter_at rs j ≢ f

@@ -6,8 +6,8 @@ use Rattle.std.proofs.lemmas.Bool.Decides.{nat_tests}
 use Rattle.filter_views.specs.declared.due.Due.{Due}
 use Rattle.filter_views.specs.RowParts.{RowParts}
 use Rattle.filter_views.specs.Due.{due_at, no_due}
-use Rattle.filter_views.specs.Row.{no_place, no_row, frame, frames, filter_at, AreRising, row_of, place_in, IsCell, PutsPlace, Frame}
-use Rattle.filter_views.specs.Kept.{IsOf, Agree, end_at, end_in, OnlyMoves}
+use Rattle.filter_views.specs.FilterRow.{no_place, no_row, frame, frames, filter_at, AreRising, row_of, place_in, IsCell, PutsPlace, Frame}
+use Rattle.filter_views.specs.Agreement.{IsOf, Agree, end_at, end_in, OnlyMoves}
 
 -- the number of a row is in its frame
 filter_in_frame : (rs : List RowParts) (k : ℕ) → filter_at rs k ≡ (get_or (frames rs) k (frame no_row)).filter

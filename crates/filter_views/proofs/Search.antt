@@ -6,7 +6,7 @@ use Rattle.std.proofs.lemmas.Cmp.{ranked}
 use Rattle.std.proofs.lemmas.List.Sorted.{IsNonDecreasingBy-from_default}
 use Rattle.std.proofs.lemmas.Bool.Decides.{nat_tests}
 use Rattle.filter_views.specs.RowParts.{RowParts}
-use Rattle.filter_views.specs.Row.{no_row, filter_at, AreRising, IsAt, IsGapFor}
+use Rattle.filter_views.specs.FilterRow.{no_row, filter_at, AreRising, IsAt, IsGapFor}
 
 module _ (rs : List RowParts) (rising : AreRising rs) (f : ℕ) where
   -- the comparisons with f rise along the list, as a binary search asks

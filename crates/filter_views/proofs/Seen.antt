@@ -7,17 +7,17 @@ use Rattle.std.proofs.lemmas.List.{length-map}
 use Rattle.filter_views.specs.declared.due.Due.{Due}
 use Rattle.filter_views.specs.RowParts.{RowParts}
 use Rattle.filter_views.specs.Due.{is_before, due_at}
-use Rattle.filter_views.specs.Row.{no_place, no_row, Frame, frames, filter_at, row_of, truth_in, place_in}
+use Rattle.filter_views.specs.FilterRow.{no_place, no_row, Frame, frames, filter_at, row_of, truth_in, place_in}
 use Rattle.filter_views.specs.Heap.{IsHeap}
-use Rattle.filter_views.specs.Kept.{Agree, end_at, end_in}
+use Rattle.filter_views.specs.Agreement.{Agree, end_at, end_in}
 use Rattle.filter_views.specs.Cell.{Cell, unset, Views, cells_in, cell_of, members_from, members_of}
-use Rattle.filter_views.specs.Views.{IsLeastEnd, IsHeapOf, due}
-use Rattle.filter_views.specs.Fields.{Size, size, sizes, AllFit, cells, lines, holders_from}
+use Rattle.filter_views.specs.Views.{IsLeastEnd, IsHeapOf, end_of_cell}
+use Rattle.filter_views.specs.Fields.{Size, size, sizes, AllFit, cells, table, holders_from}
 use Rattle.filter_views.proofs.Sifting.{first_is_least}
 use Rattle.filter_views.proofs.Moves.{end_there, end_nowhere, distinct}
 
 -- a filter's cells are those of its row
-pub cells_are : (ds : List Due) (rs : List RowParts) (f : ℕ) → cells_in (lines ds rs) f ≡ cells ds (row_of rs f).truths (row_of rs f).places
+pub cells_are : (ds : List Due) (rs : List RowParts) (f : ℕ) → cells_in (table ds rs) f ≡ cells ds (row_of rs f).truths (row_of rs f).places
 cells_are ds [] f = refl
 cells_are ds (r ∷ rs) f = grind (arith, nat_tests, cells_are ds rs f)
 
@@ -33,7 +33,7 @@ row_fits issues room [] f fit = refl
 row_fits issues room (r ∷ rs) f fit = grind (arith, nat_tests, fit.0, fit.1, row_fits issues room rs f fit.3)
 
 -- a cell is what stands in its row and in the heap
-pub seen : (rs : List RowParts) (ds : List Due) (issues room : ℕ) (v : Views) → v.lines ≡ lines ds rs → AllFit issues room (sizes rs) → length ds ≤ no_place → (f j : ℕ) → cell_of v f j ≡ record { holds = truth_in rs f j; end = end_in ds rs f j }
+pub seen : (rs : List RowParts) (ds : List Due) (issues room : ℕ) (v : Views) → v.table ≡ table ds rs → AllFit issues room (sizes rs) → length ds ≤ no_place → (f j : ℕ) → cell_of v f j ≡ record { holds = truth_in rs f j; end = end_in ds rs f j }
 seen rs ds issues room v is fit few f j = ap (λ ls. get_or (unset ∷ cells_in ls f) j unset) is ∙ ap (λ cs. get_or (unset ∷ cs) j unset) (cells_are ds rs f) ∙ by j
   where
     by : (j : ℕ) → get_or (unset ∷ cells ds (row_of rs f).truths (row_of rs f).places) j unset ≡ record { holds = truth_in rs f j; end = end_in ds rs f j }
@@ -41,11 +41,11 @@ seen rs ds issues room v is fit few f j = ap (λ ls. get_or (unset ∷ cells_in 
     by (suc j) = cell_at ds (row_of rs f).truths (row_of rs f).places few (row_fits issues room rs f fit) j
 
 -- the filters are the rows' numbers
-pub filters_are : (ds : List Due) (rs : List RowParts) → map (λ l. l.filter) (lines ds rs) ≡ map (λ s. s.filter) (sizes rs)
+pub filters_are : (ds : List Due) (rs : List RowParts) → map (λ l. l.filter) (table ds rs) ≡ map (λ s. s.filter) (sizes rs)
 filters_are ds [] = refl
 filters_are ds (r ∷ rs) = ap (λ ns. r.filter ∷ ns) (filters_are ds rs)
 
-pub filters_sized : (ds es : List Due) (rs ss : List RowParts) → sizes ss ≡ sizes rs → map (λ l. l.filter) (lines es ss) ≡ map (λ l. l.filter) (lines ds rs)
+pub filters_sized : (ds es : List Due) (rs ss : List RowParts) → sizes ss ≡ sizes rs → map (λ l. l.filter) (table es ss) ≡ map (λ l. l.filter) (table ds rs)
 filters_sized ds es rs ss same = filters_are es ss ∙ ap (λ xs. map (λ s. s.filter) xs) same ∙ sym (filters_are ds rs)
 
 pub length_sized : (rs ss : List RowParts) → sizes ss ≡ sizes rs → length ss ≡ length rs
@@ -95,17 +95,17 @@ pub width_sized : (rs ss : List RowParts) → sizes ss ≡ sizes rs → (f : ℕ
 width_sized rs ss same f = places_are ss f ∙ ap (λ xs. places_of xs f) same ∙ sym (places_are rs f)
 
 -- the row of a filter that is there has a cell for each issue
-pub there_width : (ds : List Due) (issues room : ℕ) (rs : List RowParts) (f : ℕ) → AllFit issues room (sizes rs) → list_any (nat_eq f) (map (λ l. l.filter) (lines ds rs)) ≡ true → (length (row_of rs f).truths ≡ issues) × (length (row_of rs f).places ≡ issues)
+pub there_width : (ds : List Due) (issues room : ℕ) (rs : List RowParts) (f : ℕ) → AllFit issues room (sizes rs) → list_any (nat_eq f) (map (λ l. l.filter) (table ds rs)) ≡ true → (length (row_of rs f).truths ≡ issues) × (length (row_of rs f).places ≡ issues)
 there_width ds issues room [] f fit there = absurd (false≢true there)
 there_width ds issues room (r ∷ rs) f fit there = by (there_width ds issues room rs f fit.3) (cases_eq r.filter f)
   where
-    by : (list_any (nat_eq f) (map (λ l. l.filter) (lines ds rs)) ≡ true → (length (row_of rs f).truths ≡ issues) × (length (row_of rs f).places ≡ issues)) → (r.filter ≡ f) ⊎ (r.filter ≢ f) → (length (row_of (r ∷ rs) f).truths ≡ issues) × (length (row_of (r ∷ rs) f).places ≡ issues)
+    by : (list_any (nat_eq f) (map (λ l. l.filter) (table ds rs)) ≡ true → (length (row_of rs f).truths ≡ issues) × (length (row_of rs f).places ≡ issues)) → (r.filter ≡ f) ⊎ (r.filter ≢ f) → (length (row_of (r ∷ rs) f).truths ≡ issues) × (length (row_of (r ∷ rs) f).places ≡ issues)
     by rest (inl e) =
         let is : row_of (r ∷ rs) f ≡ r = grind (arith, nat_tests, e) in
         (ap (λ x. length x.truths) is ∙ fit.0, ap (λ x. length x.places) is ∙ fit.1)
     by rest (inr e) =
         let is : row_of (r ∷ rs) f ≡ row_of rs f = grind (arith, nat_tests, e) in
-        let tail : list_any (nat_eq f) (map (λ l. l.filter) (lines ds rs)) ≡ true = grind (arith, nat_tests, e, there) in
+        let tail : list_any (nat_eq f) (map (λ l. l.filter) (table ds rs)) ≡ true = grind (arith, nat_tests, e, there) in
         let h = rest tail in
         (ap (λ x. length x.truths) is ∙ h.0, ap (λ x. length x.places) is ∙ h.1)
 
@@ -120,7 +120,7 @@ pub few_truths : (issues room : ℕ) (rs : List RowParts) (f : ℕ) → AllFit i
 few_truths issues room [] f fit = omega arith
 few_truths issues room (r ∷ rs) f fit = grind (arith, nat_tests, fit.0, few_truths issues room rs f fit.3)
 
-pub members_seen : (rs : List RowParts) (ds : List Due) (issues room : ℕ) (v : Views) → v.lines ≡ lines ds rs → AllFit issues room (sizes rs) → (f : ℕ) → holders_from 1 (row_of rs f).truths ≡ members_of v f
+pub members_seen : (rs : List RowParts) (ds : List Due) (issues room : ℕ) (v : Views) → v.table ≡ table ds rs → AllFit issues room (sizes rs) → (f : ℕ) → holders_from 1 (row_of rs f).truths ≡ members_of v f
 members_seen rs ds issues room v is fit f = members_are ds 1 _ _ (row_fits issues room rs f fit) ∙ ap (λ cs. members_from 1 cs) (sym (cells_are ds rs f)) ∙ ap (λ ls. members_from 1 (cells_in ls f)) (sym is)
 
 -- an end stands in the heap
@@ -131,7 +131,7 @@ end_found ds k e is = by (cases_lt k (length ds))
     by (inl lt) = let there = end_there ds k lt in (lt, cc)
     by (inr le) = let nowhere = end_nowhere ds k le in absurd (cc)
 
-pub heap_of : (rs : List RowParts) (ds : List Due) (issues room : ℕ) (v : Views) → v.lines ≡ lines ds rs → AllFit issues room (sizes rs) → Agree ds rs → IsHeap ds → IsHeapOf v ds
+pub heap_of : (rs : List RowParts) (ds : List Due) (issues room : ℕ) (v : Views) → v.table ≡ table ds rs → AllFit issues room (sizes rs) → Agree ds rs → IsHeap ds → IsHeapOf v ds
 heap_of rs ds issues room v is fit agree heap = record { order = heap; only = only; each = each; once = once }
   where
     end_is : (f j : ℕ) → (cell_of v f j).end ≡ end_in ds rs f j
@@ -140,7 +140,7 @@ heap_of rs ds issues room v is fit agree heap = record { order = heap; only = on
     only : (k : ℕ) → k < length ds → (cell_of v (due_at ds k).filter.0 (due_at ds k).issue.0).end ≡ Some (due_at ds k).end
     only k lt = end_is _ _ ∙ ap (end_at ds) (agree.own k lt) ∙ end_there ds k lt
 
-    each : (f issue end : ℕ) → (cell_of v f issue).end ≡ Some end → (k : ℕ) × (k < length ds) × (due_at ds k ≡ due end f issue)
+    each : (f issue end : ℕ) → (cell_of v f issue).end ≡ Some end → (k : ℕ) × (k < length ds) × (due_at ds k ≡ end_of_cell end f issue)
     each f issue end e =
         let k = place_in rs f issue in
         let found = end_found ds k end (sym (end_is f issue) ∙ e) in
@@ -159,7 +159,7 @@ heap_of rs ds issues room v is fit agree heap = record { order = heap; only = on
 pub least_end : (v : Views) (ds : List Due) → IsHeapOf v ds → 0 < length ds → IsLeastEnd v (due_at ds 0)
 least_end v ds h some = record { there = h.only 0 some; least = least }
   where
-    least : (f issue end : ℕ) → (cell_of v f issue).end ≡ Some end → is_before (due end f issue) (due_at ds 0) ≡ false
+    least : (f issue end : ℕ) → (cell_of v f issue).end ≡ Some end → is_before (end_of_cell end f issue) (due_at ds 0) ≡ false
     least f issue end e =
         let x = h.each f issue end e in
         subst (λ d. is_before d (due_at ds 0) ≡ false) x.2 (first_is_least ds h.order x.0 x.0 (omega arith) x.1)

@@ -4,7 +4,7 @@ use Rattle.std.proofs.lemmas.Bool.{cases_eq}
 use Rattle.filter_views.specs.declared.due.Due.{Due}
 use Rattle.filter_views.specs.RowParts.{RowParts}
 use Rattle.filter_views.specs.Heap.{IsHeap}
-use Rattle.filter_views.specs.Kept.{Agree, end_in, PutsEnd, TakesEnds}
+use Rattle.filter_views.specs.Agreement.{Agree, end_in, PutsEnd, TakesEnds}
 
 pub takes_none : (ds : List Due) (rs : List RowParts) (f : ℕ) → Agree ds rs → IsHeap ds → TakesEnds ds rs ds rs f 0
 takes_none ds rs f agree heap = record { agree = agree; heap = heap; same = refl; gone = λ j pos le. absurd (omega (arith, pos, le)); others = λ g j n. refl }

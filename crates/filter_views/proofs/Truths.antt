@@ -5,7 +5,7 @@ use Rattle.std.proofs.lemmas.Bool.Decides.{nat_tests}
 use Rattle.std.proofs.lemmas.List.{length-set, get_or-set_other, get_or_default}
 use Rattle.std.proofs.lemmas.Grind.{get_or-set_at}
 use Rattle.filter_views.specs.RowParts.{RowParts}
-use Rattle.filter_views.specs.Row.{no_row, HasNumber, truth_at, place_at, AreRising, IsAt, row_of, place_in, truth_in}
+use Rattle.filter_views.specs.FilterRow.{no_row, HasNumber, truth_at, place_at, AreRising, IsAt, row_of, place_in, truth_in}
 use Rattle.filter_views.specs.Fields.{size, sizes, PutsTruth}
 use Rattle.filter_views.proofs.Lookups.{row_set, row_found, none_before_at}
 

@@ -6,9 +6,9 @@ use Rattle.std.proofs.lemmas.Grind.{get_or-set_at}
 use Rattle.filter_views.specs.declared.due.Due.{Due}
 use Rattle.filter_views.specs.RowParts.{RowParts}
 use Rattle.filter_views.specs.Due.{due_at, no_due}
-use Rattle.filter_views.specs.Row.{no_place, frames, place_in, PutsPlace}
+use Rattle.filter_views.specs.FilterRow.{no_place, frames, place_in, PutsPlace}
 use Rattle.filter_views.specs.Heap.{IsHeap, IsHeapBut}
-use Rattle.filter_views.specs.Kept.{IsOf, Agree, end_at, end_in, OnlyMoves, PutsEnd, MovesToEnd, DropsLast}
+use Rattle.filter_views.specs.Agreement.{IsOf, Agree, end_at, end_in, OnlyMoves, PutsEnd, MovesToEnd, DropsLast}
 use Rattle.filter_views.proofs.Sifting.{written, grown, front_is_heap}
 use Rattle.filter_views.proofs.Moves.{rising_framed, cases_of, place_of, end_there, end_nowhere, end_moved, distinct}
 

@@ -13,28 +13,28 @@ abbrev pub unset : Cell
 unset = record { holds = false; end = None }
 
 -- a filter and its cells, by issue
-pub record Line : Type 0 where
+pub record FilterCells : Type 0 where
   pub filter : ℕ
   pub cells : List Cell
 
--- all lines, the number of issues, and for how many filters and issues there is room
+-- the cells of all filters, the number of issues, and for how many filters and issues there is room
 pub record Views : Type 0 where
-  pub lines : List Line
+  pub table : List FilterCells
   pub issues : ℕ
   pub filter_room : ℕ
   pub issue_room : ℕ
 
-abbrev pub cells_in : List Line → ℕ → List Cell
+abbrev pub cells_in : List FilterCells → ℕ → List Cell
 cells_in [] f = []
 cells_in (l ∷ ls) f = if l.filter == f then l.cells else cells_in ls f
 
 -- the cell of a filter and an issue; where there is none, it reads as a new one. Issues are numbered from 1
 abbrev pub cell_of : Views → ℕ → ℕ → Cell
-cell_of v f issue = slice_index_or (unset ∷ cells_in v.lines f) issue unset
+cell_of v f issue = slice_index_or (unset ∷ cells_in v.table f) issue unset
 
 -- the filters that are there
 abbrev pub filters : Views → List ℕ
-filters v = map (λ l. l.filter) v.lines
+filters v = map (λ l. l.filter) v.table
 
 abbrev pub is_there : Views → ℕ → Bool
 is_there v f = list_any (nat_eq f) (filters v)
@@ -46,4 +46,4 @@ members_from n (c ∷ cs) = if c.holds then record { 0 = n } ∷ members_from (n
 
 -- the issues of which the filter holds, by number
 abbrev pub members_of : Views → ℕ → List IssueNo
-members_of v f = members_from 1 (cells_in v.lines f)
+members_of v f = members_from 1 (cells_in v.table f)

@@ -3,10 +3,10 @@ use Rattle.std.specs.Prelude.{ℕ, ◌≡◌, ◌≤◌, ◌<◌, ◌+◌, ◌*�
 use Rattle.field_values.specs.declared.numbers.IssueNo.{IssueNo}
 use Rattle.filter_views.specs.declared.due.Due.{Due}
 use Rattle.filter_views.specs.RowParts.{RowParts}
-use Rattle.filter_views.specs.Cell.{Cell, Line, Views}
-use Rattle.filter_views.specs.Row.{no_place, no_row, truth_at, place_at, truth_in, place_in}
+use Rattle.filter_views.specs.Cell.{Cell, FilterCells, Views}
+use Rattle.filter_views.specs.FilterRow.{no_place, no_row, truth_at, place_at, truth_in, place_in}
 use Rattle.filter_views.specs.Heap.{IsHeap}
-use Rattle.filter_views.specs.Kept.{Agree, end_at, end_in}
+use Rattle.filter_views.specs.Agreement.{Agree, end_at, end_in}
 
 -- truths and places stand side by side
 abbrev pub cells : List Due → List Bool → List ℕ → List Cell
@@ -14,14 +14,14 @@ cells ds [] ps = []
 cells ds (t ∷ ts) [] = []
 cells ds (t ∷ ts) (p ∷ ps) = record { holds = t; end = end_at ds p } ∷ cells ds ts ps
 
-abbrev pub line : List Due → RowParts → Line
-line ds r = record { filter = r.filter; cells = cells ds r.truths r.places }
+abbrev pub filter_cells : List Due → RowParts → FilterCells
+filter_cells ds r = record { filter = r.filter; cells = cells ds r.truths r.places }
 
-abbrev pub lines : List Due → List RowParts → List Line
-lines ds rs = map (line ds) rs
+abbrev pub table : List Due → List RowParts → List FilterCells
+table ds rs = map (filter_cells ds) rs
 
 abbrev pub views : List RowParts → List RowParts → List Due → ℕ → ℕ → Views
-views rs spare ds issues room = record { lines = lines ds rs; issues = issues; filter_room = length rs + length spare; issue_room = room }
+views rs spare ds issues room = record { table = table ds rs; issues = issues; filter_room = length rs + length spare; issue_room = room }
 
 -- a row but for what stands in it
 pub record Size : Type 0 where

@@ -1,8 +1,12 @@
 pub mod RowParts
-pub mod Row
+pub mod FilterRow
 pub mod Due
 pub mod Heap
-pub mod Kept
+pub mod Agreement
 pub mod Cell
 pub mod Views
+pub mod Grid
+pub mod Counts
+pub mod Laws
+pub mod Rows
 pub mod Fields

@@ -1,18 +1,18 @@
 //! Writing the end of a cell, and keeping the heap of ends in order.
 ghost use Rattle.std.specs.Prelude.{◌≡◌, ◌≤◌, ◌<◌, ◌+◌, ◌*◌, ◌-◌, ◌^◌, OnOk, Some, None, Option, length, vec_len, vec_capacity};
-ghost use Rattle.filter_views.specs.Row.{HasNumber, IsCell, row_of, place_in};
+ghost use Rattle.filter_views.specs.FilterRow.{HasNumber, IsCell, row_of, place_in};
 ghost use Rattle.filter_views.specs.Fields.{WritesCell};
 ghost use Rattle.filter_views.specs.Heap.{IsHeap};
-ghost use Rattle.filter_views.specs.Kept.{Agree, PutsEnd, TakesEnds, OnlyMoves, MovesToEnd, DropsLast};
+ghost use Rattle.filter_views.specs.Agreement.{Agree, PutsEnd, TakesEnds, OnlyMoves, MovesToEnd, DropsLast};
 
 use crate::due::Due;
+use crate::filter_row::{FilterRow, NO_PLACE};
 use crate::heap::{exchange, mend};
-use crate::row::{NO_PLACE, Row};
 use crate::rows::{place_in, set_place, set_truth};
 use field_values::{FilterNo, IssueNo, Memory, Moment};
 
 /// Writes an end over that of its cell.
-fn replace_end(heap: &mut [Due], rows: &mut [Row], due: Due)
+fn replace_end(heap: &mut [Due], rows: &mut [FilterRow], due: Due)
     requires agree { Agree heap.old rows.old }
     requires heap { IsHeap heap.old }
     requires there { place_in rows.old due.filter.0 due.issue.0 < length heap.old }
@@ -24,7 +24,7 @@ fn replace_end(heap: &mut [Due], rows: &mut [Row], due: Due)
 }
 
 /// Adds the end of a cell that has none.
-fn add_end(heap: &mut Vec<Due>, rows: &mut [Row], due: Due)
+fn add_end(heap: &mut Vec<Due>, rows: &mut [FilterRow], due: Due)
     requires agree { Agree heap.old.items rows.old }
     requires heap { IsHeap heap.old.items }
     requires there { IsCell rows.old due.filter.0 due.issue.0 }
@@ -40,7 +40,7 @@ fn add_end(heap: &mut Vec<Due>, rows: &mut [Row], due: Due)
 }
 
 /// Has the entry at a place change places with the last one.
-fn move_to_end(heap: &mut [Due], rows: &mut [Row], place: usize)
+fn move_to_end(heap: &mut [Due], rows: &mut [FilterRow], place: usize)
     requires place { place < length heap.old }
     requires agree { Agree heap.old rows.old }
     ensures moved { MovesToEnd heap.old heap.new place }
@@ -54,7 +54,7 @@ fn move_to_end(heap: &mut [Due], rows: &mut [Row], place: usize)
 }
 
 /// Takes the last entry away.
-fn drop_last(heap: &mut Vec<Due>, rows: &mut [Row])
+fn drop_last(heap: &mut Vec<Due>, rows: &mut [FilterRow])
     requires agree { Agree heap.old.items rows.old }
     requires some { 0 < vec_len heap.old }
     ensures dropped { DropsLast heap.old.items rows.old heap.new.items rows.new }
@@ -66,7 +66,12 @@ fn drop_last(heap: &mut Vec<Due>, rows: &mut [Row])
 }
 
 /// Takes the end of a cell away, where it has one.
-pub(crate) fn take_end(heap: &mut Vec<Due>, rows: &mut [Row], filter: FilterNo, issue: IssueNo)
+pub(crate) fn take_end(
+    heap: &mut Vec<Due>,
+    rows: &mut [FilterRow],
+    filter: FilterNo,
+    issue: IssueNo,
+)
     requires agree { Agree heap.old.items rows.old }
     requires heap { IsHeap heap.old.items }
     ensures put { PutsEnd heap.old.items rows.old heap.new.items rows.new filter.0 issue.0 None }
@@ -84,7 +89,7 @@ pub(crate) fn take_end(heap: &mut Vec<Due>, rows: &mut [Row], filter: FilterNo, 
 }
 
 /// Writes the end of a cell.
-fn give_end(heap: &mut Vec<Due>, rows: &mut [Row], due: Due)
+fn give_end(heap: &mut Vec<Due>, rows: &mut [FilterRow], due: Due)
     requires agree { Agree heap.old.items rows.old }
     requires heap { IsHeap heap.old.items }
     requires there { IsCell rows.old due.filter.0 due.issue.0 }
@@ -102,7 +107,7 @@ fn give_end(heap: &mut Vec<Due>, rows: &mut [Row], due: Due)
 /// Writes the end of a cell, or that it has none.
 fn put_end(
     heap: &mut Vec<Due>,
-    rows: &mut [Row],
+    rows: &mut [FilterRow],
     filter: FilterNo,
     issue: IssueNo,
     end: Option<Moment>,
@@ -123,7 +128,7 @@ fn put_end(
 /// Writes a cell.
 pub(crate) fn write_cell(
     heap: &mut Vec<Due>,
-    rows: &mut [Row],
+    rows: &mut [FilterRow],
     filter: FilterNo,
     issue: IssueNo,
     holds: bool,
@@ -142,7 +147,12 @@ pub(crate) fn write_cell(
 }
 
 /// Takes the ends of the filter's cells away, of each issue up to this many.
-pub(crate) fn take_ends(heap: &mut Vec<Due>, rows: &mut [Row], filter: FilterNo, issues: usize)
+pub(crate) fn take_ends(
+    heap: &mut Vec<Due>,
+    rows: &mut [FilterRow],
+    filter: FilterNo,
+    issues: usize,
+)
     requires agree { Agree heap.old.items rows.old }
     requires heap { IsHeap heap.old.items }
     requires few { issues < 2 ^ 32 }

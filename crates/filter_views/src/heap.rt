@@ -2,14 +2,14 @@
 ghost use Rattle.std.specs.Prelude.{◌≡◌, ◌≢◌, ◌≤◌, ◌<◌, MatchOption, length};
 ghost use Rattle.std.specs.List.{SwappedAt};
 ghost use Rattle.filter_views.specs.Heap.{IsHeap, IsHeapBut, IsLow, IsHigh, PassesParent, PassesChild, IsFirstOfTwo};
-ghost use Rattle.filter_views.specs.Kept.{Agree, OnlyMoves};
+ghost use Rattle.filter_views.specs.Agreement.{Agree, OnlyMoves};
 
 use crate::due::Due;
-use crate::row::Row;
+use crate::filter_row::FilterRow;
 use crate::rows::set_place;
 
 /// Swaps two entries, and has their cells know it.
-pub(crate) fn exchange(heap: &mut [Due], rows: &mut [Row], first: usize, second: usize)
+pub(crate) fn exchange(heap: &mut [Due], rows: &mut [FilterRow], first: usize, second: usize)
     requires first { first < length heap.old }
     requires second { second < length heap.old }
     requires differ { first ≢ second }
@@ -75,7 +75,7 @@ fn child_to_pass(heap: &[Due], at: usize) -> Option<usize>
 }
 
 /// Moves the entry up, and answers where it came to stand.
-fn rise(heap: &mut [Due], rows: &mut [Row], from: usize) -> usize
+fn rise(heap: &mut [Due], rows: &mut [FilterRow], from: usize) -> usize
     requires in_range { from < length heap.old }
     requires agree { Agree heap.old rows.old }
     requires but { IsHeapBut heap.old from }
@@ -94,7 +94,7 @@ fn rise(heap: &mut [Due], rows: &mut [Row], from: usize) -> usize
 }
 
 /// Moves the entry down.
-fn sink(heap: &mut [Due], rows: &mut [Row], from: usize)
+fn sink(heap: &mut [Due], rows: &mut [FilterRow], from: usize)
     requires in_range { from < length heap.old }
     requires agree { Agree heap.old rows.old }
     requires but { IsHeapBut heap.old from }
@@ -111,7 +111,7 @@ fn sink(heap: &mut [Due], rows: &mut [Row], from: usize)
 }
 
 /// Makes it a heap again, where one entry may be out of order.
-pub(crate) fn mend(heap: &mut [Due], rows: &mut [Row], from: usize)
+pub(crate) fn mend(heap: &mut [Due], rows: &mut [FilterRow], from: usize)
     requires in_range { from < length heap.old }
     requires agree { Agree heap.old rows.old }
     requires but { IsHeapBut heap.old from }

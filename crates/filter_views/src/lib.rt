@@ -3,8 +3,9 @@
 
 mod due;
 mod ends;
+mod filter_row;
 mod heap;
-mod row;
+pub mod laws;
 mod rows;
 mod views;
 

@@ -1,12 +1,13 @@
 //! The verdicts of all saved filters on all issues.
 ghost use Rattle.std.specs.Prelude.{◌≡◌, ◌≤◌, ◌<◌, ◌+◌, [], true, false, Bool, Option, OnOk, OnErr, IfOk, length};
-ghost use Rattle.filter_views.specs.Row.{HasNumber};
+ghost use Rattle.filter_views.specs.FilterRow.{HasNumber};
 ghost use Rattle.filter_views.specs.Cell.{cell_of, filters, is_there, members_of};
 ghost use Rattle.filter_views.specs.Views.{Settles, AddsFilter, AddsIssue, RemovesFilter, IsNextDue, IsHeapOf};
+ghost use Rattle.filter_views.specs.Grid.{IsGrid, AreMembers};
 
 use crate::due::Due;
 use crate::ends::{reserve_ends, take_ends, write_cell};
-use crate::row::Row;
+use crate::filter_row::FilterRow;
 use crate::rows::{add_issue, find, holds_in, insert_row, members_in, ready_row, widen};
 use field_values::{FilterNo, IssueNo, Memory, Moment};
 use jql_eval::Verdict;
@@ -20,9 +21,9 @@ use std::marker::Model;
 #[derive(Drop)]
 pub struct FilterViews {
     // The filters' rows, by number.
-    rows: Vec<Row>,
+    rows: Vec<FilterRow>,
     // Rows for filters to come.
-    spare: Vec<Row>,
+    spare: Vec<FilterRow>,
     // The ends of all cells that have one, as a heap, the least first.
     heap: Vec<Due>,
     issues: usize,
@@ -47,7 +48,7 @@ impl Model for FilterViews {
 impl FilterViews {
     /// No filter and no issue.
     pub fn empty(alloc: Global) -> FilterViews
-        ensures { result ≡ record { lines = []; issues = 0; filter_room = 0; issue_room = 0 } }
+        ensures { result ≡ record { table = []; issues = 0; filter_room = 0; issue_room = 0 } }
     {
         FilterViews {
             rows: Vec::new(alloc),
@@ -61,7 +62,7 @@ impl FilterViews {
 
     /// Makes room for one more filter over all issues, or leaves all as it is.
     pub fn reserve_filter(&mut self) -> Result<(), Memory>
-        ensures room { OnOk result (length self.new.lines < self.new.filter_room) }
+        ensures room { OnOk result (length self.new.table < self.new.filter_room) }
         ensures more { OnOk result (self.old.filter_room ≤ self.new.filter_room) }
         ensures same { OnOk result (self.new ≡ record self.old { filter_room = self.new.filter_room }) }
         ensures err { OnErr result (self.new ≡ self.old) }
@@ -96,7 +97,7 @@ impl FilterViews {
 
     /// Adds a filter whose cells are false and have no end. It takes no memory.
     pub fn add_filter(&mut self, filter: FilterNo)
-        requires room { length self.old.lines < self.old.filter_room }
+        requires room { length self.old.table < self.old.filter_room }
         requires fresh { is_there self.old filter.0 ≡ false }
         ensures { AddsFilter self.old self.new filter.0 }
     {
@@ -137,7 +138,8 @@ impl FilterViews {
     pub fn settle(&mut self, filter: FilterNo, issue: IssueNo, verdict: Verdict)
         requires filter { is_there self.old filter.0 ≡ true }
         requires issue { HasNumber issue.0 self.old.issues }
-        ensures { Settles self.old self.new filter.0 issue.0 (record { holds = verdict.holds; end = verdict.until }) }
+        ensures settled { Settles self.old self.new filter.0 issue.0 (record { holds = verdict.holds; end = verdict.until }) }
+        ensures grid { IsGrid self.new }
     {
         self.write(filter, issue, verdict.holds(), verdict.until());
     }
@@ -152,7 +154,8 @@ impl FilterViews {
     )
         requires filter { is_there self.old filter.0 ≡ true }
         requires issue { HasNumber issue.0 self.old.issues }
-        ensures { Settles self.old self.new filter.0 issue.0 (record { holds = holds; end = end }) }
+        ensures settled { Settles self.old self.new filter.0 issue.0 (record { holds = holds; end = end }) }
+        ensures grid { IsGrid self.new }
     {
         write_cell(&mut self.heap, &mut self.rows, filter, issue, holds, end);
     }
@@ -160,7 +163,8 @@ impl FilterViews {
     /// The least end of all cells, with its filter and issue; ends of one moment are in order by filter and then by issue. `None`
     /// exactly where no cell has an end. In constant time.
     pub fn next_due(&self) -> Option<(Moment, FilterNo, IssueNo)>
-        ensures { IsNextDue self.now result }
+        ensures next { IsNextDue self.now result }
+        ensures grid { IsGrid self.now }
     {
         match self.heap.first() {
             Some(due) => Some((due.end, due.filter, due.issue)),
@@ -175,12 +179,17 @@ impl FilterViews {
         holds_in(&self.rows, filter, issue)
     }
 
-    /// Puts the issues of which the filter holds, by number, in place of what `room` contained.
+    /// Puts the issues of which the filter holds, by number, in place of what `room` contained, or leaves it as it is.
     pub fn members(&self, filter: FilterNo, room: &mut Vec<IssueNo>) -> Result<(), Memory>
-        ensures { OnOk result (room.new.items ≡ members_of self.now filter.0) }
+        ensures members { OnOk result (room.new.items ≡ members_of self.now filter.0) }
+        ensures each { OnOk result (AreMembers self.now filter.0 room.new.items) }
+        ensures err { OnErr result (room.new.items ≡ room.old.items) }
+        ensures grid { IsGrid self.now }
     {
+        room.reserve(self.issues.saturating_sub(room.len()))?;
         room.clear();
-        members_in(&self.rows, filter, room)
+        members_in(&self.rows, filter, room);
+        Ok(())
     }
 
     /// The ends of all cells that have one, as a heap: none comes before its parent.

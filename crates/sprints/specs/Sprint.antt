@@ -1,8 +1,17 @@
 -- The list of sprints.
-use Rattle.std.specs.Prelude.{ℕ, ◌-◌, ◌<◌, ◌≤◌, ◌==◌, List, length, Option, None, option_map, slice_get, slice_set, if◌then◌else◌}
+use Rattle.std.specs.Prelude.{ℕ, ◌-◌, ◌<◌, ◌≤◌, ◌==◌, List, length, Option, None, option_map, slice_get, if◌then◌else◌}
 use Rattle.sprints.specs.declared.sprint.Sprint.{Sprint}
 use Rattle.sprints.specs.declared.state.SprintState.{SprintState}
 use Rattle.sprints.specs.declared.state.SprintState.TheVariants.{Future}
+
+-- the sprints, and how many of them there is room for
+pub record SprintList : Type 0 where
+  pub sprints : List Sprint
+  pub room : ℕ
+
+-- there is room for one more
+abbrev pub HasRoomForOne : SprintList → Type 0
+HasRoomForOne s = length s.sprints < s.room
 
 -- a sprint that has just been made
 abbrev pub future : List ℕ → Sprint

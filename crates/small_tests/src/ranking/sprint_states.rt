@@ -113,6 +113,7 @@ fn states_follow_one_another(rt: HostRuntime) {
 }
 
 fn make_all(alloc: Global, sprints: &mut Sprints) -> Option<()> {
+    sprints.reserve().ok()?;
     for number in 1..1001 {
         make(alloc, sprints, "S", number)?;
     }

@@ -1,7 +1,7 @@
 use Rattle.std.proofs.Common.{◌<◌, ◌≤◌, ◌++◌, ◌∷◌, [], ◌≡◌, ◌∙◌, sym, subst, length, vec_len, rules, arith}
 use Rattle.std.specs.Vec.{with_items}
 use Rattle.std.proofs.lemmas.List.{with_items_is}
-use Rattle.filter_views.specs.Row.{no_place, place_in, PutsPlace}
+use Rattle.filter_views.specs.FilterRow.{no_place, place_in, PutsPlace}
 use Rattle.filter_views.specs.Heap.{IsHeapBut}
 use Rattle.filter_views.proofs.Writes.{agree_added, but_added, end_added, ends_added, puts_then_moves}
 use Rattle.filter_views.proofs.ends.add_end.Goals as goal

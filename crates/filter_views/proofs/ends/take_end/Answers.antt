@@ -1,7 +1,7 @@
 use Rattle.std.proofs.Common.{◌<◌, ◌≡◌, ◌∙◌, length, vec_len, rules, arith}
 use Rattle.std.specs.Vec.{with_items}
 use Rattle.std.proofs.lemmas.List.{with_items_is}
-use Rattle.filter_views.specs.Row.{place_in}
+use Rattle.filter_views.specs.FilterRow.{place_in}
 use Rattle.filter_views.proofs.Writes.{but_taken, taken_then_mended, taken_last}
 use Rattle.filter_views.proofs.ends.take_end.Goals as goal
 

@@ -1,5 +1,5 @@
 use Rattle.std.proofs.Common.{◌≡◌, vec_capacity}
-use Rattle.filter_views.specs.Kept.{TakesEnds}
+use Rattle.filter_views.specs.Agreement.{TakesEnds}
 use Rattle.filter_views.proofs.ends.take_ends.Given as goal
 
 abbrev pub invariant-loop-at : goal.invariant-loop-at

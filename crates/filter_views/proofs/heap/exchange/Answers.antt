@@ -1,7 +1,7 @@
 use Rattle.std.proofs.Common.{◌≡◌, ◌∙◌, subst, arith}
 use Rattle.std.proofs.lemmas.List.{get_or_default}
 use Rattle.filter_views.specs.Due.{due_at, no_due}
-use Rattle.filter_views.specs.Row.{PutsPlace}
+use Rattle.filter_views.specs.FilterRow.{PutsPlace}
 use Rattle.filter_views.proofs.Moves.{cell_of_entry, cell_framed, rising_framed, agree_swapped, only_moves_swapped}
 use Rattle.filter_views.proofs.heap.exchange.Goals as goal
 

@@ -1,6 +1,6 @@
 use Rattle.std.proofs.Common.{◌<◌, length}
 use Rattle.filter_views.specs.Heap.{IsHeapBut}
-use Rattle.filter_views.specs.Kept.{Agree, OnlyMoves}
+use Rattle.filter_views.specs.Agreement.{Agree, OnlyMoves}
 use Rattle.filter_views.proofs.heap.rise.Given as goal
 
 abbrev pub invariant-loop-parent : goal.invariant-loop-parent

@@ -1,6 +1,6 @@
 use Rattle.std.proofs.Common.{◌<◌, ◌-◌, length}
 use Rattle.filter_views.specs.Heap.{IsHeapBut, IsLow}
-use Rattle.filter_views.specs.Kept.{Agree, OnlyMoves}
+use Rattle.filter_views.specs.Agreement.{Agree, OnlyMoves}
 use Rattle.filter_views.proofs.heap.sink.Given as goal
 
 abbrev pub invariant-loop-child : goal.invariant-loop-child

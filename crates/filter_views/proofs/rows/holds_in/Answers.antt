@@ -1,5 +1,5 @@
 use Rattle.std.proofs.Common.{sym, ◌∙◌, ap}
-use Rattle.filter_views.specs.Row.{truth_at}
+use Rattle.filter_views.specs.FilterRow.{truth_at}
 use Rattle.filter_views.proofs.Lookups.{row_found, row_missing, false_there}
 use Rattle.filter_views.proofs.rows.holds_in.Goals as goal
 

@@ -1,5 +1,5 @@
 use Rattle.std.proofs.Common.{sym, ◌∙◌, ap}
-use Rattle.filter_views.specs.Row.{place_at}
+use Rattle.filter_views.specs.FilterRow.{place_at}
 use Rattle.filter_views.proofs.Lookups.{row_found, row_missing, no_place_there}
 use Rattle.filter_views.proofs.rows.place_in.Goals as goal
 

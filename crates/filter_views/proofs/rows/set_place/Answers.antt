@@ -1,5 +1,5 @@
 use Rattle.std.proofs.Common.{subst, arith, length}
-use Rattle.filter_views.specs.Row.{HasNumber}
+use Rattle.filter_views.specs.FilterRow.{HasNumber}
 use Rattle.filter_views.proofs.Lookups.{row_found, row_missing, puts_place}
 use Rattle.filter_views.proofs.rows.set_place.Goals as goal
 

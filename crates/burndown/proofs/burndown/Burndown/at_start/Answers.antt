@@ -3,7 +3,7 @@ use Rattle.std.proofs.lemmas.Int.{to_z-of_z}
 use Rattle.std.specs.Int.RustNames.{FitsSigned}
 use Rattle.burndown.specs.Course.{start_of, start_in}
 use Rattle.burndown.specs.Burndown.{IsAt, IsGapFor}
-use Rattle.burndown.proofs.Lines.{total_found, course_found, line_in_gap}
+use Rattle.burndown.proofs.TrackedSprints.{total_found, course_found, tracked_in_gap}
 use Rattle.burndown.proofs.burndown.Burndown.at_start.Goals as goal
 
 pub returns-in-Ok : goal.returns-in-Ok
@@ -20,4 +20,4 @@ returns-in-Ok c =
 pub returns-in-Err : goal.returns-in-Err
 returns-in-Err c =
     let gap = subst (λ ts. IsGapFor ts c.args.sprint.0 c.in-Err.field-0) c.deref.ensures.value c.in-Err.ensures.absent in
-    rw (← c.self.view_is) (sym (ap (λ l. start_of l.course) (line_in_gap _ c.self.inside.courses.items _ _ gap)))
+    rw (← c.self.view_is) (sym (ap (λ l. start_of l.course) (tracked_in_gap _ c.self.inside.courses.items _ _ gap)))

@@ -2,7 +2,7 @@ use Rattle.std.proofs.Common.{sym, subst, ap, rules, w64}
 use Rattle.std.proofs.lemmas.Int.{to_z-of_z}
 use Rattle.std.specs.Int.RustNames.{FitsSigned}
 use Rattle.burndown.specs.Burndown.{IsAt, IsGapFor}
-use Rattle.burndown.proofs.Lines.{total_found, line_in_gap}
+use Rattle.burndown.proofs.TrackedSprints.{total_found, tracked_in_gap}
 use Rattle.burndown.proofs.burndown.Burndown.remaining.Goals as goal
 
 pub returns-in-Ok-clause-remaining : goal.returns-in-Ok-clause-remaining
@@ -14,4 +14,4 @@ returns-in-Ok-clause-remaining c =
 pub returns-in-Err-clause-remaining : goal.returns-in-Err-clause-remaining
 returns-in-Err-clause-remaining c =
     let gap = subst (λ ts. IsGapFor ts c.args.sprint.0 c.in-Err.field-0) c.deref.ensures.value c.in-Err.ensures.absent in
-    rw (← c.self.view_is) (sym (ap (λ l. l.course.total) (line_in_gap _ c.self.inside.courses.items _ _ gap)))
+    rw (← c.self.view_is) (sym (ap (λ l. l.course.total) (tracked_in_gap _ c.self.inside.courses.items _ _ gap)))

@@ -3,9 +3,9 @@ use Rattle.std.specs.Prelude.{ℤ, pos}
 use Rattle.std.specs.List.{insert}
 use Rattle.field_values.specs.declared.numbers.SprintNo.{SprintNo}
 use Rattle.burndown.specs.declared.progress.Progress.{Progress}
-use Rattle.burndown.specs.Line.{lines}
+use Rattle.burndown.specs.Tracked.{tracked_sprints}
 use Rattle.burndown.specs.Burndown.{IsAt, IsGapFor, HasRoom}
-use Rattle.burndown.proofs.Lines.{lines_set_same, kept_insert, grows_at, room_at, grows_in_gap, room_in_gap}
+use Rattle.burndown.proofs.TrackedSprints.{tracked_set_same, kept_insert, grows_at, room_at, grows_in_gap, room_in_gap}
 use Rattle.burndown.proofs.burndown.Burndown.reserve.Goals as goal
 
 on_err : {A E P : Type 0} (r : Result A E) → P → OnErr r P
@@ -18,7 +18,7 @@ returns-in_err-reserve-in-Ok-clause-err c =
     let p = c.index_mut-progress.result.now in
     let q : Progress = record { stage = p.stage; rows = c.reserve.new.self } in
     let facts = c.in_err-reserve-in-Ok.ensures in
-    on_err c.from_residual.result (lines_set_same c.self.inside.totals.items c.self.inside.courses.items c.in-Ok.place p c.index_mut-progress.ensures.value q refl facts.items facts.err ∙ c.self.view_is)
+    on_err c.from_residual.result (tracked_set_same c.self.inside.totals.items c.self.inside.courses.items c.in-Ok.place p c.index_mut-progress.ensures.value q refl facts.items facts.err ∙ c.self.view_is)
 
 pub invariant_of-self-in-Err : goal.invariant_of-self-in-Err
 invariant_of-self-in-Err c =
@@ -52,8 +52,8 @@ returns-in_ok-reserve-in-Err-2-clause-room c =
     c.insert_reserved.ensures ∙ ap (λ (y : List (SprintNo × ℤ)). insert y i t) c.in_ok-reserve-in-Err.ensures.items in
     let courses : c.insert_reserved-in-Err.new.items.items ≡ insert c.self.inside.courses.items i p =
     c.insert_reserved-in-Err.ensures ∙ ap (λ (y : List Progress). insert y i p) c.in_ok-reserve-in-Err-2.ensures.items in
-    subst (λ (y : List (SprintNo × ℤ)). HasRoom (lines y c.insert_reserved-in-Err.new.items.items) s) (sym totals)
-    (subst (λ (y : List Progress). HasRoom (lines (insert c.self.inside.totals.items i t) y) s) (sym courses)
+    subst (λ (y : List (SprintNo × ℤ)). HasRoom (tracked_sprints y c.insert_reserved-in-Err.new.items.items) s) (sym totals)
+    (subst (λ (y : List Progress). HasRoom (tracked_sprints (insert c.self.inside.totals.items i t) y) s) (sym courses)
     (room_in_gap _ _ c.self.invariant _ _ gap p c.in_ok-progress-in-Err.ensures))
 
 pub returns-in_ok-reserve-in-Err-2-clause-stands : goal.returns-in_ok-reserve-in-Err-2-clause-stands

@@ -1,6 +1,6 @@
 use Rattle.std.proofs.Common.{◌∙◌, sym, subst, ap}
 use Rattle.burndown.specs.Burndown.{IsAt, IsGapFor}
-use Rattle.burndown.proofs.Lines.{course_found, line_in_gap}
+use Rattle.burndown.proofs.TrackedSprints.{course_found, tracked_in_gap}
 use Rattle.burndown.proofs.burndown.Burndown.rows.Goals as goal
 
 pub returns-in-Ok : goal.returns-in-Ok
@@ -11,4 +11,4 @@ returns-in-Ok c =
 pub returns-in-Err : goal.returns-in-Err
 returns-in-Err c =
     let gap = subst (λ ts. IsGapFor ts c.args.sprint.0 c.in-Err.field-0) c.deref.ensures.value c.in-Err.ensures.absent in
-    rw (← c.self.view_is) (sym (ap (λ l. l.course.rows) (line_in_gap _ c.self.inside.courses.items _ _ gap)))
+    rw (← c.self.view_is) (sym (ap (λ l. l.course.rows) (tracked_in_gap _ c.self.inside.courses.items _ _ gap)))

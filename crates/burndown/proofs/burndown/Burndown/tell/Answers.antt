@@ -3,20 +3,20 @@ use Rattle.std.proofs.lemmas.Int.{to_z-of_z}
 use Rattle.std.specs.Int.RustNames.{FitsSigned}
 use Rattle.burndown.specs.declared.progress.Progress.{Progress}
 use Rattle.burndown.specs.Course.{Course, IsTotal, after_group}
-use Rattle.burndown.specs.Line.{course, lines}
+use Rattle.burndown.specs.Tracked.{course, tracked_sprints}
 use Rattle.burndown.specs.Burndown.{IsAt, IsGapFor, ChangesOnly, HasRoom, course_of, slots_of}
-use Rattle.burndown.proofs.Lines.{total_found, course_found, slots_found, changes_at, kept_set, line_in_gap}
+use Rattle.burndown.proofs.TrackedSprints.{total_found, course_found, slots_found, changes_at, kept_set, tracked_in_gap}
 use Rattle.burndown.proofs.burndown.Burndown.tell.Goals as goal
 
 -- a sprint that has room is found
 pub returns-in_default : goal.returns-in_default
 returns-in_default c =
     let gap = subst (λ ts. IsGapFor ts c.args.sprint.0 c.in_default.field-0) c.deref.ensures.value c.in_default.ensures.absent in
-    let none : slots_of c.args.self.now c.args.sprint.0 ≡ 0 = rw (← c.self.view_is) (ap (λ l. l.slots) (line_in_gap _ c.self.inside.courses.items _ _ gap)) in
+    let none : slots_of c.args.self.now c.args.sprint.0 ≡ 0 = rw (← c.self.view_is) (ap (λ l. l.slots) (tracked_in_gap _ c.self.inside.courses.items _ _ gap)) in
     absurd (omega arith)
 
 -- the course that is written is the sprint's, with the group taken in
-told_course : (c : goal.After-self-2-1) → course c.tell-left.result c.tell-left.new.self ≡ after_group c.args.sprint.0 c.args.group.now (course_of (lines c.self.inside.totals.items c.self.inside.courses.items) c.args.sprint.0)
+told_course : (c : goal.After-self-2-1) → course c.tell-left.result c.tell-left.new.self ≡ after_group c.args.sprint.0 c.args.group.now (course_of (tracked_sprints c.self.inside.totals.items c.self.inside.courses.items) c.args.sprint.0)
 told_course c =
     let at = subst (λ ts. IsAt ts c.args.sprint.0 c.in-Ok.place) c.deref.ensures.value c.in-Ok.ensures.found in
     let p = c.index_mut-progress.result.now in
@@ -30,7 +30,7 @@ tell-left-requires-clause-room c =
     let at = subst (λ ts. IsAt ts c.args.sprint.0 c.in-Ok.place) c.deref.ensures.value c.in-Ok.ensures.found in
     let p = c.index_mut-progress.result.now in
     let is = c.index_mut-progress.ensures.value in
-    let room : HasRoom (lines c.self.inside.totals.items c.self.inside.courses.items) c.args.sprint.0 = subst (λ b. HasRoom b c.args.sprint.0) (sym c.self.view_is) c.requires.room in
+    let room : HasRoom (tracked_sprints c.self.inside.totals.items c.self.inside.courses.items) c.args.sprint.0 = subst (λ b. HasRoom b c.args.sprint.0) (sym c.self.view_is) c.requires.room in
     let len : length p.rows.items ≡ vec_len p.rows = search rules in
     let rows = ap (λ y. length y.rows) (course_found _ _ c.self.invariant _ _ at p is) in
     let slots = slots_found _ _ c.self.invariant _ _ at p is in

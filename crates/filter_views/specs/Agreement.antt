@@ -3,7 +3,7 @@ use Rattle.std.specs.Prelude.{ℕ, ◌≡◌, ◌≢◌, ◌-◌, take, ◌<◌,
 use Rattle.filter_views.specs.declared.due.Due.{Due}
 use Rattle.filter_views.specs.RowParts.{RowParts}
 use Rattle.filter_views.specs.Due.{due_at}
-use Rattle.filter_views.specs.Row.{no_place, place_in, frames, AreRising}
+use Rattle.filter_views.specs.FilterRow.{no_place, place_in, frames, AreRising}
 use Rattle.filter_views.specs.Heap.{IsHeap}
 
 -- it is the end of this cell

@@ -1,7 +1,7 @@
 //! What is kept of one filter.
-ghost use Rattle.std.specs.Prelude.{◌≡◌, ◌≤◌, ◌<◌, ◌+◌, ◌-◌, ◌^◌, ◌++◌, ◌∷◌, [], false, IfOk, OnOk, length, replicate, slice_set};
+ghost use Rattle.std.specs.Prelude.{◌≡◌, ◌≤◌, ◌<◌, ◌+◌, ◌-◌, ◌^◌, ◌++◌, ◌∷◌, [], false, IfOk, OnOk, length, replicate, slice_set, vec_len, vec_capacity};
 ghost use Rattle.filter_views.specs.Fields.{holders_from};
-ghost use Rattle.filter_views.specs.Row.{no_place, truth_at, place_at, HasNumber};
+ghost use Rattle.filter_views.specs.FilterRow.{no_place, truth_at, place_at, HasNumber};
 
 use field_values::{FilterNo, IssueNo, Memory};
 use std::alloc::Global;
@@ -12,7 +12,7 @@ pub(crate) const NO_PLACE: usize = usize::MAX;
 
 /// A filter's row: by the issue's number, whether the filter holds of it, and the place of the cell's end in the heap.
 #[derive(Drop)]
-pub struct Row {
+pub struct FilterRow {
     filter: FilterNo,
     truths: Vec<bool>,
     places: Vec<usize>,
@@ -20,7 +20,7 @@ pub struct Row {
     room: usize,
 }
 
-impl Model for Row {
+impl Model for FilterRow {
     ghost use Rattle.std.specs.Prelude.{◌≤◌, vec_capacity};
     ghost use Rattle.filter_views.specs.RowParts.{RowParts};
 
@@ -31,12 +31,12 @@ impl Model for Row {
     ghost invariant = { λ r. (r.room ≤ vec_capacity r.truths) × (r.room ≤ vec_capacity r.places) };
 }
 
-impl Row {
+impl FilterRow {
     /// A row without a number, whose cells are false and have no end, with room for these issues.
-    pub(crate) fn blank(alloc: Global, issues: usize) -> Result<Row, Memory>
+    pub(crate) fn blank(alloc: Global, issues: usize) -> Result<FilterRow, Memory>
         ensures { IfOk result (λ row. row ≡ record { filter = 0; truths = replicate issues false; places = replicate issues no_place; room = issues }) }
     {
-        Ok(Row {
+        Ok(FilterRow {
             filter: FilterNo(0),
             truths: vec![in alloc; false; issues]?,
             places: vec![in alloc; NO_PLACE; issues]?,
@@ -125,24 +125,25 @@ impl Row {
         self.places[(issue.0 - 1) as usize] = place;
     }
 
-    /// Adds the issues of which the filter holds, by number, to those in `room`.
-    pub(crate) fn add_members(&self, room: &mut Vec<IssueNo>) -> Result<(), Memory>
-        requires { length self.now.truths < 2 ^ 32 }
-        ensures { OnOk result (room.new.items ≡ room.old.items ++ holders_from 1 self.now.truths) }
+    /// Adds the issues of which the filter holds, by number, to those in `room`, which has room for all.
+    pub(crate) fn add_members(&self, room: &mut Vec<IssueNo>)
+        requires few { length self.now.truths < 2 ^ 32 }
+        requires slots { vec_len room.old + length self.now.truths ≤ vec_capacity room.old }
+        ensures { room.new.items ≡ room.old.items ++ holders_from 1 self.now.truths }
     {
-        add_holders(&self.truths, room)
+        add_holders(&self.truths, room);
     }
 }
 
 /// Adds the numbers of the issues that are true, from 1.
-fn add_holders(truths: &[bool], room: &mut Vec<IssueNo>) -> Result<(), Memory>
-    requires { length truths.now < 2 ^ 32 }
-    ensures { OnOk result (room.new.items ≡ room.old.items ++ holders_from 1 truths.now) }
+fn add_holders(truths: &[bool], room: &mut Vec<IssueNo>)
+    requires few { length truths.now < 2 ^ 32 }
+    requires slots { vec_len room.old + length truths.now ≤ vec_capacity room.old }
+    ensures { room.new.items ≡ room.old.items ++ holders_from 1 truths.now }
 {
     for at in 0..truths.len() {
         if truths[at] {
-            room.push(IssueNo(at as u32 + 1))?;
+            room.push_reserved(IssueNo(at as u32 + 1));
         }
     }
-    Ok(())
 }
