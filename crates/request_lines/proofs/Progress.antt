@@ -82,26 +82,28 @@ module _ {State : Type 0} (Answers : State → List ℕ → List ℕ → State �
   }
 
   IsCutShort-then : {T E : Type 0} (a b c : State) (xs more all : List (List ℕ)) (y : List ℕ) (t u v : Option (List ℕ)) (e : E)
-      → all ≡ xs ++ y ∷ more → HasServed Answers a xs t u b → Serves {T = T} {E = E} Answers b y u v (Err e) c → IsCutShort Answers a all t v c
-  IsCutShort-then a b c xs more all y t u v e is one two =
+      → all ≡ xs ++ y ∷ more → AreWithinLimits xs → AreWithinLimits (xs ++ y ∷ []) → HasServed Answers a xs t u b → Serves {T = T} {E = E} Answers b y u v (Err e) c → IsCutShort Answers a all t v c
+  IsCutShort-then a b c xs more all y t u v e is within also one two =
       let cut = two.written in
       record {
         done = xs;
         rest = y ∷ more;
         all_is = is;
+        within = within;
         text = one.text;
         middle = b;
         answered = one.answered;
         front = cut.0;
-        next = inr (y, more, two.text, cut.1, refl, two.answered, cut.2);
+        next = inr (y, more, two.text, cut.1, refl, also, two.answered, cut.2);
         written = Appends-trans t u v one.text cut.0 one.written cut.3;
       }
 
-  IsCutShort-after : (a b : State) (xs rest all : List (List ℕ)) (t u : Option (List ℕ)) → all ≡ xs ++ rest → HasServed Answers a xs t u b → IsCutShort Answers a all t u b
-  IsCutShort-after a b xs rest all t u is one = record {
+  IsCutShort-after : (a b : State) (xs rest all : List (List ℕ)) (t u : Option (List ℕ)) → all ≡ xs ++ rest → AreWithinLimits xs → HasServed Answers a xs t u b → IsCutShort Answers a all t u b
+  IsCutShort-after a b xs rest all t u is within one = record {
     done = xs;
     rest = rest;
     all_is = is;
+    within = within;
     text = one.text;
     middle = b;
     answered = one.answered;
@@ -135,10 +137,22 @@ module _ {State : Type 0} (Answers : State → List ℕ → List ℕ → State �
 
   -- ---- its ends
 
+  -- the lines that are done are within the limits
+  within_so_far : (old m : State) (left a t u : Option (List ℕ)) (n : ℕ) (so_far : IsSoFar old left a t u n m) → n ≤ 1000000 → AreWithinLimits so_far.done
+  within_so_far old m left a t u n so_far few = record { few = omega (arith, so_far.count); short = AreShort-lines so_far.done so_far.are }
+
+  -- so they are with one more, where there is a turn left
+  within_next : (old m : State) (left a t u : Option (List ℕ)) (n : ℕ) (line : List ℕ) (so_far : IsSoFar old left a t u n m) → n < 1000000 → IsLine line
+      → AreWithinLimits (so_far.done ++ line ∷ [])
+  within_next old m left a t u n line so_far few is_line = record {
+    few = omega (arith, so_far.count, length-push so_far.done line);
+    short = AreShort-lines (so_far.done ++ line ∷ []) (AreLines-push so_far.done line so_far.are is_line);
+  }
+
   -- nothing was read yet
   pub ends_at_once : (m : State) (left b t : Option (List ℕ)) → IfSome left (λ bytes. Ends Answers m bytes b t t Memory m)
   ends_at_once m None b t = tt
-  ends_at_once m (Some bytes) b t = IsCutShort-after m m [] (lines bytes) (lines bytes) t t refl (HasServed-nil m t)
+  ends_at_once m (Some bytes) b t = IsCutShort-after m m [] (lines bytes) (lines bytes) t t refl (record { few = omega arith; short = tt }) (HasServed-nil m t)
 
   pub ends_done : (old new : State) (left a b t u : Option (List ℕ)) (h : List ℕ) (n : ℕ)
       → IsSoFar old left a t u n new → n ≤ 1000000 → Consumes a (prepend_known h b) [] → IsAtEnd (prepend_known h b)
@@ -149,7 +163,7 @@ module _ {State : Type 0} (Answers : State → List ℕ → List ℕ → State �
       told_at_end left b h (joined done ++ []) (λ bytes b. Ends Answers old bytes b t u Done new) whole end (λ bytes is.
       let all : lines bytes ≡ done = ap lines (is ∙ append-nil (joined done)) ∙ lines-done done so_far.are in (
         refl,
-        subst AreWithinLimits (sym all) (record { few = omega (arith, so_far.count); short = AreShort-lines done so_far.are }),
+        subst AreWithinLimits (sym all) (within_so_far old new left a t u n so_far few),
         subst (λ l. HasServed Answers old l t u new) (sym all) so_far.served,
       ))
 
@@ -163,52 +177,58 @@ module _ {State : Type 0} (Answers : State → List ℕ → List ℕ → State �
       told_at_end left b h (joined done ++ line) (λ bytes b. Ends Answers old bytes b t v Done new) whole end (λ bytes is.
       let all : lines bytes ≡ done ++ line ∷ [] = ap lines is ∙ lines-ended done line so_far.are is_line.one some in (
         refl,
-        subst AreWithinLimits (sym all) (record { few = omega (arith, so_far.count, length-push done line); short = AreShort-lines (done ++ line ∷ []) (AreLines-push done line so_far.are is_line) }),
+        subst AreWithinLimits (sym all) (within_next old m left a t u n line so_far few is_line),
         subst (λ l. HasServed Answers old l t v new) (sym all) (HasServed-then old m new done line t u v x so_far.served serves),
       ))
 
   pub cut_last : {T E : Type 0} (old m new : State) (left a b t u v : Option (List ℕ)) (h line : List ℕ) (n : ℕ) (e : E)
-      → IsSoFar old left a t u n m → IsLine line → Consumes a (prepend_known h b) line → 0 < length line → IsAtEnd (prepend_known h b)
+      → IsSoFar old left a t u n m → n < 1000000 → IsLine line → Consumes a (prepend_known h b) line → 0 < length line → IsAtEnd (prepend_known h b)
       → Serves {T = T} {E = E} Answers m line u v (Err e) new
       → IfSome left (λ bytes. IsCutShort Answers old (lines bytes) t v new)
-  cut_last old m new left a b t u v h line n e so_far is_line read some end serves =
+  cut_last old m new left a b t u v h line n e so_far few is_line read some end serves =
       let done = so_far.done in
       let whole = Consumes-trans left a (prepend_known h b) (joined done) line so_far.read read in
       told_at_end left b h (joined done ++ line) (λ bytes b. IsCutShort Answers old (lines bytes) t v new) whole end (λ bytes is.
-      IsCutShort-then old m new done [] (lines bytes) line t u v e (ap lines is ∙ lines-ended done line so_far.are is_line.one some) so_far.served serves)
+      IsCutShort-then old m new done [] (lines bytes) line t u v e (ap lines is ∙ lines-ended done line so_far.are is_line.one some)
+      (within_so_far old m left a t u n so_far (omega (arith, few))) (within_next old m left a t u n line so_far few is_line) so_far.served serves)
 
   pub cut_line : {T E : Type 0} (old m new : State) (left a b t u v : Option (List ℕ)) (h line : List ℕ) (n : ℕ) (e : E)
-      → IsSoFar old left a t u n m → IsLine line → Consumes a (prepend_known h b) (line ++ 10 ∷ [])
+      → IsSoFar old left a t u n m → n < 1000000 → IsLine line → Consumes a (prepend_known h b) (line ++ 10 ∷ [])
       → Serves {T = T} {E = E} Answers m line u v (Err e) new
       → IfSome left (λ bytes. IsCutShort Answers old (lines bytes) t v new)
-  cut_line old m new left a b t u v h line n e so_far is_line read serves =
+  cut_line old m new left a b t u v h line n e so_far few is_line read serves =
       let done = so_far.done in
       let next = done ++ line ∷ [] in
       let whole = subst (λ bytes. Consumes left (prepend_known h b) bytes) (sym (joined-push done line)) (Consumes-trans left a (prepend_known h b) (joined done) (line ++ 10 ∷ []) so_far.read read) in
       told left b h (joined next) (λ bytes b. IsCutShort Answers old (lines bytes) t v new) whole (λ bytes rest is.
       let all : lines bytes ≡ done ++ line ∷ lines (h ++ rest) =
       ap lines is ∙ lines-joined next (h ++ rest) (AreLines-push done line so_far.are is_line) ∙ append_assoc done (line ∷ []) (lines (h ++ rest)) in
-      IsCutShort-then old m new done (lines (h ++ rest)) (lines bytes) line t u v e all so_far.served serves)
+      IsCutShort-then old m new done (lines (h ++ rest)) (lines bytes) line t u v e all
+      (within_so_far old m left a t u n so_far (omega (arith, few))) (within_next old m left a t u n line so_far few is_line) so_far.served serves)
 
   pub ends_memory : (old new : State) (left a b t u : Option (List ℕ)) (h front : List ℕ) (n : ℕ)
-      → IsSoFar old left a t u n new → Consumes a (prepend_known h b) front
+      → IsSoFar old left a t u n new → n ≤ 1000000 → Consumes a (prepend_known h b) front
       → IfSome left (λ bytes. Ends Answers old bytes b t u Memory new)
-  ends_memory old new left a b t u h front n so_far read =
+  ends_memory old new left a b t u h front n so_far few read =
       let done = so_far.done in
       let whole = Consumes-trans left a (prepend_known h b) (joined done) front so_far.read read in
       told left b h (joined done ++ front) (λ bytes b. Ends Answers old bytes b t u Memory new) whole (λ bytes rest is.
       let all : lines bytes ≡ done ++ lines (front ++ (h ++ rest)) = ap lines (is ∙ append_assoc (joined done) front (h ++ rest)) ∙ lines-joined done (front ++ (h ++ rest)) so_far.are in
-      IsCutShort-after old new done (lines (front ++ (h ++ rest))) (lines bytes) t u all so_far.served)
+      IsCutShort-after old new done (lines (front ++ (h ++ rest))) (lines bytes) t u all (within_so_far old new left a t u n so_far few) so_far.served)
 
   pub ends_read_fault : (old new : State) (left a b t u : Option (List ℕ)) (h front : List ℕ) (n : ℕ)
-      → IsSoFar old left a t u n new → h ≡ [] → IsOneLine front → Consumes a (prepend_known h b) front
+      → IsSoFar old left a t u n new → n ≤ 1000000 → h ≡ [] → IsOneLine front → Consumes a (prepend_known h b) front
       → IfSome left (λ bytes. Ends Answers old bytes b t u ReadFault new)
-  ends_read_fault old new left a b t u h front n so_far empty one read =
+  ends_read_fault old new left a b t u h front n so_far few empty one read =
       let done = so_far.done in
       let whole = Consumes-trans left a (prepend_known h b) (joined done) front so_far.read read in
       told left b h (joined done ++ front) (λ bytes b. Ends Answers old bytes b t u ReadFault new) whole (λ bytes rest is.
-      let all : whole_lines (joined done ++ front) ≡ done = whole_lines-joined done front so_far.are one in
-      (joined done ++ front, is ∙ ap (λ l. (joined done ++ front) ++ (l ++ rest)) empty, subst (λ l. HasServed Answers old l t u new) (sym all) so_far.served))
+      let all : whole_lines (joined done ++ front) ≡ done = whole_lines-joined done front so_far.are one in (
+        joined done ++ front,
+        is ∙ ap (λ l. (joined done ++ front) ++ (l ++ rest)) empty,
+        subst AreWithinLimits (sym all) (within_so_far old new left a t u n so_far few),
+        subst (λ l. HasServed Answers old l t u new) (sym all) so_far.served,
+      ))
 
   pub ends_long : (old new : State) (left a b t u : Option (List ℕ)) (h front : List ℕ) (n : ℕ)
       → IsSoFar old left a t u n new → n < 1000000 → IsOneLine front → 65536 < length front → Consumes a (prepend_known h b) front

@@ -50,16 +50,16 @@ abbrev pub without_twins : List GivenField → Option (List GivenField)
 without_twins fields = if has_twins fields then None else Some fields
 
 -- an object whose names don't differ in case alone
-abbrev pub set_of : Data → Option (List GivenField)
-set_of d = option_and_then (λ members. without_twins (fields_of members)) (as_object d)
+abbrev pub given_set : Data → Option (List GivenField)
+given_set d = option_and_then (λ members. without_twins (fields_of members)) (as_object d)
 
 -- the member `set`, where it has to be there
 abbrev pub set_at : Data → Option (List GivenField)
-set_at d = option_and_then set_of (get (codes "set") d)
+set_at d = option_and_then given_set (get (codes "set") d)
 
 abbrev pub none_or : Option Data → Option (List GivenField)
 none_or None = Some []
-none_or (Some d) = set_of d
+none_or (Some d) = given_set d
 
 -- the member `set`, which may be absent, and then gives nothing
 abbrev pub set_if_there : Data → Option (List GivenField)

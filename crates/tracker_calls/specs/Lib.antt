@@ -1,4 +1,4 @@
 pub mod Given
 pub mod Part
-pub mod Line
+pub mod Asked
 pub mod Reply

@@ -1,7 +1,7 @@
 // Each call with its members, in the order in which a fault is told.
 ghost use Rattle.std.specs.Prelude.{◌≡◌, Ok, IfOk};
 ghost use Rattle.serde_json.specs.View.{view, members_view};
-ghost use Rattle.tracker_calls.specs.Line.{create_of, edit_of, transition_of, tick_of, show_of, history_of, search_of, UnlessMemory};
+ghost use Rattle.tracker_calls.specs.Asked.{create_of, edit_of, transition_of, tick_of, show_of, history_of, search_of, UnlessMemory};
 
 use crate::call::{Call, CallKind, MOST_ENTRIES, MOST_LISTED, Part};
 use crate::given::{GivenFields, set_at, set_if_there};

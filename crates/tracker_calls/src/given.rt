@@ -2,7 +2,7 @@
 ghost use Rattle.std.specs.Prelude.{◌≡◌, ◌∷◌, ◌++◌, [], IfOk, OnOk, OnErr};
 ghost use Rattle.std.specs.List.{list_any};
 ghost use Rattle.serde_json.specs.View.{view, members_view, items_view};
-ghost use Rattle.tracker_calls.specs.Given.{given_of, fields_of, texts_of, is_twin, has_twins, set_of, set_at, set_if_there};
+ghost use Rattle.tracker_calls.specs.Given.{given_of, fields_of, texts_of, is_twin, has_twins, given_set, set_at, set_if_there};
 
 use field_values::{Memory, Names, Text};
 use serde_json::{Map, Value};
@@ -104,7 +104,7 @@ pub(crate) fn set_at(alloc: Global, value: &Value) -> Result<Option<GivenFields>
     ensures { IfOk result (λ set. set ≡ set_at (view value.now)) }
 {
     match value.get("set") {
-        Some(set) => set_of(alloc, set),
+        Some(set) => given_set(alloc, set),
         None => Ok(None),
     }
 }
@@ -114,13 +114,13 @@ pub(crate) fn set_if_there(alloc: Global, value: &Value) -> Result<Option<GivenF
     ensures { IfOk result (λ set. set ≡ set_if_there (view value.now)) }
 {
     match value.get("set") {
-        Some(set) => set_of(alloc, set),
+        Some(set) => given_set(alloc, set),
         None => Ok(Some(GivenFields::new(alloc))),
     }
 }
 
-fn set_of(alloc: Global, value: &Value) -> Result<Option<GivenFields>, Memory>
-    ensures { IfOk result (λ set. set ≡ set_of (view value.now)) }
+fn given_set(alloc: Global, value: &Value) -> Result<Option<GivenFields>, Memory>
+    ensures { IfOk result (λ set. set ≡ given_set (view value.now)) }
 {
     let Some(members) = value.as_object() else {
         return Ok(None);

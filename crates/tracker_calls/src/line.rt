@@ -1,7 +1,7 @@
 // A line that comes in.
 ghost use Rattle.std.specs.Prelude.{◌≡◌};
 ghost use Rattle.serde_json.specs.View.{view};
-ghost use Rattle.tracker_calls.specs.Line.{line_of, call_of, kind_named, UnlessMemory};
+ghost use Rattle.tracker_calls.specs.Asked.{line_of, call_of, kind_named, UnlessMemory};
 
 use crate::asked::{create_of, edit_of, history_of, search_of, show_of, tick_of, transition_of};
 use crate::call::{Call, CallKind};

@@ -1,7 +1,7 @@
 // The members of a line's object, looked up one by one.
 ghost use Rattle.std.specs.Prelude.{◌≡◌, map, option_map, Err};
 ghost use Rattle.serde_json.specs.View.{view, members_view};
-ghost use Rattle.tracker_calls.specs.Line.{text_at, moment_at, first_other, is_among, is_member, members_of, names_of, UnlessMemory};
+ghost use Rattle.tracker_calls.specs.Asked.{text_at, moment_at, first_other, is_among, is_member, call_members, names_of, UnlessMemory};
 ghost use Rattle.tracker_calls.specs.Part.{whole_within, whole_or, from_if_there, count_if_there};
 
 use crate::call::{CallKind, MOST_FROM};
@@ -71,7 +71,7 @@ pub fn count_if_there(value: &Value, most: u32) -> Option<u32>
 }
 
 /// The first name in byte order that is no member of the call.
-#[tactic(auto, using(crate::proofs::LineLemmas::names_of_members))]
+#[tactic(auto, using(crate::proofs::AskedLines::names_of_members))]
 pub fn first_other<'v>(kind: CallKind, members: &'v Map<String, Value>) -> Option<&'v str>
     ensures { option_map (λ name. name.now) result ≡ first_other kind (names_of (members_view members.now.entries)) }
 {
@@ -86,7 +86,7 @@ pub fn first_other<'v>(kind: CallKind, members: &'v Map<String, Value>) -> Optio
 fn is_member(kind: CallKind, name: &str) -> bool
     ensures { result ≡ is_member kind name.now }
 {
-    is_among(name, members_of(kind))
+    is_among(name, call_members(kind))
 }
 
 fn is_among(name: &str, names: &[&str]) -> bool
@@ -101,8 +101,8 @@ fn is_among(name: &str, names: &[&str]) -> bool
 }
 
 // The names of the members that a call may have.
-fn members_of(kind: CallKind) -> &'static [&'static str]
-    ensures { map (λ name. name.now) result.now ≡ members_of kind }
+fn call_members(kind: CallKind) -> &'static [&'static str]
+    ensures { map (λ name. name.now) result.now ≡ call_members kind }
 {
     match kind {
         CallKind::Create => &["call", "project", "set", "summary", "type", "user"],

@@ -13,13 +13,13 @@ pub returns-in-Err-Write-clause-run : goal.returns-in-Err-Write-clause-run
 returns-in-Err-Write-clause-run g c =
     let taken = c.in-Line.ensures.bytes in
     let serves = rw c.deref.ensures.value at c.in-Err-Write.ensures.run in
-    cut_line _ _ _ _ _ _ _ _ _ _ c.next_line.new.self _ _ _ c.loop-count.invariant.so_far taken.0 taken.1 serves
+    cut_line _ _ _ _ _ _ _ _ _ _ c.next_line.new.self _ _ _ c.loop-count.invariant.so_far (omega arith) taken.0 taken.1 serves
 
 pub returns-in-Err-Memory-clause-run : goal.returns-in-Err-Memory-clause-run
 returns-in-Err-Memory-clause-run g c =
     let taken = c.in-Line.ensures.bytes in
     let serves = rw c.deref.ensures.value at c.in-Err-Memory.ensures.run in
-    cut_line _ _ _ _ _ _ _ _ _ _ c.next_line.new.self _ _ _ c.loop-count.invariant.so_far taken.0 taken.1 serves
+    cut_line _ _ _ _ _ _ _ _ _ _ c.next_line.new.self _ _ _ c.loop-count.invariant.so_far (omega arith) taken.0 taken.1 serves
 
 pub returns-in-End-clause-run : goal.returns-in-End-clause-run
 returns-in-End-clause-run g c =
@@ -34,12 +34,12 @@ returns-in-TooLong-clause-run g c =
 pub returns-in-Failed-clause-run : goal.returns-in-Failed-clause-run
 returns-in-Failed-clause-run g c =
     let taken = c.in-Failed.ensures.bytes in
-    ends_read_fault _ _ _ _ _ _ _ _ c.next_line.new.self _ _ c.loop-count.invariant.so_far (c.in-Failed.ensures.held refl) (taken.0).one taken.1
+    ends_read_fault _ _ _ _ _ _ _ _ c.next_line.new.self _ _ c.loop-count.invariant.so_far (omega arith) (c.in-Failed.ensures.held refl) (taken.0).one taken.1
 
 pub returns-in-Memory-clause-run : goal.returns-in-Memory-clause-run
 returns-in-Memory-clause-run g c =
     let taken = c.in-Memory.ensures.bytes in
-    ends_memory _ _ _ _ _ _ _ _ c.next_line.new.self taken.0 _ c.loop-count.invariant.so_far taken.1
+    ends_memory _ _ _ _ _ _ _ _ c.next_line.new.self taken.0 _ c.loop-count.invariant.so_far (omega arith) taken.1
 
 pub loop-count-preserved : goal.loop-count-preserved
 loop-count-preserved g c =
@@ -64,7 +64,7 @@ returns-in-Ok-true-clause-run g c =
 
 pub returns-in-Err-clause-run : goal.returns-in-Err-clause-run
 returns-in-Err-clause-run g c =
-    ends_read_fault _ _ _ _ _ _ _ _ c.fill.new.self _ _ c.loop-count.invariant.so_far c.in-Err.ensures.failed tt c.in-Err.ensures.same
+    ends_read_fault _ _ _ _ _ _ _ _ c.fill.new.self _ _ c.loop-count.invariant.so_far (omega arith) c.in-Err.ensures.failed tt c.in-Err.ensures.same
 
 pub returns-in-Ok-answer_line-clause-run : goal.returns-in-Ok-answer_line-clause-run
 returns-in-Ok-answer_line-clause-run g c =
@@ -76,10 +76,10 @@ pub returns-in-Err-Write-answer_line-clause-run : goal.returns-in-Err-Write-answ
 returns-in-Err-Write-answer_line-clause-run g c =
     let taken = c.in-Last.ensures.bytes in
     let serves = rw c.deref-in-Last.ensures.value at c.in-Err-Write-answer_line.ensures.run in
-    cut_last _ _ _ _ _ _ _ _ _ _ c.next_line.new.self _ _ _ c.loop-count.invariant.so_far taken.0 taken.1 taken.2 taken.3 serves
+    cut_last _ _ _ _ _ _ _ _ _ _ c.next_line.new.self _ _ _ c.loop-count.invariant.so_far (omega arith) taken.0 taken.1 taken.2 taken.3 serves
 
 pub returns-in-Err-Memory-answer_line-clause-run : goal.returns-in-Err-Memory-answer_line-clause-run
 returns-in-Err-Memory-answer_line-clause-run g c =
     let taken = c.in-Last.ensures.bytes in
     let serves = rw c.deref-in-Last.ensures.value at c.in-Err-Memory-answer_line.ensures.run in
-    cut_last _ _ _ _ _ _ _ _ _ _ c.next_line.new.self _ _ _ c.loop-count.invariant.so_far taken.0 taken.1 taken.2 taken.3 serves
+    cut_last _ _ _ _ _ _ _ _ _ _ c.next_line.new.self _ _ _ c.loop-count.invariant.so_far (omega arith) taken.0 taken.1 taken.2 taken.3 serves

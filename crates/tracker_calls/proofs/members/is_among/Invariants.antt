@@ -1,5 +1,5 @@
 use Rattle.std.proofs.Common.{◌≡◌, Bor, List, ℕ, map, drop}
-use Rattle.tracker_calls.specs.Line.{is_among}
+use Rattle.tracker_calls.specs.Asked.{is_among}
 use Rattle.tracker_calls.proofs.members.is_among.Given as goal
 
 abbrev pub invariant-loop-other : goal.invariant-loop-other

@@ -63,17 +63,17 @@ kind_named name =
     (if bytes_eq name (codes "history") then Some kind.History else
     (if bytes_eq name (codes "search") then Some kind.Search else None))))))
 
-abbrev pub members_of : CallKind → List (List ℕ)
-members_of kind.Create = codes "call" ∷ codes "project" ∷ codes "set" ∷ codes "summary" ∷ codes "type" ∷ codes "user" ∷ []
-members_of kind.Edit = codes "call" ∷ codes "issue" ∷ codes "set" ∷ codes "user" ∷ []
-members_of kind.Transition = codes "call" ∷ codes "issue" ∷ codes "set" ∷ codes "transition" ∷ codes "user" ∷ []
-members_of kind.Tick = codes "call" ∷ codes "to" ∷ codes "user" ∷ []
-members_of kind.Show = codes "call" ∷ codes "issue" ∷ codes "user" ∷ []
-members_of kind.History = codes "call" ∷ codes "count" ∷ codes "from" ∷ codes "issue" ∷ codes "user" ∷ []
-members_of kind.Search = codes "call" ∷ codes "count" ∷ codes "from" ∷ codes "jql" ∷ codes "user" ∷ []
+abbrev pub call_members : CallKind → List (List ℕ)
+call_members kind.Create = codes "call" ∷ codes "project" ∷ codes "set" ∷ codes "summary" ∷ codes "type" ∷ codes "user" ∷ []
+call_members kind.Edit = codes "call" ∷ codes "issue" ∷ codes "set" ∷ codes "user" ∷ []
+call_members kind.Transition = codes "call" ∷ codes "issue" ∷ codes "set" ∷ codes "transition" ∷ codes "user" ∷ []
+call_members kind.Tick = codes "call" ∷ codes "to" ∷ codes "user" ∷ []
+call_members kind.Show = codes "call" ∷ codes "issue" ∷ codes "user" ∷ []
+call_members kind.History = codes "call" ∷ codes "count" ∷ codes "from" ∷ codes "issue" ∷ codes "user" ∷ []
+call_members kind.Search = codes "call" ∷ codes "count" ∷ codes "from" ∷ codes "jql" ∷ codes "user" ∷ []
 
 abbrev pub is_member : CallKind → List ℕ → Bool
-is_member kind name = is_among name (members_of kind)
+is_member kind name = is_among name (call_members kind)
 
 -- the first name in byte order that is no member of the call
 abbrev pub first_other : CallKind → List (List ℕ) → Option (List ℕ)

@@ -8,7 +8,7 @@ use Rattle.serde_json.specs.Data.{Data}
 use Rattle.serde_json.specs.Read.{read}
 use Rattle.serde_json.specs.View.{members_view}
 use Rattle.serde_json.specs.declared.value.Value.{Value}
-use Rattle.tracker_calls.specs.Line.{line_of, call_of, data_of, names_of, UnlessMemory, need}
+use Rattle.tracker_calls.specs.Asked.{line_of, call_of, data_of, names_of, UnlessMemory, need}
 use Rattle.tracker_calls.specs.declared.reply.Refusal.{Refusal}
 use Rattle.tracker_calls.specs.declared.reply.Refusal.TheVariants.{Form}
 
