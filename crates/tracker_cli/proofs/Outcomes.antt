@@ -13,7 +13,7 @@ use Rattle.jql_check.specs.Check.{IsReply}
 use Rattle.tracker_machine.specs.Machine.{Machine}
 use Rattle.tracker_machine.specs.Run.{AnswersLine}
 use Rattle.tracker_machine.proofs.Runs.{run_of_lines, front_of_reply}
-use Rattle.tracker_cli.specs.Outcome.{IsExec, IsCheck, IsStart, AreReplies, AreCutReplies, AreChecked, AreCutChecks, IsFrontOfCheck, AreRepliesOf, AreCutRepliesOf, GrewBy, GrewByFront, IsLimitText, EndsRun, limit_line, limit_lines}
+use Rattle.tracker_cli.specs.Outcome.{IsExec, IsCheck, IsStart, AreReplies, AreCutReplies, AreChecked, AreCutChecks, IsFrontOfCheck, AreRepliesOf, AreCutRepliesOf, GrewBy, IsLimitText, IsCutLimitText, EndsRun, limit_line, limit_lines}
 
 -- which texts are the replies to lines, and which are those to an input where it is cut short
 abbrev Whole : Type 1
@@ -29,7 +29,7 @@ grew t u P Q f one = (one.0, f one.0 one.1, one.2)
 retold : (R Q : Whole) (C D : Part) → ((all : List (List ℕ)) (text : List ℕ) → R all text → Q all text) → ((bytes text : List ℕ) → C bytes text → D bytes text) →
     (bytes : List ℕ) (left t u : Option (List ℕ)) (end : End) → EndsRun R C bytes left t u end → EndsRun Q D bytes left t u end
 retold R Q C D f g bytes left t u Done (at_end, within, one) = (at_end, within, grew t u _ _ (f (lines bytes)) one)
-retold R Q C D f g bytes left t u ReadFault (read, taken, one) = (read, taken, grew t u _ _ (f _) one)
+retold R Q C D f g bytes left t u ReadFault (read, taken, within, one) = (read, taken, within, grew t u _ _ (f _) one)
 retold R Q C D f g bytes left t u WriteFault one = grew t u _ _ (g bytes) one
 retold R Q C D f g bytes left t u Memory one = grew t u _ _ (g bytes) one
 retold R Q C D f g bytes left t u LongLine (done, stops, one) = (done, stops, grew t u _ _ (f done) one)
@@ -55,7 +55,7 @@ told : {State : Type 0} (Answers : State → List ℕ → List ℕ → State →
     ((bytes : List ℕ) (t u : Option (List ℕ)) (new : State) → IsCutShort Answers start (lines bytes) t u new → GrewBy t u (C bytes)) →
     (bytes : List ℕ) (left t u : Option (List ℕ)) (end : End) (new : State) → Ends Answers start bytes left t u end new → EndsRun R C bytes left t u end
 told Answers start R C f g bytes left t u Done new (at_end, within, one) = (at_end, within, (one.text, f _ one.text new one.answered, one.written))
-told Answers start R C f g bytes left t u ReadFault new (read, taken, one) = (read, taken, (one.text, f _ one.text new one.answered, one.written))
+told Answers start R C f g bytes left t u ReadFault new (read, taken, within, one) = (read, taken, within, (one.text, f _ one.text new one.answered, one.written))
 told Answers start R C f g bytes left t u WriteFault new one = g bytes t u new one
 told Answers start R C f g bytes left t u Memory new one = g bytes t u new one
 told Answers start R C f g bytes left t u LongLine new (done, stops, one) = (done, stops, (one.text, f done one.text new one.answered, one.written))
@@ -69,16 +69,18 @@ cut words start is bytes t u new one = (
   one.text ++ one.front,
   inr (
     start,
+    new,
     is,
     record {
       done = one.done;
       rest = one.rest;
       all_is = one.all_is;
+      within = one.within;
       whole = one.text;
       middle = one.middle;
       run = run_of_lines start one.middle one.done one.text one.answered;
       front = one.front;
-      next = front_of_reply one.middle new one.rest one.front one.next;
+      next = front_of_reply one.middle new one.done one.rest one.front one.next;
       text_is = refl;
     },
   ),
@@ -98,9 +100,9 @@ checked : {State : Type 0} (old : State) (all : List (List ℕ)) (text : List �
 checked old [] text new (is, same) = is
 checked old (line ∷ more) text new (next, first, rest, is, text_is, others) = (first, rest, is, text_is, checked next more rest new others)
 
-front_checked : {State : Type 0} (middle : State) (rest : List (List ℕ)) (front : List ℕ) (new : State) → IsFrontOfNext AnswersQuery middle rest front new → IsFrontOfCheck rest front
-front_checked middle rest front new (inl none) = inl none.0
-front_checked middle rest front new (inr some) = inr some
+front_checked : {State : Type 0} (middle : State) (done rest : List (List ℕ)) (front : List ℕ) (new : State) → IsFrontOfNext AnswersQuery middle done rest front new → IsFrontOfCheck done rest front
+front_checked middle done rest front new (inl none) = inl none.0
+front_checked middle done rest front new (inr some) = inr some
 
 check_cut : {State : Type 0} (start : State) (bytes : List ℕ) (t u : Option (List ℕ)) (new : State) → IsCutShort AnswersQuery start (lines bytes) t u new → GrewBy t u (AreCutChecks bytes)
 check_cut start bytes t u new one = (
@@ -109,10 +111,11 @@ check_cut start bytes t u new one = (
     done = one.done;
     rest = one.rest;
     all_is = one.all_is;
+    within = one.within;
     whole = one.text;
     checked = checked start one.done one.text one.middle one.answered;
     front = one.front;
-    next = front_checked one.middle one.rest one.front new one.next;
+    next = front_checked one.middle one.done one.rest one.front new one.next;
     text_is = refl;
   },
   one.written,
@@ -147,18 +150,18 @@ abbrev Front : Option (List ℕ) → Option (List ℕ) → List ℕ → Type 0
 Front s u text = (front : List ℕ) × (back : List ℕ) × (text ≡ front ++ back) × Appends s u front
 
 abbrev pub IsCutOrLimit : Whole → Part → Option (List ℕ) → Option (List ℕ) → List ℕ → Type 0
-IsCutOrLimit R C t u bytes = GrewBy t u (C bytes) ⊎ GrewByFront t u (IsLimitText R bytes)
+IsCutOrLimit R C t u bytes = GrewBy t u (C bytes) ⊎ GrewBy t u (IsCutLimitText R bytes)
 
 -- or a front of it
 pub long_cut : (R : Whole) (C : Part) (left t s u : Option (List ℕ)) → IfSome left (LongAt R t s) → Front s u limit_line → IfSome left (IsCutOrLimit R C t u)
 long_cut R C left t s u ends cut = IfSome_then left ends (λ bytes p.
     let text = p.2.0 in
-    inr (text ++ cut.0, cut.1, inl (p.0, text, p.1, p.2.1, append_assoc text cut.0 cut.1 ∙ ap (λ l. text ++ l) (sym cut.2)), Appends-trans t s u text cut.0 p.2.2 cut.3))
+    inr (text ++ cut.0, inl (p.0, p.1, (text, cut.0, cut.1, p.2.1, cut.2, refl)), Appends-trans t s u text cut.0 p.2.2 cut.3))
 
 pub many_cut : (R : Whole) (C : Part) (left t s u : Option (List ℕ)) → IfSome left (ManyAt R t s) → Front s u limit_lines → IfSome left (IsCutOrLimit R C t u)
 many_cut R C left t s u ends cut = IfSome_then left ends (λ bytes p.
     let text = p.2.0 in
-    inr (text ++ cut.0, cut.1, inr (p.0, text, p.1, p.2.1, append_assoc text cut.0 cut.1 ∙ ap (λ l. text ++ l) (sym cut.2)), Appends-trans t s u text cut.0 p.2.2 cut.3))
+    inr (text ++ cut.0, inr (p.0, p.1, (text, cut.0, cut.1, p.2.1, cut.2, refl)), Appends-trans t s u text cut.0 p.2.2 cut.3))
 
 pub written_cut : (R : Whole) (C : Part) (left t u : Option (List ℕ)) → IfSome left (λ bytes. GrewBy t u (C bytes)) → IfSome left (IsCutOrLimit R C t u)
 written_cut R C left t u ends = IfSome_then left ends (λ bytes p. inl p)

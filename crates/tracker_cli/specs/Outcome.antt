@@ -37,30 +37,34 @@ IsStart setup_text m = (setup : Parts) × (setup_in setup_text ≡ Ok setup) × 
 abbrev pub AreReplies : List ℕ → List (List ℕ) → List ℕ → Type 0
 AreReplies setup_text all text = (start : Machine) × (last : Machine) × IsStart setup_text start × IsRun start (requests all) text last
 
--- this text is nothing, or the replies to the first lines of an input, and then at most a front of the next one's reply
+-- this text is nothing, or the replies to the first lines of an input, and then at most a front of the next one's reply;
+-- no other call was made, so that `last` is the state after them
 abbrev pub AreCutReplies : List ℕ → List ℕ → List ℕ → Type 0
-AreCutReplies setup_text bytes text = (text ≡ []) ⊎ ((start : Machine) × IsStart setup_text start × IsCutRun start (lines bytes) text)
+AreCutReplies setup_text bytes text =
+    (text ≡ []) ⊎ ((start : Machine) × (last : Machine) × IsStart setup_text start × IsCutRun start (lines bytes) text last)
 
 -- each line, taken as a query, has its reply, one behind another
 abbrev pub AreChecked : List (List ℕ) → List ℕ → Type 0
 AreChecked [] text = text ≡ []
 AreChecked (line ∷ more) text = (first : List ℕ) × (rest : List ℕ) × IsReply line first × (text ≡ first ++ rest) × AreChecked more rest
 
--- nothing, or a front of the reply to the next line
-abbrev pub IsFrontOfCheck : List (List ℕ) → List ℕ → Type 0
-IsFrontOfCheck rest front =
+-- after the lines that are done, nothing, or a front of the reply to the next one, which is within the limits too
+abbrev pub IsFrontOfCheck : List (List ℕ) → List (List ℕ) → List ℕ → Type 0
+IsFrontOfCheck done rest front =
     (front ≡ [])
-    ⊎ ((line : List ℕ) × (more : List (List ℕ)) × (text : List ℕ) × (back : List ℕ) × (rest ≡ line ∷ more) × IsReply line text × (text ≡ front ++ back))
+    ⊎ ((line : List ℕ) × (more : List (List ℕ)) × (text : List ℕ) × (back : List ℕ) × (rest ≡ line ∷ more)
+    × AreWithinLimits (done ++ line ∷ []) × IsReply line text × (text ≡ front ++ back))
 
 -- the first lines of an input have their whole replies, and at most the next one has a front of its reply
 pub record AreCutChecks (bytes text : List ℕ) : Type 0 where
   pub done : List (List ℕ)
   pub rest : List (List ℕ)
   pub all_is : lines bytes ≡ done ++ rest
+  pub within : AreWithinLimits done
   pub whole : List ℕ
   pub checked : AreChecked done whole
   pub front : List ℕ
-  pub next : IsFrontOfCheck rest front
+  pub next : IsFrontOfCheck done rest front
   pub text_is : text ≡ whole ++ front
 
 -- this text is what the words' command replies to these lines
@@ -85,10 +89,21 @@ IsLimitText Replies bytes due =
     ((done : List (List ℕ)) × (text : List ℕ) × StopsAtLong (lines bytes) done × Replies done text × (due ≡ text ++ limit_line))
     ⊎ ((done : List (List ℕ)) × (text : List ℕ) × StopsAtMany (lines bytes) done × Replies done text × (due ≡ text ++ limit_lines))
 
+-- all replies to these lines, and then a front of the limit's text
+abbrev pub IsCutLimit : (List (List ℕ) → List ℕ → Type 0) → List (List ℕ) → List ℕ → List ℕ → Type 0
+IsCutLimit Replies done limit text =
+    (whole : List ℕ) × (front : List ℕ) × (back : List ℕ) × Replies done whole × (limit ≡ front ++ back) × (text ≡ whole ++ front)
+
+-- all replies to the lines before the first that passes a limit, and then a front of the limit's text
+abbrev pub IsCutLimitText : (List (List ℕ) → List ℕ → Type 0) → List ℕ → List ℕ → Type 0
+IsCutLimitText Replies bytes text =
+    ((done : List (List ℕ)) × StopsAtLong (lines bytes) done × IsCutLimit Replies done limit_line text)
+    ⊎ ((done : List (List ℕ)) × StopsAtMany (lines bytes) done × IsCutLimit Replies done limit_lines text)
+
 -- how the loop over lines ends, told by which texts are the replies to lines, and which are those to an input where it is cut short
 abbrev pub EndsRun : (List (List ℕ) → List ℕ → Type 0) → (List ℕ → List ℕ → Type 0) → List ℕ → Option (List ℕ) → Option (List ℕ) → Option (List ℕ) → End → Type 0
 EndsRun Replies Cut bytes left old new Done = IsAtEnd left × AreWithinLimits (lines bytes) × GrewBy old new (Replies (lines bytes))
-EndsRun Replies Cut bytes left old new ReadFault = (read : List ℕ) × Consumes (Some bytes) left read × GrewBy old new (Replies (whole_lines read))
+EndsRun Replies Cut bytes left old new ReadFault = (read : List ℕ) × Consumes (Some bytes) left read × AreWithinLimits (whole_lines read) × GrewBy old new (Replies (whole_lines read))
 EndsRun Replies Cut bytes left old new WriteFault = GrewBy old new (Cut bytes)
 EndsRun Replies Cut bytes left old new Memory = GrewBy old new (Cut bytes)
 EndsRun Replies Cut bytes left old new LongLine = (done : List (List ℕ)) × StopsAtLong (lines bytes) done × GrewBy old new (Replies done)

@@ -6,7 +6,7 @@ ghost use Rattle.request_lines.specs.Lines.{lines, whole_lines, AreWithinLimits}
 ghost use Rattle.request_lines.specs.Run.{Ends};
 ghost use Rattle.request_lines.specs.Bytes.{WritesAll};
 ghost use Rattle.tracker_machine.specs.Run.{AnswersLine};
-ghost use Rattle.tracker_cli.specs.Outcome.{IsExec, IsCheck, IsCommand, usage, AreReplies, AreCutReplies, AreChecked, AreCutChecks, AreRepliesOf, AreCutRepliesOf, GrewBy, GrewByFront, IsLimitText, EndsRun};
+ghost use Rattle.tracker_cli.specs.Outcome.{IsExec, IsCheck, IsCommand, usage, AreReplies, AreCutReplies, AreChecked, AreCutChecks, AreRepliesOf, AreCutRepliesOf, GrewBy, GrewByFront, IsLimitText, IsCutLimitText, EndsRun};
 
 use crate::check::Checks;
 use crate::exec::RequestLines;
@@ -29,17 +29,19 @@ pub fn run<S: Source, T: Sink>(alloc: Global, words: &[String], input: &mut S, o
     ensures done { result ≡ 0 → IfSome (S.left input.old) (λ bytes. IsAtEnd (S.left input.new)
         × AreWithinLimits (lines bytes) × GrewBy (T.taken out.old) (T.taken out.new) (AreRepliesOf BUILT_IN.now (map string_bytes words.now) (lines bytes))) }
 
-    // A read failed: the whole lines before have their replies.
+    // A read failed: the whole lines before, which are within the limits, have their replies.
     ensures read_cause { result ≡ 2 → Rose (S.faults input.old) (S.faults input.new) }
     ensures read { result ≡ 2 → IfSome (S.left input.old) (λ bytes. (read : List ℕ) × Consumes (Some bytes) (S.left input.new) read
-        × GrewBy (T.taken out.old) (T.taken out.new) (AreRepliesOf BUILT_IN.now (map string_bytes words.now) (whole_lines read))) }
+        × AreWithinLimits (whole_lines read) × GrewBy (T.taken out.old) (T.taken out.new) (AreRepliesOf BUILT_IN.now (map string_bytes words.now) (whole_lines read))) }
 
-    // A write failed: the first lines have their replies, and at most the next one a front of its reply; or
-    // a front was written of what is due at a limit, or for words that are no command's.
+    // A write failed. For words that are no command's, a front of their text was written. For a command, the first lines
+    // have their replies, and at most the next one a front of its reply; or all lines before a limit have their
+    // replies, and the limit's text has a front.
     ensures write_cause { result ≡ 3 → Rose (T.faults out.old) (T.faults out.new) }
-    ensures written { result ≡ 3 → GrewByFront (T.taken out.old) (T.taken out.new) (λ due. due ≡ usage)
-        ⊎ IfSome (S.left input.old) (λ bytes. GrewBy (T.taken out.old) (T.taken out.new) (AreCutRepliesOf BUILT_IN.now (map string_bytes words.now) bytes)
-        ⊎ GrewByFront (T.taken out.old) (T.taken out.new) (IsLimitText (AreRepliesOf BUILT_IN.now (map string_bytes words.now)) bytes)) }
+    ensures usage_written { result ≡ 3 → ¬ (IsCommand (map string_bytes words.now)) → GrewByFront (T.taken out.old) (T.taken out.new) (λ due. due ≡ usage) }
+    ensures written { result ≡ 3 → IsCommand (map string_bytes words.now) → IfSome (S.left input.old) (λ bytes.
+        GrewBy (T.taken out.old) (T.taken out.new) (AreCutRepliesOf BUILT_IN.now (map string_bytes words.now) bytes)
+        ⊎ GrewBy (T.taken out.old) (T.taken out.new) (IsCutLimitText (AreRepliesOf BUILT_IN.now (map string_bytes words.now)) bytes)) }
 
     // Want of memory: the first lines have their replies, and at most the next one a front of its reply.
     ensures memory { result ≡ 6 → IfSome (S.left input.old) (λ bytes. GrewBy (T.taken out.old) (T.taken out.new) (AreCutRepliesOf BUILT_IN.now (map string_bytes words.now) bytes)) }

@@ -11,7 +11,7 @@ use Rattle.field_forms.specs.Known.{Names, fits, form_of, own_field}
 use Rattle.change_history.specs.declared.change.Change.{Change}
 use Rattle.workflow.specs.Difference.{AreNews}
 use Rattle.workflow.specs.Laws.{AllFit}
-use Rattle.tracker_machine.specs.Known.{built_in_numbers, field_numbers}
+use Rattle.fields.specs.Naming.{built_in_numbers, field_numbers}
 
 -- how many of some numbers aren't below another
 abbrev from_on : ℕ → List ℕ → ℕ

@@ -12,7 +12,7 @@ use Rattle.workflow.specs.Difference.{entries_of}
 use Rattle.workflow.specs.Laws.{AllFit}
 use Rattle.tracker_machine.specs.declared.wanted.Wanted.{Wanted}
 use Rattle.tracker_machine.specs.declared.wanted.Wanted.TheVariants as wanted
-use Rattle.tracker_machine.specs.Known.{field_numbers}
+use Rattle.fields.specs.Naming.{field_numbers}
 use Rattle.tracker_machine.specs.Wanted.{is_fault, faults_in, field_at_fault, change_to, changes_to, changes_of}
 use Rattle.tracker_core.specs.State.{AllEntriesFit}
 
@@ -64,7 +64,7 @@ fits_append : (names : Names) (cs ds : List Change) → AllFit names cs → AllF
 fits_append names [] ds all more = more
 fits_append names (c ∷ cs) ds all more = (all.0, fits_append names cs ds all.1 more)
 
-found_least : (least : Option ℕ) (ns : List ℕ) → least_with least ns ≡ None → ns ≡ []
+pub found_least : (least : Option ℕ) (ns : List ℕ) → least_with least ns ≡ None → ns ≡ []
 found_least least [] e = refl
 found_least None (n ∷ ns) e = absurd (some_least n ns e) where
   some_least : (m : ℕ) (ks : List ℕ) → least_with (Some m) ks ≡ None → ⊥
@@ -75,7 +75,7 @@ found_least (Some m) (n ∷ ns) e = absurd (some_least m (n ∷ ns) e) where
   some_least m [] e = cc
   some_least m (k ∷ ks) e = some_least (min m k) ks e
 
-none_at : (b : Bool) (n : ℕ) (ns : List ℕ) → (if b then n ∷ ns else ns) ≡ [] → (b ≡ false) × (ns ≡ [])
+pub none_at : (b : Bool) (n : ℕ) (ns : List ℕ) → (if b then n ∷ ns else ns) ≡ [] → (b ≡ false) × (ns ≡ [])
 none_at true n ns e = cc
 none_at false n ns e = (refl, e)
 

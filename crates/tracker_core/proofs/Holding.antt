@@ -5,7 +5,7 @@ use Rattle.field_values.specs.declared.numbers.Day.{Day}
 use Rattle.field_values.specs.declared.value.Value.{Value}
 use Rattle.field_values.specs.declared.value.Value.TheVariants as value
 use Rattle.field_forms.specs.Known.{Names, fits, form_of, choices_of}
-use Rattle.workflow.specs.FieldNumbers.{reporter}
+use Rattle.field_values.specs.declared.numbers.TheConstants.FieldNo.{REPORTER as reporter}
 use Rattle.field_forms.proofs.Fitting.{fits_says}
 use Rattle.civil_dates.specs.Days.{is_day}
 use Rattle.change_history.specs.declared.entry.Entry.{Entry}
@@ -30,11 +30,11 @@ held_front names (suc count) (e ∷ es) all = (all.0, all.1, held_front names co
 pub held_part : (names : Names) (from count : ℕ) (es : List Entry) → AllEntriesHold names es → AllEntriesHold names (take count (drop from es))
 held_part names from count es all = held_front names count (drop from es) (held_behind names from es all)
 
-nobody_fits : (names : Names) → fits names 6 value.Empty ≡ true
+nobody_fits : (names : Names) → fits names reporter.0 value.Empty ≡ true
 unfolding fits form_of choices_of
 nobody_fits names = refl
 
 -- a reporter that a field holds is nobody, or one who fits
-pub reporter_fits : (names : Names) (v : Value) → Holds names reporter v → fits names 6 v ≡ true
-reporter_fits names v (inl empty) = subst (λ w. fits names 6 w ≡ true) (sym empty) (nobody_fits names)
+pub reporter_fits : (names : Names) (v : Value) → Holds names reporter v → fits names reporter.0 v ≡ true
+reporter_fits names v (inl empty) = subst (λ w. fits names reporter.0 w ≡ true) (sym empty) (nobody_fits names)
 reporter_fits names v (inr fit) = fit

@@ -1,9 +1,12 @@
+pub mod Chronicle
 pub mod Counting
 pub mod Fitting
 pub mod Histories
 pub mod Holding
 pub mod Keys
+pub mod Named
 pub mod Performing
 pub mod Sound
 pub mod Surrounding
+pub mod Tracker
 pub mod Weights

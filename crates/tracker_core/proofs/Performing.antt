@@ -16,7 +16,8 @@ use Rattle.tracker_calls.specs.declared.reply.Refusal.TheVariants as refusal
 use Rattle.tracker_calls.specs.declared.reply.Thing.TheVariants as thing
 use Rattle.tracker_machine.specs.Machine.{Machine}
 use Rattle.tracker_machine.specs.Checks.{or_then}
-use Rattle.tracker_machine.specs.Known.{project_keys, name_at, next_key, place_of_issue}
+use Rattle.fields.specs.Naming.{name_at}
+use Rattle.tracker_machine.specs.Known.{project_keys, next_key, place_of_issue}
 use Rattle.tracker_machine.specs.Wanted.{changes_of}
 use Rattle.tracker_machine.specs.Group.{group_number, with_group}
 use Rattle.tracker_machine.specs.Create.{create_wants, create_refusal, create_answer, created, opened, filled, with_issue}

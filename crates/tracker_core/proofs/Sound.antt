@@ -1,11 +1,10 @@
--- The state stays sound.
+-- What holds of issues and of the counts of projects after each change.
 use Rattle.std.proofs.Common.{◌≡◌, ◌==◌, ℕ, zero, suc, ◌+◌, ◌<◌, ◌≤◌, List, [], ◌∷◌, ◌++◌, length, slice_get, get_or, set, map, Bool, true, false, Option, Some, option_map, unwrap_or, bytes_eq, IfSome, refl, sym, ap, ap₂, ◌∙◌, subst, arith, inl, inr}
 use Rattle.std.specs.Prelude.{if◌then◌else◌}
 use Rattle.std.specs.List.{All}
 use Rattle.std.proofs.lemmas.Bool.{eqb-true}
-use Rattle.std.proofs.lemmas.List.{length-append, map-set, length-set}
+use Rattle.std.proofs.lemmas.List.{map-set}
 use Rattle.std.proofs.lemmas.List.Sums.{sum_by_push, sum_by-set, sum_by-cons}
-use Rattle.std.proofs.lemmas.List.Elements.{All-push, All-set}
 use Rattle.std.proofs.lemmas.Option.{slice_get-map, slice_get_within, get_or_from_slice_get}
 use Rattle.field_values.specs.declared.numbers.FieldNo.{FieldNo}
 use Rattle.field_values.specs.declared.numbers.UserNo.{UserNo}
@@ -14,18 +13,14 @@ use Rattle.field_values.specs.declared.value.Value.{Value}
 use Rattle.field_forms.specs.Known.{Names, fits}
 use Rattle.change_history.specs.declared.change.Change.{Change}
 use Rattle.change_history.specs.declared.entry.Entry.{Entry}
-use Rattle.change_history.specs.History.{Kept, History, opening_value, value_after, present, last_change, last_moment, AreGroupEntries, MayAdd}
-use Rattle.change_history.proofs.Adding.{last_moment-group}
+use Rattle.change_history.specs.History.{Kept, History, opening_value, value_after, present, last_change, last_moment, AreChanges, AreInOrder, AreGroupEntries, MayAdd}
+use Rattle.change_history.proofs.Adding.{last_moment-group, IsHistory-add}
 use Rattle.workflow.specs.Laws.{AllFit}
-use Rattle.tracker_machine.specs.Machine.{Machine}
-use Rattle.tracker_machine.specs.Create.{with_issue}
-use Rattle.tracker_machine.specs.Known.{name_at, issues_of, project_of}
-use Rattle.fields.specs.SetupParts.{names_in}
-use Rattle.std.specs.Prelude.{sum_by}
-use Rattle.tracker_machine.specs.Checks.{entries_kept, bytes_kept, history_bytes, entry_bytes}
-use Rattle.tracker_core.proofs.Weights.{history_bytes-more, bytes_kept-push, bytes_kept-set}
+use Rattle.fields.specs.Naming.{name_at}
+use Rattle.tracker_machine.specs.Known.{issues_of, project_of}
+use Rattle.tracker_machine.specs.Checks.{entries_kept}
 use Rattle.tracker_core.specs.Issues.{total_entries, with_entries}
-use Rattle.tracker_core.specs.State.{counts_of, with_key, Holds, IsSettled, AllEntriesFit, AllEntriesHold, IsSound}
+use Rattle.tracker_core.specs.State.{counts_of, with_key, Holds, IsSettled, AllEntriesFit, AllEntriesHold, AreNamed, AreByUsers}
 
 -- ---- what stands at a place
 
@@ -106,6 +101,21 @@ held_more : (names : Names) (xs es : List Entry) → AllEntriesHold names xs →
 held_more names [] es before after = after
 held_more names (x ∷ xs) es before after = (before.0, before.1, held_more names xs es before.2 after)
 
+fit_more : (names : Names) (xs es : List Entry) → AllEntriesFit names xs → AllEntriesFit names es → AllEntriesFit names (xs ++ es)
+fit_more names [] es before after = after
+fit_more names (x ∷ xs) es before after = (before.0, fit_more names xs es before.1 after)
+
+-- ---- authors
+
+by_users_more : (users : ℕ) (xs es : List Entry) → AreByUsers users xs → AreByUsers users es → AreByUsers users (xs ++ es)
+by_users_more users [] es before after = after
+by_users_more users (x ∷ xs) es before after = (before.0, by_users_more users xs es before.1 after)
+
+group_by_user : (users : ℕ) (values : FieldNo → Value) (low change at : ℕ) (author : UserNo) (es : List Entry) → author.0 < users → AreGroupEntries values low change at author es → AreByUsers users es
+group_by_user users values low change at author [] user group = tt
+group_by_user users values low change at author (e ∷ es) user group =
+    (subst (λ (u : UserNo). u.0 < users) (sym group.3) user, group_by_user users values (e.field.0 + 1) change at author es user group.6)
+
 -- ---- issues that are settled
 
 last_change-group : (values : FieldNo → Value) (low change at start : ℕ) (author : UserNo) (xs es : List Entry) → 0 < length es → AreGroupEntries values low change at author es
@@ -116,28 +126,52 @@ last_change-group values low change at start author [] (e ∷ []) some group = g
 last_change-group values low change at start author [] (e ∷ f ∷ fs) some group = last_change-group values (e.field.0 + 1) change at e.change author [] (f ∷ fs) (omega arith) group.6
 
 pub settled_later : (names : Names) (at at' change change' : ℕ) (h : History) → at ≤ at' → change ≤ change' → IsSettled names at change h → IsSettled names at' change' h
-settled_later names at at' change change' h later more is = record { timely = omega (arith, is.timely, later); earlier = omega (arith, is.earlier, more); holding = is.holding; held = is.held }
+settled_later names at at' change change' h later more is = record {
+  timely = omega (arith, is.timely, later);
+  earlier = omega (arith, is.earlier, more);
+  history = is.history;
+  holding = is.holding;
+  held = is.held;
+  opened = is.opened;
+  fitting = is.fitting;
+  fit = is.fit;
+  author = is.author;
+  authors = is.authors;
+}
 
 pub all_settled_later : (names : Names) (at at' change change' : ℕ) (hs : List History) → at ≤ at' → change ≤ change' → All (IsSettled names at change) hs → All (IsSettled names at' change') hs
 all_settled_later names at at' change change' hs later more all = λ k d in'. settled_later names at at' change change' _ later more (all k d in')
 
 -- an issue that opens now
-pub settled_new : (names : Names) (at change : ℕ) (h : History) → h.at ≡ at → h.change ≡ change → h.entries ≡ [] → AllFit names h.opening → IsSettled names at change h
-settled_new names at change h now number none fit = record {
+pub settled_new : (names : Names) (at change : ℕ) (h : History) → h.at ≡ at → h.change ≡ change → h.entries ≡ [] → AllFit names h.opening → AreNamed (opening_value h.opening) → h.author.0 < length names.users
+    → IsSettled names at change h
+settled_new names at change h now number none fit named user = record {
   timely = subst (λ es. last_moment h.at es ≤ at) (sym none) (omega (arith, now));
   earlier = subst (λ es. last_change h.change es ≤ change) (sym none) (omega (arith, number));
+  history = record { changes = subst (AreChanges (opening_value h.opening)) (sym none) tt; order = subst (AreInOrder h.change h.at) (sym none) tt };
   holding = λ f. subst (λ es. Holds names f (value_after (opening_value h.opening f) es f)) (sym none) (opening_holds names h.opening f fit);
   held = subst (AllEntriesHold names) (sym none) tt;
+  opened = named;
+  fitting = fit;
+  fit = subst (AllEntriesFit names) (sym none) tt;
+  author = user;
+  authors = subst (AreByUsers (length names.users)) (sym none) tt;
 }
 
 -- an issue with a group that comes now
-pub settled_added : (names : Names) (at old change : ℕ) (h : History) (author : UserNo) (es : List Entry) → MayAdd h change at author es → AllEntriesFit names es → IsSettled names at old h
-    → IsSettled names at change (record h { entries = h.entries ++ es })
-settled_added names at old change h author es may fit is = record {
+pub settled_added : (names : Names) (at old change : ℕ) (h : History) (author : UserNo) (es : List Entry) → MayAdd h change at author es → AllEntriesFit names es → author.0 < length names.users
+    → IsSettled names at old h → IsSettled names at change (record h { entries = h.entries ++ es })
+settled_added names at old change h author es may fit user is = record {
   timely = omega (arith, last_moment-group (present h) 0 change at h.at author h.entries es may.some may.group);
   earlier = omega (arith, last_change-group (present h) 0 change at h.change author h.entries es may.some may.group);
+  history = IsHistory-add h change at author es is.history may;
   holding = λ f. subst (λ v. Holds names f v) (sym (value_after-append (opening_value h.opening f) h.entries es f)) (entries_hold names (present h f) es f fit (is.holding f));
   held = held_more names h.entries es is.held (group_holds names (present h) 0 change at author es is.holding may.group fit);
+  opened = is.opened;
+  fitting = is.fitting;
+  fit = fit_more names h.entries es is.fit fit;
+  author = is.author;
+  authors = by_users_more (length names.users) h.entries es is.authors (group_by_user (length names.users) (present h) 0 change at author es user may.group);
 }
 
 -- ---- the settled issue at a place
@@ -159,39 +193,6 @@ pub few_counted : (ps : List Project) (hs : List History) (most k : ℕ) → len
 few_counted [] hs most k few = tt
 few_counted (p ∷ ps) hs most zero few = omega (arith, few_of p.key hs, few)
 few_counted (p ∷ ps) hs most (suc k) few = few_counted ps hs most k few
-
-pub sound_push : (m : Machine) (counts new : List ℕ) (h : History) → IsSound m counts → length m.histories < 50_000 → h.change ≡ m.change + 1 → h.at ≡ m.moment → h.entries ≡ []
-    → AllFit (names_in m.setup) h.opening → bytes_kept m.histories + history_bytes h ≤ 510_000_000
-    → new ≡ with_key (counts_of m.setup.project m.histories) m.setup.project h.key → IsSound (with_issue m h) new
-sound_push m counts new h is few number now none fit light counted = record {
-  counted = counted ∙ counts_of-push m.setup.project m.histories h;
-  few_issues = omega (arith, length-append m.histories (h ∷ []), few);
-  few_entries = omega (arith, entries_kept-push m.histories h, is.few_entries, ap (λ (es : List Entry). length es) none);
-  few_bytes = omega (arith, bytes_kept-push m.histories h, light);
-  numbered = omega (arith, entries_kept-push m.histories h, length-append m.histories (h ∷ []), is.numbered);
-  settled = All-push (IsSettled (names_in m.setup) m.moment (m.change + 1)) m.histories h
-      (all_settled_later (names_in m.setup) m.moment m.moment m.change (m.change + 1) m.histories (omega arith) (omega arith) is.settled)
-      (settled_new (names_in m.setup) m.moment (m.change + 1) h now number none fit);
-}
-
-pub sound_add : (m : Machine) (counts : List ℕ) (k : ℕ) (h : History) (author : UserNo) (es : List Entry) → IsSound m counts → slice_get m.histories k ≡ Some h
-    → MayAdd h (m.change + 1) m.moment author es → AllEntriesFit (names_in m.setup) es → entries_kept m.histories + length es ≤ 2_000_000 → bytes_kept m.histories + sum_by entry_bytes es ≤ 510_000_000
-    → IsSound (record m { change = m.change + 1; histories = set m.histories k (record h { entries = h.entries ++ es }) }) counts
-sound_add m counts k h author es is at may fit few light =
-    let new : History = record h { entries = h.entries ++ es } in
-    let total = entries_kept-set m.histories k h new at in
-    let more = length-append h.entries es in
-    let same = length-set m.histories k new in
-    record {
-      counted = is.counted ∙ sym (counts_of-set m.setup.project m.histories k h new at refl);
-      few_issues = omega (arith, same, is.few_issues);
-      few_entries = omega (arith, total, more, few);
-      few_bytes = omega (arith, bytes_kept-set m.histories k h new at, history_bytes-more h es, light);
-      numbered = omega (arith, total, more, same, is.numbered, may.some);
-      settled = All-set (IsSettled (names_in m.setup) m.moment (m.change + 1)) m.histories k new
-          (settled_added (names_in m.setup) m.moment m.change (m.change + 1) h author es may fit (settled_at (names_in m.setup) m.moment m.change m.histories k h at is.settled))
-          (all_settled_later (names_in m.setup) m.moment m.moment m.change (m.change + 1) m.histories (omega arith) (omega arith) is.settled);
-    }
 
 -- the histories after a group was added at a place
 pub histories_set : (is : List Kept) (k : ℕ) (i : Kept) (es : List Entry) → map (λ i. i.history) (set is k (with_entries i es)) ≡ set (map (λ i. i.history) is) k (record i.history { entries = i.history.entries ++ es })

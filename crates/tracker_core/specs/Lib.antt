@@ -1,4 +1,5 @@
 pub mod Check
+pub mod Chronicle
 pub mod Found
 pub mod Issues
 pub mod Made

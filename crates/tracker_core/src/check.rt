@@ -3,7 +3,8 @@ ghost use Rattle.std.specs.Prelude.{◌≡◌, ◌≢◌, ◌<◌, ◌≤◌, tr
 ghost use Rattle.field_forms.specs.Names.{place_named};
 ghost use Rattle.fields.specs.SetupParts.{names_in};
 ghost use Rattle.workflow.specs.Laws.{AllFit};
-ghost use Rattle.tracker_machine.specs.Known.{project_keys, place_of_issue, name_at, field_name};
+ghost use Rattle.fields.specs.Naming.{name_at, field_name};
+ghost use Rattle.tracker_machine.specs.Known.{project_keys, place_of_issue};
 ghost use Rattle.tracker_machine.specs.Wanted.{changes_of};
 ghost use Rattle.tracker_machine.specs.Checks.{unless_known, set_refusal, permission_refusal, issues_refusal, entries_refusal, bytes_refusal, values_refusal, entries_kept, bytes_kept};
 ghost use Rattle.tracker_machine.specs.Access.{access_refusal};
@@ -11,7 +12,6 @@ ghost use Rattle.tracker_machine.specs.Transition.{transition_names};
 ghost use Rattle.tracker_core.specs.Check.{Checks, Refuses};
 ghost use Rattle.tracker_core.specs.Wants.{wants_of, strange_refusal};
 
-use crate::field_name::field_name;
 use crate::names::{Strange, first_strange};
 use crate::state::State;
 use crate::wants::{Outcome, Wants, outcome_of_all};
@@ -209,7 +209,7 @@ pub fn check_bytes(state: &State) -> Result<(), Refusal>
 fn unfit(alloc: Global, state: &State, field: FieldNo) -> Refusal
     ensures { Refuses (Some (Refusal.Unfit (field_name state.now.machine.setup.field field.0))) result }
 {
-    match Text::copy_of(alloc, field_name(state.setup(), field)) {
+    match Text::copy_of(alloc, state.setup().field_name(field)) {
         Ok(field) => Refusal::Unfit { field },
         Err(_) => Refusal::Memory,
     }

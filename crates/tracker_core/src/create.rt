@@ -6,11 +6,13 @@ ghost use Rattle.workflow.specs.Laws.{AllFit};
 ghost use Rattle.tracker_machine.specs.Step.{Performs};
 ghost use Rattle.tracker_machine.specs.Checks.{bytes_kept, history_bytes};
 ghost use Rattle.tracker_machine.specs.Create.{create_wants, create_refusal, create_answer, created, opened, filled, with_issue};
-ghost use Rattle.tracker_machine.specs.Known.{name_at, project_keys, next_key};
+ghost use Rattle.fields.specs.Naming.{name_at};
+ghost use Rattle.tracker_machine.specs.Known.{project_keys, next_key};
 ghost use Rattle.tracker_machine.specs.Wanted.{changes_of};
 ghost use Rattle.tracker_core.specs.Check.{Checks};
 ghost use Rattle.tracker_core.specs.Made.{IsMade};
-ghost use Rattle.tracker_core.specs.State.{with_key, counts_of};
+ghost use Rattle.change_history.specs.History.{opening_value};
+ghost use Rattle.tracker_core.specs.State.{with_key, counts_of, AreNamed};
 
 use crate::check::{
     check_bytes, check_issues, check_permission, check_set, known_project, known_values,
@@ -34,6 +36,7 @@ pub fn create(
     summary: &str,
     set: &[GivenField],
 ) -> Reply
+    requires { caller.0 < length state.old.machine.setup.users }
     ensures { Performs (create_refusal state.old.machine caller.0 project.now issue_type.now summary.now set.now)
         (create_answer state.old.machine project.now)
         (created state.old.machine caller.0 project.now issue_type.now summary.now set.now)
@@ -60,6 +63,7 @@ fn check_create(
     ensures there { IfOk result (λ r. r.0.0 < length state.now.machine.setup.project) }
     ensures changes { IfOk result (λ r. r.1 ≡ changes_of (names_in state.now.machine.setup) (create_wants state.now.machine.setup caller.0 issue_type.now summary.now set.now)) }
     ensures fitting { IfOk result (λ r. AllFit (names_in state.now.machine.setup) r.1) }
+    ensures named { IfOk result (λ r. AreNamed (opening_value (filled r.1))) }
     ensures few { IfOk result (λ r. length state.now.machine.histories < 50_000) }
     ensures light { IfOk result (λ r. bytes_kept state.now.machine.histories ≤ 499_800_000) }
 {
@@ -90,6 +94,8 @@ fn open(
     requires few { length state.old.machine.histories < 50_000 }
     requires light { bytes_kept state.old.machine.histories ≤ 499_800_000 }
     requires there { project.0 < length state.old.machine.setup.project }
+    requires author { caller.0 < length state.old.machine.setup.users }
+    requires named { AreNamed (opening_value (filled changes.now)) }
     requires fitting { AllFit (names_in state.old.machine.setup) changes.now }
     ensures { IsMade (Answer.Create false (state.old.machine.change + 1) (next_key state.old.machine (name_at (project_keys state.old.machine.setup) project.0)))
         (with_issue state.old.machine (opened state.old.machine caller.0 (name_at (project_keys state.old.machine.setup) project.0) (filled changes.now)))
@@ -128,7 +134,7 @@ fn prepare(
     ensures counts { IfOk result (λ new. new.counts.items ≡ with_key (counts_of state.now.machine.setup.project state.now.machine.histories) state.now.machine.setup.project
         (next_key state.now.machine (name_at (project_keys state.now.machine.setup) project.0))) }
     ensures bytes { IfOk result (λ new. new.bytes ≡ history_bytes new.issue.history) }
-    ensures light { IfOk result (λ new. new.bytes ≤ 10_000_000) }
+    ensures light { IfOk result (λ new. new.bytes ≤ 200_000) }
 {
     let opening = filled(alloc, changes.as_slice())?;
     let Some(bytes) = bytes_of_changes(opening.as_slice()) else {

@@ -34,6 +34,7 @@ pub fn edit(
     issue: &str,
     set: &[GivenField],
 ) -> Reply
+    requires { caller.0 < length state.old.machine.setup.users }
     ensures { Performs (edit_refusal state.old.machine caller.0 issue.now set.now)
         (edit_answer state.old.machine issue.now set.now)
         (edited state.old.machine caller.0 issue.now set.now)
@@ -81,6 +82,7 @@ fn change(
     changes: &Changes,
 ) -> Reply
     requires there { place < length state.old.machine.histories }
+    requires user { caller.0 < length state.old.machine.setup.users }
     requires few { entries_kept state.old.machine.histories ≤ 1_999_957 }
     requires light { bytes_kept state.old.machine.histories ≤ 499_800_000 }
     requires fitting { AllFit (names_in state.old.machine.setup) changes.now }

@@ -25,6 +25,7 @@ pub fn put_group(
     net: &Changes,
 ) -> Result<Option<u64>, Memory>
     requires there { place < length state.old.machine.histories }
+    requires user { caller.0 < length state.old.machine.setup.users }
     requires few { entries_kept state.old.machine.histories ≤ 1_999_957 }
     requires light { bytes_kept state.old.machine.histories ≤ 499_800_000 }
     requires news { IfSome (slice_get state.old.machine.histories place) (λ h. AreNews (present h) 0 net.now) }

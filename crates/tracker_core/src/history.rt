@@ -7,12 +7,11 @@ ghost use Rattle.tracker_machine.specs.Step.{Performs};
 ghost use Rattle.tracker_machine.specs.Entries.{history_refusal, history_answer, history_answer_of, told_entry};
 ghost use Rattle.tracker_core.specs.State.{AllEntriesHold, Holds};
 
-use crate::field_name::field_name;
 use crate::show::check_show;
 use crate::state::State;
-use crate::told::{name_at, shown_value};
+use crate::told::shown_value;
 use change_history::{Entry, Issue};
-use fields::{Memory, Setup, Text, UserNo};
+use fields::{Memory, Setup, Text, UserNo, name_at};
 use std::alloc::Global;
 use tracker_calls::{Answer, Part, Refusal, Reply, ToldEntries, ToldEntry};
 
@@ -70,7 +69,7 @@ fn told_entry(alloc: Global, setup: &Setup, entry: &Entry) -> Result<ToldEntry, 
     ensures { IfOk result (λ told. told ≡ told_entry (names_in (parts setup.now)) entry.now) }
 {
     let by = name_at(alloc, setup.users.as_slice(), entry.author.0)?;
-    let field = Text::copy_of(alloc, field_name(setup, entry.field))?;
+    let field = Text::copy_of(alloc, setup.field_name(entry.field))?;
     let from = shown_value(alloc, setup, entry.field, &entry.from)?;
     let to = shown_value(alloc, setup, entry.field, &entry.to)?;
     Ok(ToldEntry {

@@ -92,6 +92,7 @@ impl Issues {
 
     /// Makes room for one more issue, or leaves all as it is.
     pub fn reserve(&mut self) -> Result<(), Memory>
+        ensures kept { self.new.kept ≡ self.old.kept }
         ensures ok { OnOk result (self.new ≡ record self.old { room = 1 }) }
         ensures err { OnErr result (self.new ≡ self.old) }
     {
@@ -125,6 +126,7 @@ impl Issues {
         ensures ok { OnOk result (IfSome (slice_get self.old.kept place) (λ i.
             self.new ≡ record self.old { kept = slice_set self.old.kept place (record i { room = n }) })) }
         ensures err { OnErr result (self.new ≡ self.old) }
+        ensures room { self.new.room ≡ self.old.room }
         ensures histories { map (λ i. i.history) self.new.kept ≡ map (λ i. i.history) self.old.kept }
     {
         self.list[place].reserve(n)

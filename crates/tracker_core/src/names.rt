@@ -1,16 +1,15 @@
 // The names in `set`.
-ghost use Rattle.std.specs.Prelude.{◌≡◌, option_map, IfSome};
+ghost use Rattle.std.specs.Prelude.{◌≡◌, ◌∷◌, [], option_map, IfSome, None};
 ghost use Rattle.std.specs.Option.{option_or, is_some};
 ghost use Rattle.fields.specs.SetupParts.{parts};
 ghost use Rattle.tracker_machine.specs.Known.{is_field, names_field};
 ghost use Rattle.tracker_machine.specs.Wanted.{given_for, sprint_number};
 ghost use Rattle.tracker_core.specs.Wants.{strange_refusal};
-ghost use Rattle.tracker_machine.specs.Checks.{sprint_given, name_refusal, names_refusal};
+ghost use Rattle.tracker_machine.specs.Checks.{sprint_given, name_refusal, names_refusal, refused_names, sooner, first_with};
 
+use field_forms::form::is_before;
 use fields::{FieldNo, Setup};
 use tracker_calls::{Given, GivenField};
-
-const SPRINT: FieldNo = FieldNo(13);
 
 /// A name in `set` that stands for nothing.
 #[derive(Clone, Copy)]
@@ -63,7 +62,7 @@ pub fn sprint_number(given: &Given) -> Option<u32>
 fn sprint_given(setup: &Setup, set: &[GivenField]) -> Option<u32>
     ensures { result ≡ sprint_given setup.now.field set.now }
 {
-    match given_for(setup, SPRINT, set) {
+    match given_for(setup, FieldNo::SPRINT, set) {
         Some(given) => sprint_number(given),
         None => None,
     }
@@ -75,7 +74,7 @@ fn strange_name<'s>(setup: &Setup, set: &[GivenField], name: &'s str) -> Option<
     if !is_field(setup, name) {
         return Some(Strange::Field(name));
     }
-    if !names_field(setup, SPRINT, name) {
+    if !names_field(setup, FieldNo::SPRINT, name) {
         return None;
     }
     match sprint_given(setup, set) {
@@ -84,15 +83,50 @@ fn strange_name<'s>(setup: &Setup, set: &[GivenField], name: &'s str) -> Option<
     }
 }
 
-/// The first name in `set` that stands for nothing.
-pub fn first_strange<'s>(setup: &Setup, set: &'s [GivenField]) -> Option<Strange<'s>>
-    ensures { option_map strange_refusal result ≡ names_refusal setup.now.field set.now set.now }
+// Of a name found before and another the one that comes first in byte order.
+fn sooner<'s>(found: Option<&'s str>, name: &'s str) -> &'s str
+    ensures { result.now ≡ sooner (option_map (λ found. found.now) found.entry) name.now }
 {
-    for given in set {
-        let strange = strange_name(setup, set, given.name.as_str());
-        if strange.is_some() {
-            return strange;
-        }
+    match found {
+        None => name,
+        Some(found) => { if is_before(name, found) { name } else { found } }
     }
-    None
+}
+
+// The first name found so far, after one more.
+fn found_after<'s>(
+    setup: &Setup,
+    set: &[GivenField],
+    found: Option<&'s str>,
+    given: &'s GivenField,
+) -> Option<&'s str>
+    ensures { option_map (λ name. name.now) result
+        ≡ first_with (option_map (λ found. found.now) found.entry) (refused_names setup.now.field set.now (given.now ∷ [])) }
+{
+    let name = given.name.as_str();
+    match strange_name(setup, set, name) {
+        Some(_) => Some(sooner(found, name)),
+        None => found,
+    }
+}
+
+// The first of the names in `set`, in byte order, that stand for nothing.
+fn first_name<'s>(setup: &Setup, set: &'s [GivenField]) -> Option<&'s str>
+    ensures { option_map (λ name. name.now) result ≡ first_with None (refused_names setup.now.field set.now set.now) }
+{
+    let mut found = None;
+    for given in set {
+        found = found_after(setup, set, found, given);
+    }
+    found
+}
+
+/// The first name in `set`, in byte order, that stands for nothing.
+pub fn first_strange<'s>(setup: &Setup, set: &'s [GivenField]) -> Option<Strange<'s>>
+    ensures { option_map strange_refusal result ≡ names_refusal setup.now.field set.now }
+{
+    match first_name(setup, set) {
+        Some(name) => strange_name(setup, set, name),
+        None => None,
+    }
 }

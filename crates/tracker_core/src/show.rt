@@ -2,15 +2,14 @@
 ghost use Rattle.std.specs.Prelude.{◌≡◌, ◌<◌, ◌++◌, [], length, IfOk, OnOk, map, slice_get};
 ghost use Rattle.fields.specs.SetupParts.{parts, names_in};
 ghost use Rattle.change_history.specs.History.{present, updated};
-ghost use Rattle.tracker_machine.specs.Known.{history_named, field_name};
+ghost use Rattle.fields.specs.Naming.{field_name};
+ghost use Rattle.tracker_machine.specs.Known.{history_named};
 ghost use Rattle.tracker_machine.specs.Step.{Performs};
 ghost use Rattle.tracker_machine.specs.Show.{show_refusal, show_answer, show_answer_of, shown_issue, shown_fields, shown_value, with_shown};
 ghost use Rattle.tracker_core.specs.Check.{Checks};
 ghost use Rattle.tracker_core.specs.State.{Holds};
 
 use crate::check::{check_access, known_issue};
-use crate::field_name::field_name;
-use crate::numbers::field_numbers;
 use crate::state::State;
 use crate::told::shown_value;
 use change_history::Issue;
@@ -64,7 +63,7 @@ fn issue_answer(alloc: Global, setup: &Setup, issue: &Issue) -> Result<Answer, M
     requires { (f : FieldNo) → Holds (names_in (parts setup.now)) f (present issue.now.history f) }
     ensures { IfOk result (λ answer. answer ≡ Answer.Show issue.now.history.at (shown_issue (names_in (parts setup.now)) issue.now.history) issue.now.history.key (updated issue.now.history)) }
 {
-    let numbers = field_numbers(alloc, setup)?;
+    let numbers = setup.field_numbers(alloc)?;
     let fields = shown_fields(alloc, setup, issue, &numbers)?;
     let key = Text::copy_of(alloc, issue.key().as_str())?;
     Ok(Answer::Show {
@@ -106,6 +105,6 @@ fn put_field(
     let Some(value) = shown_value(alloc, setup, field, issue.value(field))? else {
         return Ok(());
     };
-    let name = Text::copy_of(alloc, field_name(setup, field))?;
+    let name = Text::copy_of(alloc, setup.field_name(field))?;
     fields.push(ShownField { name, value })
 }

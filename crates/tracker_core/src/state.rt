@@ -1,5 +1,4 @@
 ghost use Rattle.std.specs.Prelude.{◌≡◌, ◌≤◌, ◌<◌, ◌+◌, [], ◌∷◌, ◌++◌, true, length, map, slice_get, slice_set, option_map, string_bytes, IfOk, IfSome, OnOk, OnErr, Some, sum_by};
-ghost use Rattle.workflow.specs.Laws.{AllFit};
 ghost use Rattle.field_forms.specs.Names.{place_named};
 ghost use Rattle.tracker_machine.specs.Create.{with_issue};
 ghost use Rattle.fields.specs.SetupParts.{parts, names_in, may};
@@ -8,9 +7,10 @@ ghost use Rattle.jql_meaning.specs.Surroundings.{surroundings_of};
 ghost use Rattle.tracker_machine.specs.Search.{surroundings_in};
 ghost use Rattle.tracker_machine.specs.Machine.{opening};
 ghost use Rattle.tracker_machine.specs.Transition.{transition_names};
-ghost use Rattle.tracker_machine.specs.Known.{name_at, project_keys, issues_of, place_of_issue};
+ghost use Rattle.fields.specs.Naming.{name_at};
+ghost use Rattle.tracker_machine.specs.Known.{project_keys, issues_of, place_of_issue};
 ghost use Rattle.tracker_machine.specs.Checks.{entries_kept, bytes_kept, entry_bytes, history_bytes};
-ghost use Rattle.tracker_core.specs.State.{counts_of, with_key, IsSettled, AllEntriesFit};
+ghost use Rattle.tracker_core.specs.State.{counts_of, with_key, IsSettled, AllEntriesFit, MayOpen};
 
 use crate::issues::Issues;
 use crate::project_key::count_key;
@@ -47,13 +47,13 @@ impl Drop for State {
 impl Model for State {
     ghost use Rattle.std.specs.Prelude.{map};
     ghost use Rattle.fields.specs.SetupParts.{parts};
-    ghost use Rattle.tracker_core.specs.State.{Held, IsSound};
+    ghost use Rattle.tracker_core.specs.State.{Held, IsState};
 
     ghost Value = { Held };
 
     ghost view = { λ s. record { machine = record { setup = parts s.setting.setup; moment = s.moment; change = s.change; histories = map (λ i. i.history) s.issues.kept }; room = s.issues.room; rooms = map (λ i. i.room) s.issues.kept } };
 
-    ghost invariant = { λ s. IsSound (record { setup = parts s.setting.setup; moment = s.moment; change = s.change; histories = map (λ i. i.history) s.issues.kept }) s.counts.items };
+    ghost invariant = { λ s. IsState (record { setup = parts s.setting.setup; moment = s.moment; change = s.change; histories = map (λ i. i.history) s.issues.kept }) s.counts.items };
 }
 
 /// A new issue with all that is kept of it.
@@ -234,10 +234,12 @@ impl State {
         self.moment = to;
     }
 
-    /// Makes room for one more issue, or leaves all as it is.
+    /// Makes room for one more issue, or leaves all as it is. There is room for as many entries as before.
     pub fn reserve_issue(&mut self) -> Result<(), Memory>
         ensures machine { self.new.machine ≡ self.old.machine }
         ensures room { OnOk result (1 ≤ self.new.room) }
+        ensures rooms { self.new.rooms ≡ self.old.rooms }
+        ensures err { OnErr result (self.new ≡ self.old) }
     {
         self.issues.reserve()
     }
@@ -245,14 +247,9 @@ impl State {
     /// Puts a new issue at the end. It takes no memory.
     pub fn push(&mut self, new: NewIssue)
         requires room { 1 ≤ self.old.room }
-        requires few { length self.old.machine.histories < 50_000 }
+        requires may { MayOpen self.old.machine new.issue.history }
         requires key { string_bytes new.key ≡ new.issue.history.key }
-        requires change { new.issue.history.change ≡ self.old.machine.change + 1 }
-        requires at { new.issue.history.at ≡ self.old.machine.moment }
-        requires entries { new.issue.history.entries ≡ [] }
-        requires fitting { AllFit (names_in self.old.machine.setup) new.issue.history.opening }
         requires bytes { new.bytes ≡ history_bytes new.issue.history }
-        requires light { bytes_kept self.old.machine.histories + new.bytes ≤ 510_000_000 }
         requires counts { new.counts.items ≡ with_key (counts_of self.old.machine.setup.project self.old.machine.histories) self.old.machine.setup.project new.issue.history.key }
         ensures { self.new.machine ≡ with_issue self.old.machine new.issue.history }
     {
@@ -261,11 +258,15 @@ impl State {
         self.issues.push(new.key, new.issue, new.bytes);
     }
 
-    /// Makes room for n entries more of the issue at a place, or leaves all as it is.
+    /// Makes room for n entries more of the issue at a place, or leaves all as it is. There is room for as many issues, and
+    /// for as many entries of other issues, as before.
     pub fn reserve_entries(&mut self, place: usize, n: usize) -> Result<(), Memory>
         requires { place < length self.old.machine.histories }
         ensures machine { self.new.machine ≡ self.old.machine }
         ensures room { OnOk result (slice_get self.new.rooms place ≡ Some n) }
+        ensures rooms { OnOk result (self.new.rooms ≡ slice_set self.old.rooms place n) }
+        ensures issues { self.new.room ≡ self.old.room }
+        ensures err { OnErr result (self.new ≡ self.old) }
     {
         self.issues.reserve_entries(place, n)
     }
@@ -279,8 +280,9 @@ impl State {
         requires at { group.at ≡ self.old.machine.moment }
         requires group { IfSome (slice_get self.old.machine.histories place) (λ h. MayAdd h group.change group.at group.author group.entries) }
         requires fitting { AllEntriesFit (names_in self.old.machine.setup) group.entries }
+        requires author { group.author.0 < length self.old.machine.setup.users }
         requires bytes { bytes ≡ sum_by entry_bytes group.entries }
-        requires light { bytes_kept self.old.machine.histories + bytes ≤ 510_000_000 }
+        requires light { bytes_kept self.old.machine.histories + bytes ≤ 500_000_000 }
         ensures { IfSome (slice_get self.old.machine.histories place) (λ h. self.new.machine
             ≡ record self.old.machine { change = self.old.machine.change + 1; histories = slice_set self.old.machine.histories place (record h { entries = h.entries ++ group.entries }) }) }
     {

@@ -1,57 +1,15 @@
 // Values as answers tell them.
-ghost use Rattle.std.specs.Prelude.{◌≡◌, ◌∷◌, ◌++◌, [], true, IfOk, OnOk, option_map, slice_get};
+ghost use Rattle.std.specs.Prelude.{◌≡◌, true, IfOk};
 ghost use Rattle.civil_dates.specs.Days.{is_day};
 ghost use Rattle.civil_dates.specs.DateText.{date_text};
-ghost use Rattle.field_forms.specs.ValueTexts.{chosen_names};
 ghost use Rattle.fields.specs.SetupParts.{parts, names_in};
-ghost use Rattle.tracker_machine.specs.Known.{name_at};
 ghost use Rattle.tracker_machine.specs.Show.{shown_value};
 ghost use Rattle.tracker_core.specs.State.{Holds};
 
-use fields::{ChoiceNo, Day, FieldNo, Memory, Names, Setup, Text, Value};
+use field_forms::value_text::chosen_names;
+use fields::{Day, FieldNo, Memory, Setup, Text, Value, name_at};
 use std::alloc::Global;
 use tracker_calls::Shown;
-
-/// The name at a place, or nothing where there is none.
-pub fn name_at(alloc: Global, names: &[Text], place: u16) -> Result<Text, Memory>
-    ensures { IfOk result (λ text. text ≡ name_at names.now place) }
-{
-    match names.get(usize::from(place)) {
-        Some(name) => name.copy(alloc),
-        None => Text::copy_of(alloc, ""),
-    }
-}
-
-fn chosen_names(alloc: Global, names: &[Text], choices: &[ChoiceNo]) -> Result<Names, Memory>
-    ensures { IfOk result (λ chosen. chosen ≡ chosen_names names.now choices.now) }
-{
-    let mut chosen = Names::new(alloc);
-    for choice in choices {
-        put_chosen(alloc, names, *choice, &mut chosen)?;
-    }
-    Ok(chosen)
-}
-
-fn chosen_name(names: &[Text], choice: ChoiceNo) -> Option<&Text>
-    ensures { option_map (λ name. name.now) result ≡ slice_get names.now choice.0 }
-{
-    names.get(usize::from(choice.0))
-}
-
-// Puts the name of a choice, where it has one, behind the others.
-fn put_chosen(
-    alloc: Global,
-    names: &[Text],
-    choice: ChoiceNo,
-    chosen: &mut Names,
-) -> Result<(), Memory>
-    ensures { OnOk result (chosen.new ≡ chosen.old ++ chosen_names names.now (choice ∷ [])) }
-{
-    let Some(name) = chosen_name(names, choice) else {
-        return Ok(());
-    };
-    chosen.push(name.copy(alloc)?)
-}
 
 fn day_text(alloc: Global, day: Day) -> Result<Text, Memory>
     requires { is_day day.0 ≡ true }

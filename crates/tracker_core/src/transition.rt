@@ -4,7 +4,7 @@ ghost use Rattle.change_history.specs.History.{present};
 ghost use Rattle.fields.specs.SetupParts.{names_in, parts};
 ghost use Rattle.workflow.specs.Plan.{planned};
 ghost use Rattle.workflow.specs.Difference.{AreNews};
-ghost use Rattle.workflow.specs.FieldNumbers.{reporter};
+ghost use Rattle.field_values.specs.declared.numbers.TheConstants.FieldNo.{REPORTER as reporter};
 ghost use Rattle.workflow.specs.Laws.{AllFit, IsSound};
 ghost use Rattle.tracker_machine.specs.Step.{Performs};
 ghost use Rattle.tracker_machine.specs.Checks.{entries_kept, bytes_kept};
@@ -205,6 +205,7 @@ fn change(
     net: &Changes,
 ) -> Reply
     requires there { place < length state.old.machine.histories }
+    requires user { caller.0 < length state.old.machine.setup.users }
     requires few { entries_kept state.old.machine.histories ≤ 1_999_957 }
     requires light { bytes_kept state.old.machine.histories ≤ 499_800_000 }
     requires news { IfSome (slice_get state.old.machine.histories place) (λ h. AreNews (present h) 0 net.now) }

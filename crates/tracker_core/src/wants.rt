@@ -9,7 +9,6 @@ ghost use Rattle.tracker_machine.specs.Create.{member_wanted, status_wanted, rep
 ghost use Rattle.tracker_core.specs.Wants.{wants_of};
 
 use crate::names::{given_for, sprint_number};
-use crate::numbers::field_numbers;
 use change_history::{Change, Changes};
 use fields::{FieldNo, Memory, Setup, SprintNo, Text, UserNo, Value};
 use std::alloc::Global;
@@ -72,7 +71,7 @@ fn read_list(alloc: Global, setup: &Setup, field: FieldNo, texts: &[Text]) -> Re
 fn takes_text(field: FieldNo) -> bool
     ensures { result ≡ takes_text field.0 }
 {
-    !(field.0 == 9 || field.0 == 10 || field.0 == 13)
+    !(field == FieldNo::FIX_VERSION || field == FieldNo::LABELS || field == FieldNo::SPRINT)
 }
 
 fn sprint_wanted(given: &Given) -> Wanted
@@ -97,7 +96,7 @@ fn wanted_by(alloc: Global, setup: &Setup, field: FieldNo, given: &Given) -> Res
         }
         Given::List(texts) => read_list(alloc, setup, field, texts.as_slice()),
         Given::Number(_) => {
-            if field.0 == 13 {
+            if field == FieldNo::SPRINT {
                 return Ok(sprint_wanted(given));
             }
             Ok(Wanted::NoValue)
@@ -114,7 +113,7 @@ fn wanted_given(
 ) -> Result<Wanted, Memory>
     ensures { IfOk result (λ wanted. wanted ≡ wanted_given (names_in (parts setup.now)) field.0 given.now) }
 {
-    if field.0 == 4 {
+    if field == FieldNo::STATUS {
         return Ok(Wanted::NoValue);
     }
     wanted_by(alloc, setup, field, given)
@@ -153,7 +152,7 @@ fn member_wanted(
 fn status_wanted(setup: &Setup, set: &[GivenField]) -> Wanted
     ensures { result ≡ status_wanted (parts setup.now) set.now }
 {
-    if is_given(setup, FieldNo(4), set) {
+    if is_given(setup, FieldNo::STATUS, set) {
         return Wanted::NoValue;
     }
     Wanted::Value(Value::Choice(setup.first_status))
@@ -167,8 +166,8 @@ fn reporter_wanted(
 ) -> Result<Wanted, Memory>
     ensures { IfOk result (λ wanted. wanted ≡ reporter_wanted (parts setup.now) caller.0 set.now) }
 {
-    match given_for(setup, FieldNo(6), set) {
-        Some(given) => wanted_given(alloc, setup, FieldNo(6), given),
+    match given_for(setup, FieldNo::REPORTER, set) {
+        Some(given) => wanted_given(alloc, setup, FieldNo::REPORTER, given),
         None => Ok(Wanted::Value(Value::User(caller))),
     }
 }
@@ -182,11 +181,11 @@ fn wanted(alloc: Global, setup: &Setup, wants: &Wants<'_>, field: FieldNo) -> Re
             issue_type,
             summary,
             set,
-        } => match field.0 {
-            1 => member_wanted(alloc, setup, field, set, issue_type),
-            2 => member_wanted(alloc, setup, field, set, summary),
-            4 => Ok(status_wanted(setup, set)),
-            6 => reporter_wanted(alloc, setup, *caller, set),
+        } => match field {
+            FieldNo::TYPE => member_wanted(alloc, setup, field, set, issue_type),
+            FieldNo::SUMMARY => member_wanted(alloc, setup, field, set, summary),
+            FieldNo::STATUS => Ok(status_wanted(setup, set)),
+            FieldNo::REPORTER => reporter_wanted(alloc, setup, *caller, set),
             _ => wanted_in(alloc, setup, field, set),
         },
         Wants::Set { set } => wanted_in(alloc, setup, field, set),
@@ -267,6 +266,6 @@ pub fn outcome_of_all(alloc: Global, setup: &Setup, wants: &Wants<'_>) -> Result
         ≡ field_at_fault (names_in (parts setup.now)) (wants_of (parts setup.now) wants.now)) }
     ensures changes { IfOk result (λ outcome. outcome.changes ≡ changes_of (names_in (parts setup.now)) (wants_of (parts setup.now) wants.now)) }
 {
-    let numbers = field_numbers(alloc, setup)?;
+    let numbers = setup.field_numbers(alloc)?;
     outcome_of(alloc, setup, wants, &numbers)
 }

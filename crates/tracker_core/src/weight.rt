@@ -5,12 +5,12 @@ ghost use Rattle.tracker_machine.specs.Checks.{text_bytes, entry_bytes};
 use change_history::{Change, Entry};
 use fields::{Text, Value};
 
-/// What one call may add at most. No call comes near it: a value has at most 31,000.
-pub const MOST_BYTES: u64 = 10_000_000;
+/// What one call adds at most. A value that fits has at most 31,000, and all 43 of an issue's fields together at most 77,080.
+pub const MOST_BYTES: u64 = 200_000;
 
 // The sum, where it isn't more than a call may add.
 fn sum_of(one: u64, other: u64) -> Option<u64>
-    ensures some { IfSome result (λ n. (n ≡ one + other) × (n ≤ 10_000_000)) }
+    ensures some { IfSome result (λ n. (n ≡ one + other) × (n ≤ 200_000)) }
 {
     let sum = one.checked_add(other)?;
     if sum > MOST_BYTES {
@@ -68,7 +68,7 @@ fn entry_bytes(entry: &Entry) -> Option<u64>
 /// Those of some opening values, where they aren't more than a call may add.
 pub fn bytes_of_changes(changes: &[Change]) -> Option<u64>
     ensures sum { IfSome result (λ n. n ≡ sum_by (λ c. text_bytes c.to) changes.now) }
-    ensures few { IfSome result (λ n. n ≤ 10_000_000) }
+    ensures few { IfSome result (λ n. n ≤ 200_000) }
 {
     let mut total = 0;
     for change in changes {
@@ -80,7 +80,7 @@ pub fn bytes_of_changes(changes: &[Change]) -> Option<u64>
 /// Those of both sides of some entries, where they aren't more than a call may add.
 pub fn bytes_of_entries(entries: &[Entry]) -> Option<u64>
     ensures sum { IfSome result (λ n. n ≡ sum_by entry_bytes entries.now) }
-    ensures few { IfSome result (λ n. n ≤ 10_000_000) }
+    ensures few { IfSome result (λ n. n ≤ 200_000) }
 {
     let mut total = 0;
     for entry in entries {

@@ -1,4 +1,5 @@
 pub mod Replies
 pub mod Runs
+pub mod Naming
 pub mod InOrder
 pub mod Asking

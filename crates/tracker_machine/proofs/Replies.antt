@@ -4,7 +4,7 @@ use Rattle.std.specs.Prelude.{Option}
 use Rattle.std.specs.Bool.{MatchBool}
 use Rattle.std.specs.Fmt.{digits}
 use Rattle.serde_json.proofs.OnLiterals.{serde_json_on_literals}
-use Rattle.tracker_calls.specs.Line.{line_of}
+use Rattle.tracker_calls.specs.Asked.{line_of}
 use Rattle.tracker_calls.specs.Reply.{reply_text}
 use Rattle.tracker_calls.specs.declared.call.Call.{Call}
 use Rattle.tracker_calls.specs.declared.reply.Reply.{Reply}

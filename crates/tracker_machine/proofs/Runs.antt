@@ -2,6 +2,7 @@
 use Rattle.std.proofs.Common.{◌≡◌, ℕ, List, [], ◌∷◌, ◌++◌, refl, sym, ap, ap₂, ◌∙◌, subst, Bool, true, false, inl, inr}
 use Rattle.std.specs.Prelude.{not, if◌then◌else◌}
 use Rattle.std.specs.Bool.{MatchBool}
+use Rattle.request_lines.specs.Lines.{AreWithinLimits}
 use Rattle.request_lines.specs.Run.{AreAnswered, IsFrontOfNext}
 use Rattle.tracker_machine.specs.Machine.{Machine}
 use Rattle.tracker_machine.specs.Run.{text_of_run, end_of_run, IsRun, is_blank, requests, HasReply, AnswersLine, IsFrontOfReply}
@@ -37,12 +38,14 @@ no_front [] back e = refl
 no_front (x ∷ xs) back e = cc
 
 -- a front of what answers a line is a front of its reply
-front_of : (b : Bool) (middle new : Machine) (line text front back : List ℕ) (rest more : List (List ℕ))
-    → MatchBool b ((text ≡ []) × (new ≡ middle)) (HasReply middle line text new) → rest ≡ line ∷ more → text ≡ front ++ back → IsFrontOfReply middle rest front
-front_of true middle new line text front back rest more (empty, same) is parts = inl (no_front front back (sym empty ∙ parts))
-front_of false middle new line text front back rest more one is parts = inr (line, more, one.mark, back, is, sym one.text_is ∙ parts)
+front_of : (b : Bool) (middle new : Machine) (line text front back : List ℕ) (done rest more : List (List ℕ)) → is_blank line ≡ b
+    → MatchBool b ((text ≡ []) × (new ≡ middle)) (HasReply middle line text new) → rest ≡ line ∷ more → AreWithinLimits (done ++ line ∷ []) → text ≡ front ++ back
+    → IsFrontOfReply middle done rest front new
+front_of true middle new line text front back done rest more blank (empty, same) is within parts = inl (no_front front back (sym empty ∙ parts), same)
+front_of false middle new line text front back done rest more blank one is within parts =
+    inr (line, more, one.mark, back, is, within, blank, sym one.text_is ∙ parts, one.new_is)
 
-pub front_of_reply : (middle new : Machine) (rest : List (List ℕ)) (front : List ℕ) → IsFrontOfNext AnswersLine middle rest front new → IsFrontOfReply middle rest front
-front_of_reply middle new rest front (inl none) = inl none.0
-front_of_reply middle new rest front (inr (line, more, text, back, is, here, parts)) =
-    front_of (is_blank line) middle new line text front back rest more here is parts
+pub front_of_reply : (middle new : Machine) (done rest : List (List ℕ)) (front : List ℕ) → IsFrontOfNext AnswersLine middle done rest front new → IsFrontOfReply middle done rest front new
+front_of_reply middle new done rest front (inl none) = inl none
+front_of_reply middle new done rest front (inr (line, more, text, back, is, within, here, parts)) =
+    front_of (is_blank line) middle new line text front back done rest more refl here is within parts

@@ -1,9 +1,12 @@
 -- Checks, the first of which that fails refuses a call.
+use Rattle.std.specs.Option.{is_some}
 use Rattle.std.specs.Prelude.{ℕ, ◌+◌, ◌*◌, Bool, List, [], ◌∷◌, Option, Some, None, if◌then◌else◌, option_map, option_and_then, length, nat_lt, nat_le, sum_by, decimal, codes}
+use Rattle.field_values.specs.declared.numbers.TheConstants.FieldNo as number
 use Rattle.field_values.specs.declared.field.Field.{Field}
 use Rattle.field_values.specs.declared.value.Value.{Value}
 use Rattle.field_values.specs.declared.value.Value.TheVariants as value
 use Rattle.field_values.specs.declared.rules.Permission.{Permission}
+use Rattle.field_forms.specs.Values.{is_before}
 use Rattle.field_forms.specs.Names.{place_named}
 use Rattle.fields.specs.SetupParts.{names_in, may}
 use Rattle.change_history.specs.declared.entry.Entry.{Entry}
@@ -18,7 +21,8 @@ use Rattle.tracker_calls.specs.declared.reply.Limit.TheVariants as limit
 use Rattle.tracker_calls.specs.declared.reply.Thing.TheVariants as thing
 use Rattle.tracker_machine.specs.declared.wanted.Wanted.{Wanted}
 use Rattle.tracker_machine.specs.Machine.{Machine}
-use Rattle.tracker_machine.specs.Known.{is_field, names_field, field_name, project_keys, name_at}
+use Rattle.fields.specs.Naming.{name_at, field_name}
+use Rattle.tracker_machine.specs.Known.{is_field, names_field, project_keys}
 use Rattle.tracker_machine.specs.Wanted.{given_for, sprint_number, field_at_fault}
 
 -- the first of two checks that fails
@@ -52,7 +56,7 @@ caller_refusal m caller = unless_known (place_named caller m.setup.users) (refus
 
 -- the sprint into which `set` puts the issue
 abbrev pub sprint_given : List Field → List GivenField → Option ℕ
-sprint_given fields set = option_and_then sprint_number (given_for fields 13 set)
+sprint_given fields set = option_and_then sprint_number (given_for fields number.SPRINT.0 set)
 
 -- that sprint is there; there are none yet
 abbrev pub sprint_refusal : Option ℕ → Option Refusal
@@ -63,16 +67,30 @@ sprint_refusal (Some k) = Some (refusal.Unknown thing.Sprint (decimal k))
 abbrev pub name_refusal : List Field → List GivenField → List ℕ → Option Refusal
 name_refusal fields set name =
     if is_field fields name
-    then (if names_field fields 13 name then sprint_refusal (sprint_given fields set) else None)
+    then (if names_field fields number.SPRINT.0 name then sprint_refusal (sprint_given fields set) else None)
     else Some (refusal.Unknown thing.Field name)
 
--- the same of each name in a list, one after the other
-abbrev pub names_refusal : List Field → List GivenField → List GivenField → Option Refusal
-names_refusal fields set [] = None
-names_refusal fields set (g ∷ gs) = or_then (name_refusal fields set g.name) (names_refusal fields set gs)
+-- the names in some part of `set` that are refused
+abbrev pub refused_names : List Field → List GivenField → List GivenField → List (List ℕ)
+refused_names fields set [] = []
+refused_names fields set (g ∷ gs) = if is_some (name_refusal fields set g.name) then g.name ∷ refused_names fields set gs else refused_names fields set gs
+
+-- of a name found before, if there is one, and another the one that comes first in byte order
+abbrev pub sooner : Option (List ℕ) → List ℕ → List ℕ
+sooner None name = name
+sooner (Some found) name = if is_before name found then name else found
+
+-- the first in byte order of some names and one that may be found before
+abbrev pub first_with : Option (List ℕ) → List (List ℕ) → Option (List ℕ)
+first_with found [] = found
+first_with found (name ∷ names) = first_with (Some (sooner found name)) names
+
+-- each name in `set` is looked at in byte order, wherever it stands
+abbrev pub names_refusal : List Field → List GivenField → Option Refusal
+names_refusal fields set = option_and_then (name_refusal fields set) (first_with None (refused_names fields set set))
 
 abbrev pub set_refusal : Machine → List GivenField → Option Refusal
-set_refusal m set = names_refusal m.setup.field set set
+set_refusal m set = names_refusal m.setup.field set
 
 -- ---- permissions
 

@@ -1,6 +1,7 @@
 -- The call `create`: a new issue of a project.
 use Rattle.std.specs.Prelude.{ℕ, ◌+◌, ◌==◌, false, not, List, [], ◌∷◌, ◌++◌, filter, length, Option, if◌then◌else◌}
 use Rattle.std.specs.Option.{is_some, option_map_or}
+use Rattle.field_values.specs.declared.numbers.TheConstants.FieldNo as number
 use Rattle.field_values.specs.declared.rules.Permission.TheVariants as permission
 use Rattle.field_values.specs.declared.value.Value.TheVariants.{Choice, User}
 use Rattle.field_forms.specs.Known.{Names, value_of}
@@ -19,7 +20,8 @@ use Rattle.tracker_calls.specs.declared.reply.Thing.TheVariants as thing
 use Rattle.tracker_machine.specs.declared.wanted.Wanted.{Wanted}
 use Rattle.tracker_machine.specs.declared.wanted.Wanted.TheVariants as wanted
 use Rattle.tracker_machine.specs.Machine.{Machine}
-use Rattle.tracker_machine.specs.Known.{project_keys, known_place, name_at, next_key}
+use Rattle.fields.specs.Naming.{name_at}
+use Rattle.tracker_machine.specs.Known.{project_keys, known_place, next_key}
 use Rattle.tracker_machine.specs.Wanted.{given_for, wanted_or, wanted_given, wanted_in, changes_of}
 use Rattle.tracker_machine.specs.Checks.{or_then, unless_known, set_refusal, permission_refusal, issues_refusal, bytes_refusal, values_refusal}
 
@@ -29,18 +31,18 @@ member_wanted names n set text = if is_some (given_for names.fields n set) then 
 
 -- an issue begins in the setup's first status
 abbrev pub status_wanted : Parts → List GivenField → Wanted
-status_wanted setup set = if is_some (given_for setup.field 4 set) then wanted.NoValue else wanted.Value (Choice setup.first_status)
+status_wanted setup set = if is_some (given_for setup.field number.STATUS.0 set) then wanted.NoValue else wanted.Value (Choice setup.first_status)
 
 -- the caller reports the issue, unless `set` says otherwise
 abbrev pub reporter_wanted : Parts → ℕ → List GivenField → Wanted
-reporter_wanted setup caller set = option_map_or (wanted_given (names_in setup) 6) (given_for setup.field 6 set) (wanted.Value (User (record { 0 = caller })))
+reporter_wanted setup caller set = option_map_or (wanted_given (names_in setup) number.REPORTER.0) (given_for setup.field number.REPORTER.0 set) (wanted.Value (User (record { 0 = caller })))
 
 abbrev pub create_wants : Parts → ℕ → List ℕ → List ℕ → List GivenField → ℕ → Wanted
 create_wants setup caller issue_type summary set n =
-    if n == 1 then member_wanted (names_in setup) 1 set issue_type
-    else if n == 2 then member_wanted (names_in setup) 2 set summary
-    else if n == 4 then status_wanted setup set
-    else if n == 6 then reporter_wanted setup caller set
+    if n == number.TYPE.0 then member_wanted (names_in setup) number.TYPE.0 set issue_type
+    else if n == number.SUMMARY.0 then member_wanted (names_in setup) number.SUMMARY.0 set summary
+    else if n == number.STATUS.0 then status_wanted setup set
+    else if n == number.REPORTER.0 then reporter_wanted setup caller set
     else wanted_in (names_in setup) n set
 
 abbrev pub create_refusal : Machine → ℕ → List ℕ → List ℕ → List ℕ → List GivenField → Option Refusal

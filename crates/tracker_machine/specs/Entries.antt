@@ -14,7 +14,8 @@ use Rattle.tracker_calls.specs.declared.reply.Refusal.TheVariants as refusal
 use Rattle.tracker_calls.specs.declared.reply.Thing.TheVariants as thing
 use Rattle.tracker_calls.specs.declared.reply.ToldEntry.{ToldEntry}
 use Rattle.tracker_machine.specs.Machine.{Machine}
-use Rattle.tracker_machine.specs.Known.{name_at, field_name, history_named}
+use Rattle.fields.specs.Naming.{name_at, field_name}
+use Rattle.tracker_machine.specs.Known.{history_named}
 use Rattle.tracker_machine.specs.Checks.{or_then, unless_known}
 use Rattle.tracker_machine.specs.Access.{access_refusal}
 use Rattle.tracker_machine.specs.Show.{shown_value}

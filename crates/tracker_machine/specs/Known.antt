@@ -1,13 +1,13 @@
 -- What names stand for.
-use Rattle.std.specs.Prelude.{ℕ, suc, ◌+◌, ◌-◌, ◌==◌, Bool, false, List, [], ◌∷◌, ◌++◌, map, sum_by, slice_get, unwrap_or, decimal, Option, Some, None, option_map, option_and_then, if◌then◌else◌}
-use Rattle.std.specs.Option.{is_some, option_or, option_map_or}
+use Rattle.std.specs.Prelude.{ℕ, suc, ◌+◌, ◌==◌, Bool, false, List, [], ◌∷◌, map, sum_by, slice_get, unwrap_or, Option, Some, None, option_map, option_and_then, if◌then◌else◌}
+use Rattle.std.specs.Option.{is_some, option_map_or}
 use Rattle.std.specs.Str.{bytes_eq}
 use Rattle.field_values.specs.declared.field.Field.{Field}
-use Rattle.field_forms.specs.BuiltIn.{field_names}
 use Rattle.field_forms.specs.Cuts.{cut_at}
-use Rattle.field_forms.specs.Known.{field_named, own_field}
+use Rattle.field_forms.specs.Known.{field_named}
 use Rattle.field_forms.specs.Names.{place_named}
 use Rattle.field_values.specs.Parts.{Parts}
+use Rattle.fields.specs.Naming.{key_of}
 use Rattle.change_history.specs.History.{History}
 use Rattle.tracker_machine.specs.Machine.{Machine}
 
@@ -18,22 +18,7 @@ project_keys setup = map (λ p. p.key) setup.project
 abbrev pub known_place : List ℕ → List (List ℕ) → ℕ
 known_place name names = unwrap_or (place_named name names) 0
 
--- the name at a place
-abbrev pub name_at : List (List ℕ) → ℕ → List ℕ
-name_at names place = unwrap_or (slice_get names place) []
-
 -- ---- fields
-
--- the fields of an issue, by their numbers: those that every tracker has, and the setup's own in its order
-abbrev pub built_in_numbers : List ℕ
-built_in_numbers = 1 ∷ 2 ∷ 3 ∷ 4 ∷ 5 ∷ 6 ∷ 7 ∷ 8 ∷ 9 ∷ 10 ∷ 11 ∷ 12 ∷ 13 ∷ []
-
-abbrev pub field_numbers : List Field → List ℕ
-field_numbers fields = built_in_numbers ++ map (λ f. f.number.0) fields
-
--- the name of a field as the setup spells it
-abbrev pub field_name : List Field → ℕ → List ℕ
-field_name fields n = unwrap_or (option_or (slice_get field_names (n - 1)) (option_map (λ f. f.name) (own_field fields n))) []
 
 -- the name is that field's
 abbrev pub names_field : List Field → ℕ → List ℕ → Bool
@@ -52,9 +37,6 @@ place_of_issue name (h ∷ hs) = if bytes_eq h.key name then Some 0 else option_
 
 abbrev pub history_named : Machine → List ℕ → Option History
 history_named m name = option_and_then (λ place. slice_get m.histories place) (place_of_issue name m.histories)
-
-abbrev pub key_of : List ℕ → ℕ → List ℕ
-key_of project number = project ++ 45 ∷ decimal number
 
 -- the key of an issue's project, which stands before the first hyphen
 abbrev pub project_of : List ℕ → List ℕ

@@ -1,13 +1,14 @@
 -- The abstract tracker over a whole input.
-use Rattle.std.specs.Prelude.{◌≡◌, ◌==◌, ◌||◌, ◌⊎◌, ℕ, List, [], ◌∷◌, ◌++◌, Bool, not, filter, map, Result, Ok, Err}
+use Rattle.std.specs.Prelude.{◌≡◌, ◌==◌, ◌||◌, ◌⊎◌, ℕ, List, [], ◌∷◌, ◌++◌, Bool, false, not, filter, map, Result, Ok, Err}
 use Rattle.std.specs.Bool.{MatchBool}
 use Rattle.std.specs.List.{list_all}
+use Rattle.request_lines.specs.Lines.{AreWithinLimits}
 use Rattle.tracker_calls.specs.declared.call.Call.{Call}
 use Rattle.tracker_calls.specs.declared.reply.Reply.{Reply}
 use Rattle.tracker_calls.specs.declared.reply.Reply.TheVariants as reply
 use Rattle.tracker_calls.specs.declared.reply.Refusal.{Refusal}
 use Rattle.tracker_calls.specs.declared.reply.Refusal.TheVariants as refusal
-use Rattle.tracker_calls.specs.Line.{line_of}
+use Rattle.tracker_calls.specs.Asked.{line_of}
 use Rattle.tracker_calls.specs.Reply.{reply_text}
 use Rattle.tracker_machine.specs.Machine.{Machine}
 use Rattle.tracker_machine.specs.Step.{reply_of, next_of}
@@ -82,20 +83,25 @@ pub record HasReply (old : Machine) (line text : List ℕ) (new : Machine) : Typ
 abbrev pub AnswersLine : Machine → List ℕ → List ℕ → Machine → Type 0
 AnswersLine old line text new = MatchBool (is_blank line) ((text ≡ []) × (new ≡ old)) (HasReply old line text new)
 
--- this is a front of the reply's line to the next of these lines, or nothing
-abbrev pub IsFrontOfReply : Machine → List (List ℕ) → List ℕ → Type 0
-IsFrontOfReply m rest front =
-    (front ≡ [])
-    ⊎ ((line : List ℕ) × (more : List (List ℕ)) × (mark : Mark) × (back : List ℕ) × (rest ≡ line ∷ more) × (reply_line (marked_reply m line mark) ≡ front ++ back))
+-- after the lines that are done, no further one was answered; or the next one was, which isn't blank and is within the
+-- limits too, and this is a front of its reply's line
+abbrev pub IsFrontOfReply : Machine → List (List ℕ) → List (List ℕ) → List ℕ → Machine → Type 0
+IsFrontOfReply m done rest front new =
+    ((front ≡ []) × (new ≡ m))
+    ⊎ ((line : List ℕ) × (more : List (List ℕ)) × (mark : Mark) × (back : List ℕ) × (rest ≡ line ∷ more)
+    × AreWithinLimits (done ++ line ∷ []) × (is_blank line ≡ false)
+    × (reply_line (marked_reply m line mark) ≡ front ++ back) × (new ≡ marked_next m line mark))
 
--- the replies to the first of these lines, and then at most a front of the next one's
-pub record IsCutRun (old : Machine) (all : List (List ℕ)) (text : List ℕ) : Type 0 where
+-- the first of these lines have their whole replies, and at most the next one was answered too and has a front of its
+-- reply; this is the state after them
+pub record IsCutRun (old : Machine) (all : List (List ℕ)) (text : List ℕ) (new : Machine) : Type 0 where
   pub done : List (List ℕ)
   pub rest : List (List ℕ)
   pub all_is : all ≡ done ++ rest
+  pub within : AreWithinLimits done
   pub whole : List ℕ
   pub middle : Machine
   pub run : IsRun old (requests done) whole middle
   pub front : List ℕ
-  pub next : IsFrontOfReply middle rest front
+  pub next : IsFrontOfReply middle done rest front new
   pub text_is : text ≡ whole ++ front

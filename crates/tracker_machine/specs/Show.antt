@@ -18,7 +18,8 @@ use Rattle.tracker_calls.specs.declared.reply.Shown.TheVariants as shown
 use Rattle.tracker_calls.specs.declared.reply.ShownField.{ShownField}
 use Rattle.tracker_calls.specs.declared.reply.Thing.TheVariants as thing
 use Rattle.tracker_machine.specs.Machine.{Machine}
-use Rattle.tracker_machine.specs.Known.{name_at, field_name, field_numbers, history_named}
+use Rattle.fields.specs.Naming.{name_at, field_name, field_numbers}
+use Rattle.tracker_machine.specs.Known.{history_named}
 use Rattle.tracker_machine.specs.Checks.{or_then, unless_known}
 use Rattle.tracker_machine.specs.Access.{access_refusal}
 

@@ -1,6 +1,7 @@
 -- What a call wants each field to hold.
 use Rattle.std.specs.Prelude.{ℕ, ◌==◌, ◌||◌, Bool, true, false, not, nat_le, List, [], ◌∷◌, ◌++◌, Option, Some, None, filter, if◌then◌else◌}
 use Rattle.std.specs.Option.{option_or, option_map_or}
+use Rattle.field_values.specs.declared.numbers.TheConstants.FieldNo as number
 use Rattle.field_values.specs.declared.field.Field.{Field}
 use Rattle.field_values.specs.declared.value.Value.{Value}
 use Rattle.field_values.specs.declared.value.Value.TheVariants as value
@@ -12,7 +13,8 @@ use Rattle.tracker_calls.specs.declared.given.Given.TheVariants as given
 use Rattle.tracker_calls.specs.declared.given.GivenField.{GivenField}
 use Rattle.tracker_machine.specs.declared.wanted.Wanted.{Wanted}
 use Rattle.tracker_machine.specs.declared.wanted.Wanted.TheVariants as wanted
-use Rattle.tracker_machine.specs.Known.{names_field, field_numbers}
+use Rattle.fields.specs.Naming.{field_numbers}
+use Rattle.tracker_machine.specs.Known.{names_field}
 
 -- what is given for a field: of names in the same letters the last one counts
 abbrev pub given_for : List Field → ℕ → List GivenField → Option Given
@@ -25,7 +27,7 @@ wanted_or (Some v) = wanted.Value v
 
 -- fixVersion and labels take a list of texts, sprint takes a whole number, and every other field takes a text
 abbrev pub takes_text : ℕ → Bool
-takes_text n = not ((n == 9) || ((n == 10) || (n == 13)))
+takes_text n = not ((n == number.FIX_VERSION.0) || ((n == number.LABELS.0) || (n == number.SPRINT.0)))
 
 -- the number of a sprint, among numbers of any size
 abbrev pub sprint_number : Given → Option ℕ
@@ -41,12 +43,12 @@ abbrev pub wanted_by : Names → ℕ → Given → Wanted
 wanted_by names n given.Null = wanted.Value value.Empty
 wanted_by names n (given.Text text) = if takes_text n then wanted_or (value_of names n text) else wanted.NoValue
 wanted_by names n (given.List texts) = wanted_or (listed_value_of names n texts)
-wanted_by names n (given.Number k) = if n == 13 then sprint_wanted (sprint_number (given.Number k)) else wanted.NoValue
+wanted_by names n (given.Number k) = if n == number.SPRINT.0 then sprint_wanted (sprint_number (given.Number k)) else wanted.NoValue
 wanted_by names n given.Other = wanted.NoValue
 
 -- the status is never given
 abbrev pub wanted_given : Names → ℕ → Given → Wanted
-wanted_given names n g = if n == 4 then wanted.NoValue else wanted_by names n g
+wanted_given names n g = if n == number.STATUS.0 then wanted.NoValue else wanted_by names n g
 
 abbrev pub wanted_in : Names → ℕ → List GivenField → Wanted
 wanted_in names n set = option_map_or (wanted_given names n) (given_for names.fields n set) wanted.Nothing

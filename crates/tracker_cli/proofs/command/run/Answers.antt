@@ -1,4 +1,3 @@
-use Rattle.std.proofs.Common.{inr}
 use Rattle.tracker_cli.proofs.Outcomes.{long_told, many_told, long_cut, many_cut}
 use Rattle.tracker_cli.proofs.command.run.Goals as goal
 
@@ -6,10 +5,10 @@ pub returns-in-Ok-write_all-clause-limit : goal.returns-in-Ok-write_all-clause-l
 returns-in-Ok-write_all-clause-limit g c = λ _. long_told _ _ _ _ _ c.in-LongLine.ensures.run c.in-Ok-write_all.ensures.bytes
 
 pub returns-in-Err-write_all-clause-written : goal.returns-in-Err-write_all-clause-written
-returns-in-Err-write_all-clause-written g c = λ _. inr (long_cut _ _ _ _ _ _ c.in-LongLine.ensures.run c.in-Err-write_all.ensures.bytes)
+returns-in-Err-write_all-clause-written g c = λ _ _. long_cut _ _ _ _ _ _ c.in-LongLine.ensures.run c.in-Err-write_all.ensures.bytes
 
 pub returns-in-Ok-write_all-2-clause-limit : goal.returns-in-Ok-write_all-2-clause-limit
 returns-in-Ok-write_all-2-clause-limit g c = λ _. many_told _ _ _ _ _ c.in-ManyLines.ensures.run c.in-Ok-write_all-2.ensures.bytes
 
 pub returns-in-Err-write_all-2-clause-written : goal.returns-in-Err-write_all-2-clause-written
-returns-in-Err-write_all-2-clause-written g c = λ _. inr (many_cut _ _ _ _ _ _ c.in-ManyLines.ensures.run c.in-Err-write_all-2.ensures.bytes)
+returns-in-Err-write_all-2-clause-written g c = λ _ _. many_cut _ _ _ _ _ _ c.in-ManyLines.ensures.run c.in-Err-write_all-2.ensures.bytes

@@ -1,7 +1,8 @@
 use Rattle.std.proofs.Common.{◌≡◌, ◌≤◌, ◌<◌, ℕ, List, length, slice_get, subst, sym, ◌∙◌, ap}
 use Rattle.std.proofs.lemmas.List.{length-map}
 use Rattle.field_values.specs.declared.parts.Project.{Project}
-use Rattle.tracker_machine.specs.Known.{name_at, project_keys, issues_of}
+use Rattle.fields.specs.Naming.{name_at}
+use Rattle.tracker_machine.specs.Known.{project_keys, issues_of}
 use Rattle.tracker_core.specs.State.{Held, counts_of}
 use Rattle.tracker_core.specs.contracts.state.State.{the_view}
 use Rattle.tracker_core.proofs.Sound.{few_counted, count_here, number_is, from_found}
@@ -26,4 +27,4 @@ returns-clause-few c =
     let m = (the_view c.self.inside).machine in
     from_found (slice_get (counts_of m.setup.project m.histories) c.args.project.0) c.count_at.result (λ n. n ≤ 50_000)
     (sym (c.count_at.ensures ∙ ap (λ (ns : List ℕ). slice_get ns c.args.project.0) (c.deref.ensures.value ∙ c.self.invariant.counted)))
-    (few_counted m.setup.project m.histories 50_000 c.args.project.0 c.self.invariant.few_issues)
+    (few_counted m.setup.project m.histories 50_000 c.args.project.0 c.self.invariant.tracker.few_issues)

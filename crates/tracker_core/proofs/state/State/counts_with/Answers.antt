@@ -8,4 +8,4 @@ count_key-requires-clause-few c =
     let m = (the_view c.self.inside).machine in
     let is = c.deref.ensures.value ∙ c.self.invariant.counted in
     subst (λ (ns : List ℕ). (k : ℕ) → (d : ℕ) → k < length ns → get_or ns k d + 1 < 4294967296) (sym is)
-    (λ k d in'. omega (arith, few_each m.setup.project m.histories 50_000 k d c.self.invariant.few_issues in'))
+    (λ k d in'. omega (arith, few_each m.setup.project m.histories 50_000 k d c.self.invariant.tracker.few_issues in'))

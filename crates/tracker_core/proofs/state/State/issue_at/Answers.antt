@@ -16,4 +16,4 @@ returns-clause-settled c =
     let m = (the_view c.self.inside).machine in
     subst (λ (s : Held). IfSome c.get.result (λ i. IsSettled (names_in s.machine.setup) s.machine.moment s.machine.change i.now.history)) c.self.view_is
     (each_found c.get.result (λ i. IsSettled (names_in m.setup) m.moment m.change i.history)
-    (λ i is. settled_at (names_in m.setup) m.moment m.change m.histories c.args.place i.history (history_at c.self.inside.issues.kept c.args.place i (sym c.get.ensures ∙ is)) c.self.invariant.settled))
+    (λ i is. settled_at (names_in m.setup) m.moment m.change m.histories c.args.place i.history (history_at c.self.inside.issues.kept c.args.place i (sym c.get.ensures ∙ is)) c.self.invariant.tracker.settled))

@@ -1,0 +1,16 @@
+use Rattle.std.proofs.Common.{◌≡◌, sym, subst}
+use Rattle.fields.specs.SetupParts.{names_in}
+use Rattle.change_history.specs.History.{opening_value}
+use Rattle.tracker_machine.specs.Wanted.{changes_of}
+use Rattle.tracker_machine.specs.Create.{create_wants, filled}
+use Rattle.tracker_core.specs.State.{AreNamed}
+use Rattle.tracker_core.proofs.Named.{created_named}
+use Rattle.tracker_core.proofs.create.check_create.Goals as goal
+
+pub returns-clause-named : goal.returns-clause-named
+returns-clause-named c =
+    let setup = c.args.state.now.machine.setup in
+    let wants = create_wants setup c.args.caller.0 c.args.issue_type.now c.args.summary.now c.args.set.now in
+    let same : c.in_ok-changes.changes ≡ changes_of (names_in setup) wants = c.in_ok-changes.ensures.changes in
+    subst (λ cs. AreNamed (opening_value (filled cs))) (sym same)
+    (created_named c.args.state.now.machine c.args.caller.0 c.args.issue_type.now c.args.summary.now c.args.set.now c.in_ok-changes.ensures.check)

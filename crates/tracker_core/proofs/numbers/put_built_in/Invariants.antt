@@ -1,5 +1,0 @@
-use Rattle.std.proofs.Common.{◌≡◌, ◌++◌, map, take}
-use Rattle.tracker_core.proofs.numbers.put_built_in.Given as goal
-
-abbrev pub invariant-loop-number : goal.invariant-loop-number
-invariant-loop-number l = map (λ f. f.0) l.numbers.items ≡ map (λ f. f.0) l.fn.numbers.items ++ take l.number-index l.number-items

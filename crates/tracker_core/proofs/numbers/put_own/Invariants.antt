@@ -1,5 +1,0 @@
-use Rattle.std.proofs.Common.{◌≡◌, ◌++◌, map, take}
-use Rattle.tracker_core.proofs.numbers.put_own.Given as goal
-
-abbrev pub invariant-loop-field : goal.invariant-loop-field
-invariant-loop-field l = map (λ f. f.0) l.numbers.items ≡ map (λ f. f.0) l.fn.numbers.items ++ map (λ f. f.number.0) (take l.field-index l.fields)
