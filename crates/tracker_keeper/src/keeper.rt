@@ -1,0 +1,41 @@
+// What keeps rows.
+ghost use Rattle.std.specs.Prelude.{◌<◌, ◌^◌, ℕ, OnOk, OnErr, IfOk};
+ghost use Rattle.std.specs.List.{All};
+ghost use Rattle.tracker_keeper.specs.Rows.{Rows, with_ops, number_of, IsListing};
+ghost use Rattle.tracker_keeper.specs.Causes.{HasKeepCause};
+
+use crate::row::{Row, RowOp};
+
+/// Why rows were not kept, or not told. After either, the rows are as before.
+#[derive(Clone, Copy, PartialEq, Eq)]
+pub enum KeepFault {
+    Failed,
+    Memory,
+}
+
+/// A keeper of rows. One that can't tell what it keeps says so by `tells` or by a `keeps` that never holds.
+pub trait Keeper {
+    /// How often it has failed.
+    ghost faults: { Self → ℕ };
+
+    /// It tells what it keeps.
+    ghost tells: { Self → Type 0 };
+
+    /// It keeps these rows, so far as it tells them.
+    ghost keeps: { Self → Rows → Type 0 };
+
+    /// Carries out all operations in order, as one, or none.
+    fn commit(&mut self, ops: &[RowOp]) -> Result<(), KeepFault>
+        requires numbers { All (λ op. number_of op < 2 ^ 63) ops.now }
+        ensures cause { HasKeepCause (faults self.old) (faults self.new) result }
+        ensures told { tells self.new → tells self.old }
+        ensures done { (rows : Rows) → keeps self.old rows → OnOk result (keeps self.new (with_ops ops.now rows)) }
+        ensures undone { (rows : Rows) → keeps self.old rows → OnErr result (keeps self.new rows) };
+
+    /// All rows, by kind and then number.
+    fn rows(&mut self) -> Result<Vec<Row>, KeepFault>
+        ensures cause { HasKeepCause (faults self.old) (faults self.new) result }
+        ensures told { tells self.new → tells self.old }
+        ensures rows { tells self.new → (rows : Rows) → keeps self.old rows → IfOk result (λ list. IsListing rows list.items) }
+        ensures same { (rows : Rows) → keeps self.old rows → keeps self.new rows };
+}
