@@ -1,6 +1,7 @@
 pub mod Numerals
-pub mod Pushing
 pub mod Denying
+pub mod Counting
+pub mod Members
 pub mod Labels
 pub mod Turns
 pub mod Splitting

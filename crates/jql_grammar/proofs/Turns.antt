@@ -1,7 +1,7 @@
 -- Loops that take a step at each thing of a list, until one is refused.
 use Rattle.std.proofs.Common.{◌≡◌, ℕ, ◌+◌, ◌<◌, ◌≤◌, List, [], ◌∷◌, ◌++◌, length, get_or, drop, Option, Some, None, Result, Ok, Err, refl, ap, sym, ◌∙◌, append_assoc}
 use Rattle.std.proofs.lemmas.List.{at_drop_more, at_drop_all, append-nil}
-use Rattle.jql_grammar.specs.declared.fault.Kind.{Kind}
+use Rattle.jql_grammar.specs.declared.fault.FaultKind.{FaultKind}
 use Rattle.jql_grammar.specs.declared.fault.Stop.{Stop}
 use Rattle.jql_grammar.specs.declared.fault.Stop.TheVariants.{At, Memory}
 use Rattle.jql_grammar.specs.Steps.{made, made_of_both, each, each_some, with_some, Stops}
@@ -26,7 +26,7 @@ some_more done o (Err e) = refl
 some_more done None (Ok ys) = ap (λ front. Ok (front ++ ys)) (sym (append-nil done))
 some_more done (Some y) (Ok ys) = ap Ok (sym (append_assoc done (y ∷ []) ys))
 
-module _ {A B : Type 0} (f : A → Result B Kind) (whole : Result (List B) Kind) (done : List B) (xs : List A) (i : ℕ) (x : A) (inside : i < length xs) (here : x ≡ get_or xs i x) (so_far : whole ≡ after done (each f (drop i xs))) where
+module _ {A B : Type 0} (f : A → Result B FaultKind) (whole : Result (List B) FaultKind) (done : List B) (xs : List A) (i : ℕ) (x : A) (inside : i < length xs) (here : x ≡ get_or xs i x) (so_far : whole ≡ after done (each f (drop i xs))) where
   next_is : whole ≡ after done (made_of_both (λ y ys. y ∷ ys) (f x) (each f (drop (i + 1) xs)))
   next_is = so_far ∙ ap (after done) (at_drop_more (each f) xs i x inside) ∙ ap (λ z. after done (made_of_both (λ y ys. y ∷ ys) (f z) (each f (drop (i + 1) xs)))) (sym here)
 
@@ -37,7 +37,7 @@ module _ {A B : Type 0} (f : A → Result B Kind) (whole : Result (List B) Kind)
   each_stops Memory e = tt
   each_stops (At kind) e = next_is ∙ ap (λ r. after done (made_of_both (λ y ys. y ∷ ys) r (each f (drop (i + 1) xs)))) e
 
-module _ {A B : Type 0} (f : A → Result (Option B) Kind) (whole : Result (List B) Kind) (done : List B) (xs : List A) (i : ℕ) (x : A) (inside : i < length xs) (here : x ≡ get_or xs i x) (so_far : whole ≡ after done (each_some f (drop i xs))) where
+module _ {A B : Type 0} (f : A → Result (Option B) FaultKind) (whole : Result (List B) FaultKind) (done : List B) (xs : List A) (i : ℕ) (x : A) (inside : i < length xs) (here : x ≡ get_or xs i x) (so_far : whole ≡ after done (each_some f (drop i xs))) where
   next_some_is : whole ≡ after done (made_of_both with_some (f x) (each_some f (drop (i + 1) xs)))
   next_some_is = so_far ∙ ap (after done) (at_drop_more (each_some f) xs i x inside) ∙ ap (λ z. after done (made_of_both with_some (f z) (each_some f (drop (i + 1) xs)))) (sym here)
 
@@ -48,8 +48,8 @@ module _ {A B : Type 0} (f : A → Result (Option B) Kind) (whole : Result (List
   some_stops Memory e = tt
   some_stops (At kind) e = next_some_is ∙ ap (λ r. after done (made_of_both with_some r (each_some f (drop (i + 1) xs)))) e
 
-pub each_ends : {A B : Type 0} (f : A → Result B Kind) (whole : Result (List B) Kind) (done : List B) (xs : List A) (i : ℕ) → length xs ≤ i → whole ≡ after done (each f (drop i xs)) → whole ≡ Ok done
+pub each_ends : {A B : Type 0} (f : A → Result B FaultKind) (whole : Result (List B) FaultKind) (done : List B) (xs : List A) (i : ℕ) → length xs ≤ i → whole ≡ after done (each f (drop i xs)) → whole ≡ Ok done
 each_ends f whole done xs i past so_far = so_far ∙ ap (after done) (at_drop_all (each f) xs i past) ∙ after_all done
 
-pub some_ends : {A B : Type 0} (f : A → Result (Option B) Kind) (whole : Result (List B) Kind) (done : List B) (xs : List A) (i : ℕ) → length xs ≤ i → whole ≡ after done (each_some f (drop i xs)) → whole ≡ Ok done
+pub some_ends : {A B : Type 0} (f : A → Result (Option B) FaultKind) (whole : Result (List B) FaultKind) (done : List B) (xs : List A) (i : ℕ) → length xs ≤ i → whole ≡ after done (each_some f (drop i xs)) → whole ≡ Ok done
 some_ends f whole done xs i past so_far = so_far ∙ ap (after done) (at_drop_all (each_some f) xs i past) ∙ after_all done

@@ -1,21 +1,19 @@
--- What a condition with NOT before CHANGED alone says, and its first fault. Tests are counted from the left.
-use Rattle.std.specs.Prelude.{ℕ, ◌+◌, Bool, true, false, Result, Ok, Err}
+-- What a condition says, and its first fault. Tests are counted from the left.
+use Rattle.std.specs.Prelude.{ℕ, ◌+◌, Result, Ok, Err}
 use Rattle.jql_syntax.specs.Tree.{Tree, single, negation, all_of, any_of, Trees, no_trees, tree}
-use Rattle.jql_bound.specs.Condition.{Condition, now, past, all_of as all_hold, any_of as any_holds, Conditions, no_conditions, condition}
-use Rattle.jql_bound.specs.declared.past.PastLeaf.{PastLeaf}
-use Rattle.jql_bound.specs.declared.past.PastTest.{PastTest}
-use Rattle.jql_bound.specs.declared.past.PastTest.TheVariants.{Changed, NotChanged}
-use Rattle.jql_grammar.specs.declared.fault.Kind.{Kind}
+use Rattle.jql_bound.specs.Condition.{Condition, all_of as all_hold, any_of as any_holds, Conditions, no_conditions, condition}
+use Rattle.jql_bound.specs.Negation.{negation as negated}
+use Rattle.jql_grammar.specs.declared.fault.FaultKind.{FaultKind}
 use Rattle.jql_grammar.specs.Steps.{made, made_of_both}
 use Rattle.jql_grammar.specs.Scope.{Scope}
 use Rattle.jql_grammar.specs.Leaves.{leaf_in}
 
 -- the number of the test or sort key that is at fault, and what is wrong
-pub record Fault : Type 0 where
+pub record PlacedFault : Type 0 where
   pub place : ℕ
-  pub kind : Kind
+  pub kind : FaultKind
 
-abbrev pub placed : {A : Type 0} → ℕ → Result A Kind → Result A Fault
+abbrev pub placed : {A : Type 0} → ℕ → Result A FaultKind → Result A PlacedFault
 placed place (Ok x) = Ok x
 placed place (Err kind) = Err (record { place = place; kind = kind })
 
@@ -31,28 +29,14 @@ abbrev mutual
   tests_in no_trees = 0
   tests_in (tree q qs) = tests q + tests_in qs
 
--- NOT of CHANGED
-abbrev pub denied_test : PastTest → PastTest
-denied_test (Changed xs) = NotChanged xs
-denied_test test = test
-
-abbrev pub denied : Condition → Condition
-denied (past leaf) = past (record leaf { test = denied_test leaf.test })
-denied c = c
-
--- all of several, or any of them
-abbrev pub joined : Bool → Conditions → Condition
-joined true cs = all_hold cs
-joined false cs = any_holds cs
-
--- the condition, whose first test has this number
+-- the condition, whose first test has this number; NOT of a condition is its negation
 abbrev mutual
-  pub condition_in : Scope → ℕ → Tree → Result Condition Fault
+  pub condition_in : Scope → ℕ → Tree → Result Condition PlacedFault
   condition_in scope n (single leaf) = placed n (leaf_in scope leaf)
-  condition_in scope n (negation q) = made denied (condition_in scope n q)
+  condition_in scope n (negation q) = made negated (condition_in scope n q)
   condition_in scope n (all_of qs) = made all_hold (conditions_in scope n qs)
   condition_in scope n (any_of qs) = made any_holds (conditions_in scope n qs)
 
-  pub conditions_in : Scope → ℕ → Trees → Result Conditions Fault
+  pub conditions_in : Scope → ℕ → Trees → Result Conditions PlacedFault
   conditions_in scope n no_trees = Ok no_conditions
   conditions_in scope n (tree q qs) = made_of_both condition (condition_in scope n q) (conditions_in scope (n + tests q) qs)

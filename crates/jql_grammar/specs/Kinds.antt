@@ -12,8 +12,8 @@ use Rattle.jql_bound.specs.declared.leaf.Subject.{Subject}
 use Rattle.jql_bound.specs.declared.leaf.Subject.TheVariants.{Field as Held, Project as TheProject, Key as TheKey, Created, Updated}
 use Rattle.jql_bound.specs.declared.order.SortField.{SortField}
 use Rattle.jql_bound.specs.declared.order.SortField.TheVariants.{Subject as TheSubject, StatusCategory, Rank}
-use Rattle.jql_grammar.specs.declared.fault.Kind.{Kind as Fault}
-use Rattle.jql_grammar.specs.declared.fault.Kind.TheVariants.{UnknownField, OperatorNotForField}
+use Rattle.jql_grammar.specs.declared.fault.FaultKind.{FaultKind}
+use Rattle.jql_grammar.specs.declared.fault.FaultKind.TheVariants.{UnknownField, OperatorNotForField}
 use Rattle.jql_grammar.specs.declared.column.ValueKind.{ValueKind}
 use Rattle.jql_grammar.specs.declared.column.ValueKind.TheVariants.{Text, Choice, Priority, Resolution, User, Versions, Labels, Date, Number, Sprint, Project, Key, Category}
 use Rattle.jql_grammar.specs.declared.column.Column.{Column}
@@ -45,20 +45,20 @@ kind_numbered fields field =
     else (if field.0 == number.SPRINT.0 then Some Sprint
     else option_map own_kind (own_field fields field.0))))))))))
 
-abbrev pub kind_of : List OwnField → Subject → Option ValueKind
-kind_of fields (Held field) = kind_numbered fields field
-kind_of fields TheProject = Some Project
-kind_of fields TheKey = Some Key
-kind_of fields Created = Some Date
-kind_of fields Updated = Some Date
+abbrev pub value_kind_of : List OwnField → Subject → Option ValueKind
+value_kind_of fields (Held field) = kind_numbered fields field
+value_kind_of fields TheProject = Some Project
+value_kind_of fields TheKey = Some Key
+value_kind_of fields Created = Some Date
+value_kind_of fields Updated = Some Date
 
 -- what a comparison looks at: the category of a status is a question to the field status, and rank is never compared
-abbrev pub column_of : List OwnField → SortField → Result Column Fault
-column_of fields (TheSubject subject) = made (λ kind. record { subject = subject; kind = kind }) (some_or UnknownField (kind_of fields subject))
+abbrev pub column_of : List OwnField → SortField → Result Column FaultKind
+column_of fields (TheSubject subject) = made (λ kind. record { subject = subject; kind = kind }) (some_or UnknownField (value_kind_of fields subject))
 column_of fields StatusCategory = Ok (record { subject = Held number.STATUS; kind = Category })
 column_of fields Rank = Err OperatorNotForField
 
-abbrev pub column_in : List OwnField → Field → Result Column Fault
+abbrev pub column_in : List OwnField → Field → Result Column FaultKind
 column_in fields field = if_some UnknownField (column_of fields) (field_in fields field)
 
 -- ---- the operators of a field; IS and IS NOT are of all that are compared

@@ -8,11 +8,10 @@ pub mod Calls
 pub mod Dates
 pub mod Items
 pub mod Predicates
-pub mod Negation
 pub mod Leaves
-pub mod Asked
 pub mod Conditions
+pub mod Asked
 pub mod Sorting
-pub mod Bound
+pub mod Binding
 pub mod Laws
 pub mod First

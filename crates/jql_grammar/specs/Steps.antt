@@ -1,6 +1,6 @@
 -- Steps that may be refused, one after the other: the first refusal is the answer.
 use Rattle.std.specs.Prelude.{◌≡◌, ℕ, List, [], ◌∷◌, ◌++◌, Bool, true, false, if◌then◌else◌, Option, Some, None, Result, Ok, Err}
-use Rattle.jql_grammar.specs.declared.fault.Kind.{Kind}
+use Rattle.jql_grammar.specs.declared.fault.FaultKind.{FaultKind}
 use Rattle.jql_grammar.specs.declared.fault.Stop.{Stop}
 use Rattle.jql_grammar.specs.declared.fault.Stop.TheVariants.{At, Memory}
 
@@ -49,6 +49,6 @@ abbrev pub if_allowed : {A E : Type 0} → E → Bool → Result A E → Result 
 if_allowed fault allowed r = if allowed then r else Err fault
 
 -- the code stopped because the step is refused, or memory ran out
-abbrev pub Stops : {A : Type 0} → Result A Kind → Stop → Type 0
+abbrev pub Stops : {A : Type 0} → Result A FaultKind → Stop → Type 0
 Stops r Memory = Unit {0}
 Stops r (At kind) = r ≡ Err kind

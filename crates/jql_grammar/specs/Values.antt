@@ -15,25 +15,25 @@ use Rattle.field_forms.specs.Values.{is_label}
 use Rattle.relative_dates.specs.Reading.{read_term}
 use Rattle.jql_bound.specs.declared.operand.Operand.{Operand}
 use Rattle.jql_bound.specs.declared.operand.Operand.TheVariants as operand
-use Rattle.jql_grammar.specs.declared.fault.Kind.{Kind}
-use Rattle.jql_grammar.specs.declared.fault.Kind.TheVariants.{UnknownValue, UnknownUserOrGroup}
+use Rattle.jql_grammar.specs.declared.fault.FaultKind.{FaultKind}
+use Rattle.jql_grammar.specs.declared.fault.FaultKind.TheVariants.{UnknownValue, UnknownUserOrGroup}
 use Rattle.jql_grammar.specs.declared.column.ValueKind.{ValueKind}
 use Rattle.jql_grammar.specs.declared.column.ValueKind.TheVariants.{Text, Choice, Priority, Resolution, User, Versions, Labels, Date, Number, Sprint, Project, Key, Category as TheCategory}
 use Rattle.jql_grammar.specs.Steps.{some_or}
-use Rattle.jql_grammar.specs.Scope.{Scope, names_in}
+use Rattle.jql_grammar.specs.Scope.{Scope}
 use Rattle.jql_grammar.specs.Fields.{is_named}
 use Rattle.jql_grammar.specs.Forms.{number_in, is_issue_key, category_named, is_same_category}
 
 -- a choice of the field of that number
 abbrev pub choice_in : Scope → ℕ → List ℕ → Option Operand
-choice_in scope field text = option_map (λ place. operand.Choice (record { 0 = place })) (choice_named (names_in scope) field text)
+choice_in scope field text = option_map (λ place. operand.Choice (record { 0 = place })) (choice_named scope.names field text)
 
 -- Unresolved is what a resolution is called that isn't there
 abbrev pub resolution_in : Scope → List ℕ → Option Operand
 resolution_in scope text = if is_named text (codes "Unresolved") then Some operand.Empty else choice_in scope 8 text
 
-abbrev pub user_in : Scope → List ℕ → Result Operand Kind
-user_in scope text = some_or UnknownUserOrGroup (option_map (λ place. operand.User (record { 0 = place })) (place_named text scope.setup.users))
+abbrev pub user_in : Scope → List ℕ → Result Operand FaultKind
+user_in scope text = some_or UnknownUserOrGroup (option_map (λ place. operand.User (record { 0 = place })) (place_named text scope.names.users))
 
 abbrev pub label_in : List ℕ → Option Operand
 label_in text = if is_label text then Some (operand.Label text) else None
@@ -44,7 +44,7 @@ number_or_none (Some (value.Number z)) = Some (operand.Number z)
 number_or_none _ = None
 
 abbrev pub number_operand : Scope → ℕ → List ℕ → Option Operand
-number_operand scope field text = number_or_none (value_of (names_in scope) field text)
+number_operand scope field text = number_or_none (value_of scope.names field text)
 
 -- a sprint and an issue need not be there, and a project must
 abbrev pub sprint_in : List ℕ → Option Operand
@@ -54,7 +54,7 @@ abbrev pub issue_in : List ℕ → Option Operand
 issue_in text = if is_issue_key text then Some (operand.Issue text) else None
 
 abbrev pub project_in : Scope → List ℕ → Option AProject
-project_in scope text = option_and_then (slice_get scope.setup.project) (place_named text (map (λ p. p.key) scope.setup.project))
+project_in scope text = option_and_then (slice_get scope.projects) (place_named text (map (λ p. p.key) scope.projects))
 
 -- those statuses, from a place on, that are of the category
 abbrev pub statuses_of : Category → ℕ → List Status → List ChoiceNo
@@ -64,10 +64,10 @@ statuses_of category place (status ∷ statuses) =
     else statuses_of category (place + 1) statuses
 
 abbrev pub category_in : Scope → List ℕ → Option Operand
-category_in scope text = option_map (λ category. operand.Statuses (statuses_of category 0 scope.setup.status)) (category_named text)
+category_in scope text = option_map (λ category. operand.Statuses (statuses_of category 0 scope.statuses)) (category_named text)
 
 -- the value that a text stands for
-unfoldable pub value_in : Scope → ValueKind → List ℕ → Result Operand Kind
+unfoldable pub value_in : Scope → ValueKind → List ℕ → Result Operand FaultKind
 value_in scope Text text = Err UnknownValue
 value_in scope (Choice field) text = some_or UnknownValue (choice_in scope field.0 text)
 value_in scope Priority text = some_or UnknownValue (choice_in scope 7 text)

@@ -6,7 +6,7 @@ ghost use Rattle.jql_grammar.specs.Scope.{scope_of};
 ghost use Rattle.jql_grammar.specs.Calls.{without, user_called, term_or_fault, date_called, value_called, sprint_function, list_function, group_in, members_called, list_called, list_alone, any_called};
 
 use crate::column::ValueKind;
-use crate::fault::{Kind, Stop};
+use crate::fault::{FaultKind, Stop};
 use crate::field_name::is_named;
 use crate::scope::Binder;
 use fields::Text;
@@ -30,7 +30,7 @@ fn without(operand: Operand, argument: &Option<Text>) -> Result<Operand, Stop>
 {
     match argument {
         None => Ok(operand),
-        Some(_) => Err(Stop::At(Kind::UnknownValue)),
+        Some(_) => Err(Stop::At(FaultKind::UnknownValue)),
     }
 }
 
@@ -42,7 +42,7 @@ fn user_called(binder: &Binder<'_>, call: &Call) -> Result<Operand, Stop>
     if is_named(call.name.as_str(), "currentUser") {
         without(Operand::User(binder.caller), &call.argument)
     } else {
-        Err(Stop::At(Kind::UnknownFunction))
+        Err(Stop::At(FaultKind::UnknownFunction))
     }
 }
 
@@ -52,8 +52,8 @@ fn term_or_fault(answer: TermCall) -> Result<Term, Stop>
 {
     match answer {
         TermCall::Is(term) => Ok(term),
-        TermCall::NoSuchName => Err(Stop::At(Kind::UnknownFunction)),
-        TermCall::BadArgument => Err(Stop::At(Kind::UnknownValue)),
+        TermCall::NoSuchName => Err(Stop::At(FaultKind::UnknownFunction)),
+        TermCall::BadArgument => Err(Stop::At(FaultKind::UnknownValue)),
     }
 }
 
@@ -89,7 +89,7 @@ pub(crate) fn value_called(
             let term = date_called(call)?;
             Ok(Operand::Date(term))
         }
-        _ => Err(Stop::At(Kind::UnknownFunction)),
+        _ => Err(Stop::At(FaultKind::UnknownFunction)),
     }
 }
 
@@ -133,11 +133,11 @@ fn members_called(binder: &Binder<'_>, argument: &Option<Text>) -> Result<Operan
     ensures err { IfErr result (Stops (members_called (scope_of binder.now) argument.now)) }
 {
     let Some(name) = argument else {
-        return Err(Stop::At(Kind::UnknownValue));
+        return Err(Stop::At(FaultKind::UnknownValue));
     };
     match group_in(binder, name.as_str()) {
         Some(operand) => Ok(operand),
-        None => Err(Stop::At(Kind::UnknownUserOrGroup)),
+        None => Err(Stop::At(FaultKind::UnknownUserOrGroup)),
     }
 }
 
@@ -162,7 +162,7 @@ pub(crate) fn list_alone(binder: &Binder<'_>, kind: ValueKind, call: &Call) -> R
 {
     match list_function(kind, call.name.as_str()) {
         Some(function) => list_called(binder, function, &call.argument),
-        None => Err(Stop::At(Kind::UnknownFunction)),
+        None => Err(Stop::At(FaultKind::UnknownFunction)),
     }
 }
 

@@ -1,9 +1,9 @@
 // What a field is compared with, and by which operators.
 ghost use Rattle.std.specs.Prelude.{◌≡◌, IfOk, IfErr};
 ghost use Rattle.jql_grammar.specs.Steps.{Stops};
-ghost use Rattle.jql_grammar.specs.Kinds.{own_kind, kind_numbered, kind_of, column_of, column_in, has_equality, has_order, has_search, history_field};
+ghost use Rattle.jql_grammar.specs.Kinds.{own_kind, kind_numbered, value_kind_of, column_of, column_in, has_equality, has_order, has_search, history_field};
 
-use crate::fault::{Kind, Stop};
+use crate::fault::{FaultKind, Stop};
 use crate::field_name::{field_in, own_field};
 use fields::{Field as OwnField, FieldKind, FieldNo, Setup};
 use jql_bound::{SortField, Subject};
@@ -68,8 +68,8 @@ fn kind_numbered(fields: &[OwnField], no: FieldNo) -> Option<ValueKind>
     }
 }
 
-fn kind_of(fields: &[OwnField], subject: Subject) -> Option<ValueKind>
-    ensures { result ≡ kind_of fields.now subject }
+fn value_kind_of(fields: &[OwnField], subject: Subject) -> Option<ValueKind>
+    ensures { result ≡ value_kind_of fields.now subject }
 {
     match subject {
         Subject::Field(no) => kind_numbered(fields, no),
@@ -84,15 +84,15 @@ fn column_of(fields: &[OwnField], field: SortField) -> Result<Column, Stop>
     ensures err { IfErr result (Stops (column_of fields.now field)) }
 {
     match field {
-        SortField::Subject(subject) => match kind_of(fields, subject) {
+        SortField::Subject(subject) => match value_kind_of(fields, subject) {
             Some(kind) => Ok(Column { subject, kind }),
-            None => Err(Stop::At(Kind::UnknownField)),
+            None => Err(Stop::At(FaultKind::UnknownField)),
         },
         SortField::StatusCategory => Ok(Column {
             subject: Subject::Field(FieldNo::STATUS),
             kind: ValueKind::Category,
         }),
-        SortField::Rank => Err(Stop::At(Kind::OperatorNotForField)),
+        SortField::Rank => Err(Stop::At(FaultKind::OperatorNotForField)),
     }
 }
 
@@ -103,7 +103,7 @@ pub(crate) fn column_in(setup: &Setup, field: &Field) -> Result<Column, Stop>
 {
     match field_in(setup, field) {
         Some(field) => column_of(setup.field.as_slice(), field),
-        None => Err(Stop::At(Kind::UnknownField)),
+        None => Err(Stop::At(FaultKind::UnknownField)),
     }
 }
 

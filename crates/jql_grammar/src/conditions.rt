@@ -3,10 +3,9 @@ ghost use Rattle.std.specs.Prelude.{◌≡◌, ◌+◌, IfOk, IfErr, map};
 ghost use Rattle.jql_syntax.specs.View.{view as tree, views as trees};
 ghost use Rattle.jql_bound.specs.Condition.{view, views};
 ghost use Rattle.jql_grammar.specs.Scope.{scope_of};
-ghost use Rattle.jql_grammar.specs.Negation.{push, push_each};
-ghost use Rattle.jql_grammar.specs.Conditions.{tests, tests_in, condition_in, conditions_in};
-ghost use Rattle.jql_grammar.specs.Bound.{Tells, fault_at};
-ghost use Rattle.jql_grammar.specs.Conditions.{joined};
+ghost use Rattle.jql_grammar.specs.Conditions.{tests, tests_in};
+ghost use Rattle.jql_grammar.specs.Asked.{condition_asked, conditions_asked, all_or_any};
+ghost use Rattle.jql_grammar.specs.Binding.{Tells, fault_at};
 ghost use Rattle.jql_syntax.specs.Tree.{single};
 
 use crate::fault::{BindFault, Stop};
@@ -35,9 +34,9 @@ fn bind_leaf(
     place: usize,
     leaf: &Leaf,
 ) -> Result<(Cond, usize), BindFault>
-    ensures ok { IfOk result (λ x. condition_in (scope_of binder.now) place (push denied (single leaf.now)) ≡ Ok (view x.0)) }
+    ensures ok { IfOk result (λ x. condition_asked (scope_of binder.now) denied place (single leaf.now) ≡ Ok (view x.0)) }
     ensures next { IfOk result (λ x. x.1 ≡ place + 1) }
-    ensures err { IfErr result (Tells (condition_in (scope_of binder.now) place (push denied (single leaf.now)))) }
+    ensures err { IfErr result (Tells (condition_asked (scope_of binder.now) denied place (single leaf.now))) }
 {
     let Some(next) = place.checked_add(1) else {
         return Err(BindFault::Memory);
@@ -49,8 +48,8 @@ fn bind_leaf(
 }
 
 // All of several conditions, or any of them.
-fn joined(all: bool, conds: Vec<Cond>) -> Cond
-    ensures { view result ≡ joined all (views conds.items) }
+fn all_or_any(all: bool, conds: Vec<Cond>) -> Cond
+    ensures { view result ≡ all_or_any all (views conds.items) }
 {
     if all {
         Cond::All(conds)
@@ -59,29 +58,29 @@ fn joined(all: bool, conds: Vec<Cond>) -> Cond
     }
 }
 
-/// The condition, or where it is denied NOT of it, whose first test has that number; and the number after its last.
+/// The condition, or where it is denied its negation, whose first test has that number; and the number after its last.
 #[cycle(conditions)]
-#[tactic(auto, using(crate::proofs::Denying::all_pushed, crate::proofs::Denying::any_pushed, crate::proofs::Denying::made_told))]
+#[tactic(auto, using(crate::proofs::Denying::not_is_asked, crate::proofs::Denying::all_asked, crate::proofs::Denying::any_asked, crate::proofs::Denying::made_told))]
 pub(crate) fn bind_expr(
     binder: &Binder<'_>,
     denied: bool,
     place: usize,
     expr: &Expr,
 ) -> Result<(Cond, usize), BindFault>
-    ensures ok { IfOk result (λ x. condition_in (scope_of binder.now) place (push denied (tree expr.now)) ≡ Ok (view x.0)) }
+    ensures ok { IfOk result (λ x. condition_asked (scope_of binder.now) denied place (tree expr.now) ≡ Ok (view x.0)) }
     ensures next { IfOk result (λ x. x.1 ≡ place + tests (tree expr.now)) }
-    ensures err { IfErr result (Tells (condition_in (scope_of binder.now) place (push denied (tree expr.now)))) }
+    ensures err { IfErr result (Tells (condition_asked (scope_of binder.now) denied place (tree expr.now))) }
 {
     match expr {
         Expr::Leaf(leaf) => bind_leaf(binder, denied, place, leaf),
         Expr::Not(inner) => bind_expr(binder, !denied, place, inner),
         Expr::All(exprs) => {
             let (conds, next) = bind_exprs(binder, denied, place, exprs.as_slice())?;
-            Ok((joined(!denied, conds), next))
+            Ok((all_or_any(!denied, conds), next))
         }
         Expr::Any(exprs) => {
             let (conds, next) = bind_exprs(binder, denied, place, exprs.as_slice())?;
-            Ok((joined(denied, conds), next))
+            Ok((all_or_any(denied, conds), next))
         }
     }
 }
@@ -94,9 +93,9 @@ fn bind_exprs(
     place: usize,
     exprs: &[Expr],
 ) -> Result<(Vec<Cond>, usize), BindFault>
-    ensures ok { IfOk result (λ x. conditions_in (scope_of binder.now) place (push_each denied (trees exprs.now)) ≡ Ok (views x.0.items)) }
+    ensures ok { IfOk result (λ x. conditions_asked (scope_of binder.now) denied place (trees exprs.now) ≡ Ok (views x.0.items)) }
     ensures next { IfOk result (λ x. x.1 ≡ place + tests_in (trees exprs.now)) }
-    ensures err { IfErr result (Tells (conditions_in (scope_of binder.now) place (push_each denied (trees exprs.now)))) }
+    ensures err { IfErr result (Tells (conditions_asked (scope_of binder.now) denied place (trees exprs.now))) }
 {
     let mut conds = Vec::new(binder.alloc);
     let mut next = place;

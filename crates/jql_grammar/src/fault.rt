@@ -1,6 +1,6 @@
 // Why a query can't be tied to a setup.
 ghost use Rattle.std.specs.Prelude.{◌≡◌};
-ghost use Rattle.jql_grammar.specs.Bound.{number_of_kind};
+ghost use Rattle.jql_grammar.specs.Binding.{number_of_kind};
 ghost use Rattle.jql_grammar.specs.declared.fault.Stop.TheVariants.{Memory as StopMemory};
 ghost use Rattle.jql_grammar.specs.declared.fault.BindFault.TheVariants.{Memory as BindMemory};
 
@@ -9,7 +9,7 @@ use std::alloc::{AllocError, AllocFailed};
 
 /// What is wrong with a test or a sort key.
 #[derive(Clone, Copy, PartialEq, Eq)]
-pub(crate) enum Kind {
+pub(crate) enum FaultKind {
     UnknownField,
     UnknownValue,
     OperatorNotForField,
@@ -17,17 +17,17 @@ pub(crate) enum Kind {
     UnknownUserOrGroup,
 }
 
-impl Kind {
+impl FaultKind {
     /// The number by which it is told.
     pub(crate) fn number(self) -> u8
         ensures { result ≡ number_of_kind self }
     {
         match self {
-            Kind::UnknownField => 11,
-            Kind::UnknownValue => 12,
-            Kind::OperatorNotForField => 13,
-            Kind::UnknownFunction => 14,
-            Kind::UnknownUserOrGroup => 15,
+            FaultKind::UnknownField => 11,
+            FaultKind::UnknownValue => 12,
+            FaultKind::OperatorNotForField => 13,
+            FaultKind::UnknownFunction => 14,
+            FaultKind::UnknownUserOrGroup => 15,
         }
     }
 }
@@ -36,7 +36,7 @@ impl Kind {
 #[derive(Clone, Copy, PartialEq, Eq)]
 pub(crate) enum Stop {
     Memory,
-    At(Kind),
+    At(FaultKind),
 }
 
 impl From<Memory> for Stop {

@@ -6,7 +6,7 @@ ghost use Rattle.jql_grammar.specs.Scope.{scope_of};
 ghost use Rattle.jql_grammar.specs.Leaves.{past_leaf, was_values, change_sides, was_in, was_among, changed_in};
 
 use crate::column::Column;
-use crate::fault::{Kind, Stop};
+use crate::fault::{FaultKind, Stop};
 use crate::items::{alone, item_in, members_in};
 use crate::predicates::{endpoints_in, other_aspects, predicates_in};
 use crate::scope::Binder;
@@ -56,7 +56,7 @@ pub(crate) fn was_in(
     ensures err { IfErr result (Stops (was_in (scope_of binder.now) column holds item.now predicates.now)) }
 {
     let Some(field) = column.history_field() else {
-        return Err(Stop::At(Kind::OperatorNotForField));
+        return Err(Stop::At(FaultKind::OperatorNotForField));
     };
     let operand = item_in(binder, column.kind, item)?;
     let operands = alone(binder.alloc, operand)?;
@@ -76,7 +76,7 @@ pub(crate) fn was_among(
     ensures err { IfErr result (Stops (was_among (scope_of binder.now) column holds members.now predicates.now)) }
 {
     let Some(field) = column.history_field() else {
-        return Err(Stop::At(Kind::OperatorNotForField));
+        return Err(Stop::At(FaultKind::OperatorNotForField));
     };
     let operands = members_in(binder, column.kind, members)?;
     let predicates = predicates_in(binder, predicates)?;
@@ -94,7 +94,7 @@ pub(crate) fn changed_in(
     ensures err { IfErr result (Stops (changed_in (scope_of binder.now) column holds aspects.now)) }
 {
     let Some(field) = column.history_field() else {
-        return Err(Stop::At(Kind::OperatorNotForField));
+        return Err(Stop::At(FaultKind::OperatorNotForField));
     };
     let sides = endpoints_in(binder, column.kind, aspects)?;
     let predicates = other_aspects(binder, aspects)?;

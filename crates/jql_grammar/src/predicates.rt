@@ -7,7 +7,7 @@ ghost use Rattle.jql_grammar.specs.Predicates.{predicate_in, predicates_in, endp
 
 use crate::calls::date_called;
 use crate::column::ValueKind;
-use crate::fault::{Kind, Stop};
+use crate::fault::{FaultKind, Stop};
 use crate::items::{authors_in, choice_of};
 use crate::scope::Binder;
 use fields::Sequence;
@@ -23,7 +23,7 @@ fn date_in(value: &Value) -> Result<Term, Stop>
     match value {
         Value::Text(text) => match Term::read(text.as_str()) {
             Some(term) => Ok(term),
-            None => Err(Stop::At(Kind::UnknownValue)),
+            None => Err(Stop::At(FaultKind::UnknownValue)),
         },
         Value::Call(call) => date_called(call),
     }

@@ -6,7 +6,7 @@ ghost use Rattle.jql_grammar.specs.Scope.{scope_of};
 ghost use Rattle.jql_grammar.specs.Leaves.{present, emptiness, among, containing, equal_to, equality_in, membership_in, order_in, searched, search_in, comparison_in};
 
 use crate::column::Column;
-use crate::fault::{Kind, Stop};
+use crate::fault::{FaultKind, Stop};
 use crate::items::{alone, item_in, members_in, operand_in};
 use crate::scope::Binder;
 use crate::words::words_of;
@@ -79,7 +79,7 @@ pub(crate) fn equality_in(
     ensures err { IfErr result (Stops (equality_in (scope_of binder.now) column holds item.now)) }
 {
     if !column.has_equality() {
-        return Err(Stop::At(Kind::OperatorNotForField));
+        return Err(Stop::At(FaultKind::OperatorNotForField));
     }
     let operand = item_in(binder, column.kind, item)?;
     let operator = equal_to(binder.alloc, holds, operand)?;
@@ -97,7 +97,7 @@ pub(crate) fn membership_in(
     ensures err { IfErr result (Stops (membership_in (scope_of binder.now) column holds members.now)) }
 {
     if !column.has_equality() {
-        return Err(Stop::At(Kind::OperatorNotForField));
+        return Err(Stop::At(FaultKind::OperatorNotForField));
     }
     let operands = members_in(binder, column.kind, members)?;
     Ok(present(column, among(holds, operands)))
@@ -114,7 +114,7 @@ fn order_in(
     ensures err { IfErr result (Stops (order_in (scope_of binder.now) column sign value.now)) }
 {
     if !column.has_order() {
-        return Err(Stop::At(Kind::OperatorNotForField));
+        return Err(Stop::At(FaultKind::OperatorNotForField));
     }
     let operand = operand_in(binder, column.kind, value)?;
     Ok(present(column, Operator::Compares(sign, operand)))
@@ -129,7 +129,7 @@ fn searched(alloc: Global, value: &Value) -> Result<Sequence<Word>, Stop>
             let words = words_of(alloc, text.as_str())?;
             Ok(words)
         }
-        Value::Call(_) => Err(Stop::At(Kind::UnknownFunction)),
+        Value::Call(_) => Err(Stop::At(FaultKind::UnknownFunction)),
     }
 }
 
@@ -139,7 +139,7 @@ fn search_in(alloc: Global, column: Column, holds: bool, value: &Value) -> Resul
     ensures err { IfErr result (Stops (search_in column holds value.now)) }
 {
     if !column.has_search() {
-        return Err(Stop::At(Kind::OperatorNotForField));
+        return Err(Stop::At(FaultKind::OperatorNotForField));
     }
     let words = searched(alloc, value)?;
     Ok(present(column, containing(holds, words)))

@@ -3,10 +3,10 @@ ghost use Rattle.std.specs.Prelude.{◌≡◌, IfOk, IfErr};
 ghost use Rattle.jql_grammar.specs.Steps.{Stops};
 ghost use Rattle.jql_grammar.specs.Scope.{scope_of};
 ghost use Rattle.jql_grammar.specs.Sorting.{is_sortable, direction_of, key_in, keys_in};
-ghost use Rattle.jql_grammar.specs.Bound.{Tells};
+ghost use Rattle.jql_grammar.specs.Binding.{Tells};
 
 use crate::conditions::fault_at;
-use crate::fault::{BindFault, Kind, Stop};
+use crate::fault::{BindFault, FaultKind, Stop};
 use crate::field_name::field_in;
 use crate::scope::Binder;
 use fields::{Sequence, Setup};
@@ -36,7 +36,7 @@ fn key_in(setup: &Setup, key: &SortKey) -> Result<OrderKey, Stop>
     ensures err { IfErr result (Stops (key_in setup.now.field key.now)) }
 {
     let Some(field) = field_in(setup, &key.field) else {
-        return Err(Stop::At(Kind::UnknownField));
+        return Err(Stop::At(FaultKind::UnknownField));
     };
     if is_sortable(field) {
         Ok(OrderKey {
@@ -44,7 +44,7 @@ fn key_in(setup: &Setup, key: &SortKey) -> Result<OrderKey, Stop>
             direction: direction_of(key.direction),
         })
     } else {
-        Err(Stop::At(Kind::OperatorNotForField))
+        Err(Stop::At(FaultKind::OperatorNotForField))
     }
 }
 

@@ -8,7 +8,7 @@ ghost use Rattle.jql_grammar.specs.Values.{choice_in, resolution_in, user_in, la
 
 use crate::column::ValueKind;
 use crate::digits::number_in;
-use crate::fault::{Kind, Stop};
+use crate::fault::{FaultKind, Stop};
 use crate::field_name::is_named;
 use crate::forms::{category_named, is_issue_key, is_same_category};
 use crate::scope::Binder;
@@ -44,7 +44,7 @@ fn user_in(binder: &Binder<'_>, text: &str) -> Result<Operand, Stop>
 {
     match binder.setup.user_named(text) {
         Some(no) => Ok(Operand::User(no)),
-        None => Err(Stop::At(Kind::UnknownUserOrGroup)),
+        None => Err(Stop::At(FaultKind::UnknownUserOrGroup)),
     }
 }
 
@@ -160,12 +160,12 @@ fn date_in(text: &str) -> Option<Operand>
 }
 
 fn or_unknown(operand: Option<Operand>) -> Result<Operand, Stop>
-    ensures ok { IfOk result (λ x. some_or Kind.UnknownValue operand ≡ Ok x) }
-    ensures err { IfErr result (Stops (some_or Kind.UnknownValue operand)) }
+    ensures ok { IfOk result (λ x. some_or FaultKind.UnknownValue operand ≡ Ok x) }
+    ensures err { IfErr result (Stops (some_or FaultKind.UnknownValue operand)) }
 {
     match operand {
         Some(operand) => Ok(operand),
-        None => Err(Stop::At(Kind::UnknownValue)),
+        None => Err(Stop::At(FaultKind::UnknownValue)),
     }
 }
 
@@ -176,7 +176,7 @@ pub(crate) fn value_in(binder: &Binder<'_>, kind: ValueKind, text: &str) -> Resu
     ensures err { IfErr result (Stops (value_in (scope_of binder.now) kind text.now)) }
 {
     match kind {
-        ValueKind::Text => Err(Stop::At(Kind::UnknownValue)),
+        ValueKind::Text => Err(Stop::At(FaultKind::UnknownValue)),
         ValueKind::Choice(field) => or_unknown(choice_in(binder, field, text)),
         ValueKind::Priority => or_unknown(choice_in(binder, FieldNo::PRIORITY, text)),
         ValueKind::Resolution => or_unknown(resolution_in(binder, text)),

@@ -6,7 +6,7 @@ ghost use Rattle.fields.specs.SetupParts.{parts, may};
 ghost use Rattle.jql_bound.specs.Condition.{view};
 ghost use Rattle.jql_meaning.specs.Order.{issue_cmp};
 ghost use Rattle.jql_syntax.specs.View.{view as tree};
-ghost use Rattle.jql_grammar.specs.Bound.{bound_in};
+ghost use Rattle.jql_grammar.specs.Binding.{bound_in};
 ghost use Rattle.jql_grammar.specs.Scope.{scope_in};
 ghost use Rattle.jql_meaning.specs.Truth.{query_holds};
 ghost use Rattle.tracker_machine.specs.Search.{asked, bound_or_fault, found, is_found, listed, search_refusal, search_answer, search_answer_of, surroundings_in};

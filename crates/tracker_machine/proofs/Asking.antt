@@ -11,13 +11,13 @@ use Rattle.jql_syntax.specs.declared.query.SortKey.{SortKey}
 use Rattle.jql_syntax.proofs.Whole.{one_query}
 use Rattle.jql_syntax.proofs.Fronts.{one_text_fault, not_query}
 use Rattle.jql_syntax.proofs.Total.{text_decided}
-use Rattle.jql_grammar.specs.Bound.{bound_in}
-use Rattle.jql_grammar.specs.Scope.{Scope}
+use Rattle.jql_grammar.specs.Binding.{bound_in}
+use Rattle.jql_grammar.specs.Scope.{Scope, scope_by}
 use Rattle.tracker_calls.specs.declared.reply.Refusal.TheVariants as refusal
 use Rattle.tracker_machine.specs.Search.{asked, asked_by, bound_or_fault}
 
 abbrev scope : Parts → ℕ → Scope
-scope setup user = record { setup = setup; caller = record { 0 = user } }
+scope setup user = scope_by setup (record { 0 = user })
 
 query_is : (setup : Parts) (user : ℕ) (text : List ℕ) (q : Option Tree) (keys : List SortKey) (d : QueryOrFault text) → IsQuery text q keys
     → asked_by setup user text d ≡ bound_or_fault (bound_in (scope setup user) q keys)
