@@ -11,3 +11,6 @@ pub use keeper::{KeepFault, Keeper};
 pub use memory_keeper::MemoryKeeper;
 pub use never_fails::NeverFails;
 pub use row::{Row, RowOp};
+
+#[cfg(test)]
+mod tests;
