@@ -1,5 +1,6 @@
 -- How an issue's values are read as its share.
 use Rattle.std.specs.Prelude.{ℤ, pos, Bool, false, Option, Some, None}
+use Rattle.field_values.specs.declared.numbers.TheConstants.FieldNo as number
 use Rattle.field_values.specs.declared.numbers.ChoiceNo.{ChoiceNo}
 use Rattle.field_values.specs.declared.numbers.FieldNo.{FieldNo}
 use Rattle.field_values.specs.declared.numbers.SprintNo.{SprintNo}
@@ -8,13 +9,13 @@ use Rattle.field_values.specs.declared.value.Value.TheVariants as value
 use Rattle.burndown.specs.declared.share.Share.{Share}
 
 abbrev pub status : FieldNo
-status = record { 0 = 4 }
+status = number.STATUS
 
 abbrev pub points : FieldNo
-points = record { 0 = 12 }
+points = number.POINTS
 
 abbrev pub sprint : FieldNo
-sprint = record { 0 = 13 }
+sprint = number.SPRINT
 
 abbrev pub sprint_in : Value → Option SprintNo
 sprint_in (value.Sprint sprint) = Some sprint
