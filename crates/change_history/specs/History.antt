@@ -19,7 +19,7 @@ pub record History : Type 0 where
   pub entries : List Entry
 
 -- a history, and room for so many entries more
-pub record Kept : Type 0 where
+pub record RoomyHistory : Type 0 where
   pub history : History
   pub room : ℕ
 

@@ -53,10 +53,10 @@ impl Drop for Issue {
 
 impl Model for Issue {
     ghost use Rattle.std.specs.Prelude.{◌+◌, vec_len, vec_capacity};
-    ghost use Rattle.change_history.specs.History.{Kept};
+    ghost use Rattle.change_history.specs.History.{RoomyHistory};
     ghost use Rattle.change_history.specs.Places.{IsKept};
 
-    ghost Value = { Kept };
+    ghost Value = { RoomyHistory };
 
     ghost view = { λ i. record { history = record { no = i.no; key = i.key; change = i.change; at = i.at; author = i.author; opening = i.opening.items; entries = i.entries.items }; room = i.room } };
 

@@ -14,8 +14,8 @@ use Rattle.setup_drafts.specs.Statuses.{status_fault, status_of}
 use Rattle.setup_drafts.specs.Fields.{field_fault, field_of}
 use Rattle.setup_drafts.specs.Transitions.{transition_fault, transition_draft}
 use Rattle.setup_drafts.specs.Offsets.{offset_fault, offset_of, offsets_fault, offsets_in}
-use Rattle.setup_drafts.specs.Keys.{strange_in_tables, key_fault}
-use Rattle.setup_reading.specs.Ties.{group_unknown, group_tied, project_unknown, project_tied, transition_unknown, transition_tied, rights_unknown, rights_tied, tables_unknown, tables_tied, tie_fault_by, tied_by, tie_fault, tied}
+use Rattle.setup_drafts.specs.Keys.{unknown_in_tables, key_fault}
+use Rattle.setup_reading.specs.Resolving.{group_unknown, group_resolved, project_unknown, project_resolved, transition_unknown, transition_resolved, rights_unknown, rights_resolved, tables_unknown, tables_resolved, resolve_fault_by, resolved_by, resolve_fault, resolved}
 use Rattle.setup_reading.specs.Reading.{first_fault, parts_in, parts_or_fault, setup_in}
 use Rattle.setup_reading.specs.declared.built_in_text.TheConstants.{BUILT_IN}
 use Rattle.field_values.specs.Parts.{Parts}
@@ -24,7 +24,7 @@ use Rattle.fields.proofs.Sound.{ok_is}
 
 -- the parts that its text reads to
 pub built_in_reads : setup_in BUILT_IN.now ≡ Ok built_in_parts
-unfolding chars toml_on_literals field_named form_of choices_of value_of fits value_in test_of tests_of condition_of validator_of post_of head_fault head_of lists_fault lists_of rights_fault rights_of groups_fault groups_of projects_fault projects_of statuses_fault statuses_of transitions_fault transitions_of fields_fault fields_of tables_fault tables_of draft_fault draft_of group_fault group_draft project_fault project_draft status_fault status_of transition_fault transition_draft offsets_fault offsets_in strange_in_tables key_fault group_unknown project_unknown transition_unknown rights_unknown tables_unknown tie_fault_by tie_fault first_fault parts_in parts_or_fault setup_in group_tied project_tied transition_tied rights_tied tables_tied tied_by tied field_fault field_of offset_fault offset_of built_in_parts
+unfolding chars toml_on_literals field_named form_of choices_of value_of fits value_in test_of tests_of condition_of validator_of post_of head_fault head_of lists_fault lists_of rights_fault rights_of groups_fault groups_of projects_fault projects_of statuses_fault statuses_of transitions_fault transitions_of fields_fault fields_of tables_fault tables_of draft_fault draft_of group_fault group_draft project_fault project_draft status_fault status_of transition_fault transition_draft offsets_fault offsets_in unknown_in_tables key_fault group_unknown project_unknown transition_unknown rights_unknown tables_unknown resolve_fault_by resolve_fault first_fault parts_in parts_or_fault setup_in group_resolved project_resolved transition_resolved rights_resolved tables_resolved resolved_by resolved field_fault field_of offset_fault offset_of built_in_parts
 built_in_reads = refl
 
 pub reads_to : (parts : Parts) → setup_in BUILT_IN.now ≡ Ok parts → parts ≡ built_in_parts

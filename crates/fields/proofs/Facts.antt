@@ -15,7 +15,7 @@ use Rattle.field_forms.specs.declared.name_form.NameForm.{NameForm}
 use Rattle.setup_drafts.specs.Faults.{fault_if}
 use Rattle.field_forms.specs.Names.{is_among, first_double, AreDistinct}
 use Rattle.field_forms.specs.NameForms.{has_form}
-use Rattle.setup_drafts.specs.Cells.{new_name_fault, text_in, names_in, list_fault, names_fault, optional_names_fault, rules_fault, tables_fault, tables_in, crowd_fault}
+use Rattle.setup_drafts.specs.Cells.{new_name_fault, text_in, cell_names, list_fault, names_fault, optional_names_fault, rules_fault, tables_fault, tables_in, count_fault}
 use Rattle.setup_drafts.specs.Written.{all_texts, texts_of, all_tables, tables_of, count, has_fewer_than}
 use Rattle.setup_drafts.specs.Entries.{entries_fault}
 use Rattle.fields.specs.Sound.{IsNameList}
@@ -122,63 +122,63 @@ module _ (key : List ℕ) (form : NameForm) (least : ℕ) (most : Option ℕ) (d
       let many = none_second (fault_if (has_fewer_than least d) (Missing key)) _ none in
       not_not _ (not_faulty (not (option_map_or (list_all (has_form form)) (texts_of d) false)) (BadValue key) (none_first _ _ many))
 
-  list_crowd : crowd_fault key most (length (names_in (Some d))) ≡ None
-  list_crowd =
+  list_count : count_fault key most (length (cell_names (Some d))) ≡ None
+  list_count =
       let many = none_second (fault_if (has_fewer_than least d) (Missing key)) _ none in
       let formed = none_second (fault_if (not (option_map_or (list_all (has_form form)) (texts_of d) false)) (BadValue key)) _ many in
-      none_first (crowd_fault key most (length (names_in (Some d)))) _ formed
+      none_first (count_fault key most (length (cell_names (Some d)))) _ formed
 
-  list_single : option_map Duplicate (first_double [] (names_in (Some d))) ≡ None
+  list_single : option_map Duplicate (first_double [] (cell_names (Some d))) ≡ None
   list_single =
       let many = none_second (fault_if (has_fewer_than least d) (Missing key)) _ none in
       let formed = none_second (fault_if (not (option_map_or (list_all (has_form form)) (texts_of d) false)) (BadValue key)) _ many in
-      none_second (crowd_fault key most (length (names_in (Some d)))) _ formed
+      none_second (count_fault key most (length (cell_names (Some d)))) _ formed
 
-  list_enough : least ≤ length (names_in (Some d))
+  list_enough : least ≤ length (cell_names (Some d))
   list_enough = by_texts (texts_of d) refl where
-    by_texts : (texts : Option (List (List ℕ))) → texts_of d ≡ texts → least ≤ length (names_in (Some d))
+    by_texts : (texts : Option (List (List ℕ))) → texts_of d ≡ texts → least ≤ length (cell_names (Some d))
     by_texts None e = absurd (grind (arith, e, list_formed))
     by_texts (Some texts) e = grind (arith, e, enough_texts least d texts e list_many)
 
-  list_all_formed : list_all (has_form form) (names_in (Some d)) ≡ true
+  list_all_formed : list_all (has_form form) (cell_names (Some d)) ≡ true
   list_all_formed = by_texts (texts_of d) refl where
-    by_texts : (texts : Option (List (List ℕ))) → texts_of d ≡ texts → list_all (has_form form) (names_in (Some d)) ≡ true
+    by_texts : (texts : Option (List (List ℕ))) → texts_of d ≡ texts → list_all (has_form form) (cell_names (Some d)) ≡ true
     by_texts None e = absurd (grind (arith, e, list_formed))
     by_texts (Some texts) e = grind (arith, e, list_formed)
 
-  list_distinct : AreDistinct (names_in (Some d))
-  list_distinct = by_double (first_double [] (names_in (Some d))) refl list_single where
-    by_double : (double : Option (List ℕ)) → first_double [] (names_in (Some d)) ≡ double → option_map Duplicate (first_double [] (names_in (Some d))) ≡ None → AreDistinct (names_in (Some d))
-    by_double None e none = without_double [] (names_in (Some d)) no_pairs e
+  list_distinct : AreDistinct (cell_names (Some d))
+  list_distinct = by_double (first_double [] (cell_names (Some d))) refl list_single where
+    by_double : (double : Option (List ℕ)) → first_double [] (cell_names (Some d)) ≡ double → option_map Duplicate (first_double [] (cell_names (Some d))) ≡ None → AreDistinct (cell_names (Some d))
+    by_double None e none = without_double [] (cell_names (Some d)) no_pairs e
     by_double (Some name) e none = absurd (grind (arith, e, none))
 
 -- names without a fault, in a list that may have so many
-list_right : (key : List ℕ) (form : NameForm) (least most : ℕ) (d : Data) → list_fault key form least (Some most) d ≡ None → IsNameList form least most (names_in (Some d))
+list_right : (key : List ℕ) (form : NameForm) (least most : ℕ) (d : Data) → list_fault key form least (Some most) d ≡ None → IsNameList form least most (cell_names (Some d))
 list_right key form least most d none = record {
   enough = list_enough key form least (Some most) d none;
-  few = grind (arith, not_faulty (nat_lt most (length (names_in (Some d)))) (TooMany key most) (list_crowd key form least (Some most) d none));
+  few = grind (arith, not_faulty (nat_lt most (length (cell_names (Some d)))) (TooMany key most) (list_count key form least (Some most) d none));
   formed = list_all_formed key form least (Some most) d none;
   distinct = list_distinct key form least (Some most) d none;
 }
 
-pub names_right : (key : List ℕ) (form : NameForm) (least most : ℕ) (value : Option Data) → names_fault key form least (Some most) value ≡ None → IsNameList form least most (names_in value)
+pub names_right : (key : List ℕ) (form : NameForm) (least most : ℕ) (value : Option Data) → names_fault key form least (Some most) value ≡ None → IsNameList form least most (cell_names value)
 names_right key form least most None h = absurd (cc)
 names_right key form least most (Some d) h = list_right key form least most d h
 
-pub optional_right : (key : List ℕ) (form : NameForm) (most : ℕ) (value : Option Data) → optional_names_fault key form 0 (Some most) value ≡ None → IsNameList form 0 most (names_in value)
+pub optional_right : (key : List ℕ) (form : NameForm) (most : ℕ) (value : Option Data) → optional_names_fault key form 0 (Some most) value ≡ None → IsNameList form 0 most (cell_names value)
 optional_right key form most None h = record { enough = omega arith; few = omega arith; formed = refl; distinct = no_pairs }
 optional_right key form most (Some d) h = list_right key form 0 most d h
 
 -- a list that must have some isn't empty
-pub names_enough : (key : List ℕ) (form : NameForm) (least : ℕ) (value : Option Data) → names_fault key form least None value ≡ None → least ≤ length (names_in value)
+pub names_enough : (key : List ℕ) (form : NameForm) (least : ℕ) (value : Option Data) → names_fault key form least None value ≡ None → least ≤ length (cell_names value)
 names_enough key form least None h = absurd (cc)
 names_enough key form least (Some d) h = list_enough key form least None d h
 
 -- at most twenty rules
-pub rules_few : (key : List ℕ) (value : Option Data) → rules_fault key value ≡ None → length (names_in value) ≤ 20
+pub rules_few : (key : List ℕ) (value : Option Data) → rules_fault key value ≡ None → length (cell_names value) ≤ 20
 rules_few key None h = omega arith
 rules_few key (Some d) h =
-    let few = not_faulty (nat_lt 20 (length (names_in (Some d)))) (TooMany key 20) (none_second (fault_if (not (is_some (texts_of d))) (BadValue key)) _ h) in
+    let few = not_faulty (nat_lt 20 (length (cell_names (Some d)))) (TooMany key 20) (none_second (fault_if (not (is_some (texts_of d))) (BadValue key)) _ h) in
     grind (arith, few)
 
 -- tables without a fault, in a list that may have so many

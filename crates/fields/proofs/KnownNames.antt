@@ -6,7 +6,7 @@ use Rattle.std.proofs.lemmas.List.{length-map}
 use Rattle.std.proofs.lemmas.List.Quantifiers.{position-Some}
 use Rattle.setup_drafts.specs.declared.fault.SetupFault.{SetupFault}
 use Rattle.field_forms.specs.Names.{place_named}
-use Rattle.setup_reading.specs.Ties.{unknown, place_in, first_over}
+use Rattle.setup_reading.specs.Resolving.{unknown, place_in, first_over}
 use Rattle.fields.proofs.Facts.{none_first, none_second}
 
 -- a name that isn't unknown has a place

@@ -1,7 +1,7 @@
 pub mod Facts
 pub mod KnownNames
 pub mod DraftFacts
-pub mod TieFacts
+pub mod ResolveFacts
 pub mod Sound
 pub mod Rising
 pub mod Choices

@@ -6,7 +6,7 @@ use Rattle.toml.specs.Data.{Members}
 use Rattle.setup_drafts.specs.declared.fault.SetupFault.{SetupFault}
 use Rattle.field_values.specs.declared.parts.Group.{Group}
 use Rattle.field_values.specs.declared.numbers.UserNo.{UserNo}
-use Rattle.setup_reading.specs.Ties.{tie_fault}
+use Rattle.setup_reading.specs.Resolving.{resolve_fault}
 use Rattle.field_forms.specs.Known as known
 use Rattle.toml.specs.Parse.{parse_document}
 use Rattle.field_values.specs.Parts.{Parts}
@@ -19,7 +19,7 @@ use Rattle.field_values.proofs.Members.{same_names, same_length}
 use Rattle.field_forms.specs.SoundRules.{rules_are_sound}
 use Rattle.fields.specs.Sound.{part_names}
 use Rattle.fields.proofs.DraftFacts.{users_are_right, types_are_right, priorities_are_right, resolutions_are_right, versions_are_right, groups_are_right, keys_are_right, statuses_are_right, transition_names_are_right, own_names_are_right, numbers_are_distinct, numbers_are_own, options_are_right, transitions_are_started, transitions_have_few}
-use Rattle.fields.proofs.TieFacts.{first_is_inside, transitions_are_inside, rebalancer_is_inside, plan_is_inside, administer_is_inside, projects_are_inside, rules_are_inside, members_are_inside, keys_stay, group_names_stay, transition_names_stay, starts_stay, few_stay, tests_are_some, group_count}
+use Rattle.fields.proofs.ResolveFacts.{first_is_inside, transitions_are_inside, rebalancer_is_inside, plan_is_inside, administer_is_inside, projects_are_inside, rules_are_inside, members_are_inside, keys_stay, group_names_stay, transition_names_stay, starts_stay, few_stay, tests_are_some, group_count}
 
 pub ok_is : (p q : Parts) (r : Result Parts SetupFault) → r ≡ Ok p → r ≡ Ok q → p ≡ q
 ok_is p q r one other = cc
@@ -29,7 +29,7 @@ pub sound_parts : (ms : Members) → first_fault ms ≡ None → IsSound (parts_
 unfolding first_fault parts_in draft_of tables_of
 sound_parts ms none =
     let in_draft : draft_fault ms ≡ None = none_first (draft_fault ms) _ none in
-    let in_ties : tie_fault (draft_of ms) ≡ None = none_first (tie_fault (draft_of ms)) _ (none_second (draft_fault ms) _ none) in
+    let in_ties : resolve_fault (draft_of ms) ≡ None = none_first (resolve_fault (draft_of ms)) _ (none_second (draft_fault ms) _ none) in
     record {
       users = users_are_right ms in_draft;
       types = types_are_right ms in_draft;

@@ -166,7 +166,7 @@ impl Setup {
         let (head, lists, tables, steps) = draft.into_parts();
         let lists = IndexedLists::of(alloc, lists)?;
         let (statuses, fields) = tables.into_statuses_and_fields();
-        let (rights, tied) = numbers.into_parts();
+        let (rights, resolved) = numbers.into_parts();
         Ok(Setup {
             text,
             utc_offset_minutes: head.utc_offset_minutes,
@@ -180,10 +180,10 @@ impl Setup {
             first_status: rights.first_status,
             plan: rights.plan,
             administer: rights.administer,
-            group: tied.groups,
-            project: tied.projects,
+            group: resolved.groups,
+            project: resolved.projects,
             status: statuses,
-            transition: tied.transitions,
+            transition: resolved.transitions,
             field: fields,
             offset: steps.offsets,
             table_names,

@@ -9,7 +9,7 @@ use field_values::sequence::Sequence;
 use field_values::status::Status;
 use name_index::IndexedNames;
 use setup_reading::name_lists;
-use setup_reading::tied::TiedTables;
+use setup_reading::resolved::ResolvedTables;
 use std::alloc::Global;
 
 /// The names of what the tables hold, in the tables' order, and the options of each field.
@@ -42,7 +42,7 @@ impl TableNames {
         alloc: Global,
         statuses: &[Status],
         fields: &[Field],
-        tables: &TiedTables,
+        tables: &ResolvedTables,
     ) -> Result<TableNames, Memory>
         ensures statuses { IfOk result (λ names. names.statuses ≡ map (λ s. s.name) statuses.now) }
         ensures groups { IfOk result (λ names. names.groups ≡ map (λ g. g.name) tables.now.groups) }

@@ -5,7 +5,7 @@ use Rattle.std.proofs.lemmas.Bool.Decides.{nat_tests}
 use Rattle.std.proofs.lemmas.List.Elements.{All-cons}
 use Rattle.std.proofs.lemmas.List.Kept.{AllPairs-cons}
 use Rattle.field_values.specs.declared.numbers.IssueNo.{IssueNo}
-use Rattle.filter_views.specs.Cell.{Cell, unset, Views, cells_in, cell_of, members_from, members_of}
+use Rattle.filter_views.specs.Cell.{Cell, unset, Views, cells_in, cell_of, members_from, issues_held}
 use Rattle.filter_views.specs.Grid.{AreMembers}
 
 abbrev numbered : ℕ → IssueNo
@@ -62,9 +62,9 @@ among m n (suc j) (c ∷ cs) e = by c.holds (among m (n + 1) j cs (omega (arith,
         ap (λ t. t || has m (members_from (n + 1) cs)) other ∙ rest
     by false rest = rest
 
-pub members_hold : (v : Views) (f : ℕ) → AreMembers v f (members_of v f)
+pub members_hold : (v : Views) (f : ℕ) → AreMembers v f (issues_held v f)
 members_hold v f = record { rising = rising 1 (cells_in v.table f); each = each }
   where
-    each : (n : ℕ) → has n (members_of v f) ≡ (cell_of v f n).holds
+    each : (n : ℕ) → has n (issues_held v f) ≡ (cell_of v f n).holds
     each zero = none_below 0 1 (cells_in v.table f) (omega arith)
     each (suc n) = among (suc n) 1 n (cells_in v.table f) (omega arith)

@@ -10,7 +10,7 @@ use Rattle.filter_views.specs.Due.{is_before, due_at}
 use Rattle.filter_views.specs.FilterRow.{no_place, no_row, Frame, frames, filter_at, row_of, truth_in, place_in}
 use Rattle.filter_views.specs.Heap.{IsHeap}
 use Rattle.filter_views.specs.Agreement.{Agree, end_at, end_in}
-use Rattle.filter_views.specs.Cell.{Cell, unset, Views, cells_in, cell_of, members_from, members_of}
+use Rattle.filter_views.specs.Cell.{Cell, unset, Views, cells_in, cell_of, members_from, issues_held}
 use Rattle.filter_views.specs.Views.{IsLeastEnd, IsHeapOf, end_of_cell}
 use Rattle.filter_views.specs.Fields.{Size, size, sizes, AllFit, cells, table, holders_from}
 use Rattle.filter_views.proofs.Sifting.{first_is_least}
@@ -120,7 +120,7 @@ pub few_truths : (issues room : ℕ) (rs : List RowParts) (f : ℕ) → AllFit i
 few_truths issues room [] f fit = omega arith
 few_truths issues room (r ∷ rs) f fit = grind (arith, nat_tests, fit.0, few_truths issues room rs f fit.3)
 
-pub members_seen : (rs : List RowParts) (ds : List Due) (issues room : ℕ) (v : Views) → v.table ≡ table ds rs → AllFit issues room (sizes rs) → (f : ℕ) → holders_from 1 (row_of rs f).truths ≡ members_of v f
+pub members_seen : (rs : List RowParts) (ds : List Due) (issues room : ℕ) (v : Views) → v.table ≡ table ds rs → AllFit issues room (sizes rs) → (f : ℕ) → holders_from 1 (row_of rs f).truths ≡ issues_held v f
 members_seen rs ds issues room v is fit f = members_are ds 1 _ _ (row_fits issues room rs f fit) ∙ ap (λ cs. members_from 1 cs) (sym (cells_are ds rs f)) ∙ ap (λ ls. members_from 1 (cells_in ls f)) (sym is)
 
 -- an end stands in the heap

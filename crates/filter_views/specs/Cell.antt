@@ -45,5 +45,5 @@ members_from n [] = []
 members_from n (c ∷ cs) = if c.holds then record { 0 = n } ∷ members_from (n + 1) cs else members_from (n + 1) cs
 
 -- the issues of which the filter holds, by number
-abbrev pub members_of : Views → ℕ → List IssueNo
-members_of v f = members_from 1 (cells_in v.table f)
+abbrev pub issues_held : Views → ℕ → List IssueNo
+issues_held v f = members_from 1 (cells_in v.table f)

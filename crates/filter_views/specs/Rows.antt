@@ -1,7 +1,7 @@
 -- Worked values, computed from the definitions.
 use Rattle.std.specs.Prelude.{ℕ, ◌≡◌, Bool, true, false, [], ◌∷◌, Option, Some, None, refl}
 use Rattle.field_values.specs.declared.numbers.IssueNo.{IssueNo}
-use Rattle.filter_views.specs.Cell.{Cell, FilterCells, Views, cell_of, members_of}
+use Rattle.filter_views.specs.Cell.{Cell, FilterCells, Views, cell_of, issues_held}
 use Rattle.filter_views.specs.Counts.{due}
 
 abbrev cell : Bool → Option ℕ → Cell
@@ -20,10 +20,10 @@ seventh = record { filter = 7; cells = cell false (Some 9) ∷ cell true (Some 3
 abbrev two : Views
 two = record { table = second ∷ seventh ∷ []; issues = 3; filter_room = 2; issue_room = 3 }
 
-pub members_by_number : members_of two 2 ≡ issue 1 ∷ issue 3 ∷ []
+pub members_by_number : issues_held two 2 ≡ issue 1 ∷ issue 3 ∷ []
 members_by_number = refl
 
-pub members_of_no_filter : members_of two 5 ≡ []
+pub members_of_no_filter : issues_held two 5 ≡ []
 members_of_no_filter = refl
 
 pub an_end : (cell_of two 7 1).end ≡ Some 9

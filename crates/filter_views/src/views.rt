@@ -1,7 +1,7 @@
 //! The verdicts of all saved filters on all issues.
 ghost use Rattle.std.specs.Prelude.{◌≡◌, ◌≤◌, ◌<◌, ◌+◌, [], true, false, Bool, Option, OnOk, OnErr, IfOk, length};
 ghost use Rattle.filter_views.specs.FilterRow.{HasNumber};
-ghost use Rattle.filter_views.specs.Cell.{cell_of, filters, is_there, members_of};
+ghost use Rattle.filter_views.specs.Cell.{cell_of, filters, is_there, issues_held};
 ghost use Rattle.filter_views.specs.Views.{Settles, AddsFilter, AddsIssue, RemovesFilter, IsNextDue, IsHeapOf};
 ghost use Rattle.filter_views.specs.Grid.{IsGrid, AreMembers};
 
@@ -181,7 +181,7 @@ impl FilterViews {
 
     /// Puts the issues of which the filter holds, by number, in place of what `room` contained, or leaves it as it is.
     pub fn members(&self, filter: FilterNo, room: &mut Vec<IssueNo>) -> Result<(), Memory>
-        ensures members { OnOk result (room.new.items ≡ members_of self.now filter.0) }
+        ensures members { OnOk result (room.new.items ≡ issues_held self.now filter.0) }
         ensures each { OnOk result (AreMembers self.now filter.0 room.new.items) }
         ensures err { OnErr result (room.new.items ≡ room.old.items) }
         ensures grid { IsGrid self.now }

@@ -7,6 +7,7 @@ use Rattle.std.specs.declared.cmp.Ordering.TheVariants.{Equal}
 use Rattle.field_values.specs.declared.numbers.FieldNo.{FieldNo}
 use Rattle.field_values.specs.declared.numbers.SprintNo.{SprintNo}
 use Rattle.field_values.specs.declared.value.Value.{Value}
+use Rattle.field_values.specs.declared.numbers.TheConstants.FieldNo as number
 use Rattle.field_values.specs.Parts.{Parts}
 use Rattle.field_forms.specs.Known.{Names, fits}
 use Rattle.change_history.specs.History.{History, present}
@@ -29,17 +30,17 @@ IsRightElsewhere =
     (one other : Surroundings) (h : History) (query : Option Condition) (at : ℕ) (holds : Bool) (end : Option ℕ) →
     DifferInOtherSprints one other h → IsRight one h query at holds end → IsRight other h query at holds end
 
--- a value that names a sprint fits the field sprint alone, which is field 13
+-- a value that names a sprint fits the field sprint alone
 abbrev pub SprintsFitOneField : Type 0
 SprintsFitOneField =
-    (names : Names) (field : ℕ) (sprint : SprintNo) → fits names field (Value.Sprint sprint) ≡ true → field ≡ 13
+    (names : Names) (field : ℕ) (sprint : SprintNo) → fits names field (Value.Sprint sprint) ≡ true → field ≡ number.SPRINT.0
 
 -- so an issue whose values fit is in no sprint but the one that this field holds
 abbrev pub OneSprintIsHeld : Type 0
 OneSprintIsHeld =
     (names : Names) (h : History) (sprint : SprintNo) →
     ((field : FieldNo) → (present h field ≡ Value.Empty) ⊎ (fits names field.0 (present h field) ≡ true)) →
-    present h (record { 0 = 13 }) ≢ Value.Sprint sprint → IsNotIn h sprint
+    present h number.SPRINT ≢ Value.Sprint sprint → IsNotIn h sprint
 
 -- the order by sort keys, where `ranks` orders issues as they stand on the board
 abbrev pub list_cmp : Parts → List OrderKey → (History → History → Ordering) → History → History → Ordering

@@ -1,5 +1,6 @@
 -- Verdicts that are right, as `evaluate` gives them and as they are kept.
 use Rattle.std.specs.Prelude.{◌≡◌, ℕ, ◌<◌, ◌≤◌, Bool, Option, Some, None}
+use Rattle.field_values.specs.Years.{last_second}
 use Rattle.change_history.specs.History.{History}
 use Rattle.jql_bound.specs.Condition.{Condition}
 use Rattle.jql_meaning.specs.Surroundings.{Surroundings}
@@ -16,4 +17,4 @@ pub record IsRight (s : Surroundings) (h : History) (query : Option Condition) (
 -- a moment before the end; where there is no end, any up to the last
 abbrev pub IsBeforeEnd : ℕ → Option ℕ → Type 0
 IsBeforeEnd t (Some end) = t < end
-IsBeforeEnd t None = t ≤ 4_102_444_799
+IsBeforeEnd t None = t ≤ last_second

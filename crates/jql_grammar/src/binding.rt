@@ -1,4 +1,4 @@
-// Queries tied to a setup.
+// Queries bound to a setup.
 ghost use Rattle.std.specs.Prelude.{◌≡◌, IfOk, IfErr, option_map};
 ghost use Rattle.jql_syntax.specs.View.{view as tree};
 ghost use Rattle.jql_bound.specs.Condition.{view};
@@ -30,7 +30,7 @@ fn bind_condition(binder: &Binder<'_>, query: &Query) -> Result<(Option<Cond>, u
     }
 }
 
-/// Ties a query to a setup: names become numbers, `currentUser()` is the caller, and NOT of a condition is its negation. The first fault is told, of
+/// Binds a query to a setup: names become numbers, `currentUser()` is the caller, and NOT of a condition is its negation. The first fault is told, of
 /// the tests from the left and then of the sort keys; within a test in the order field, operator, values, predicates.
 pub fn bind(alloc: Global, query: &Query, setup: &Setup, caller: UserNo) -> Result<Bound, BindFault>
     ensures bound { IfOk result (λ bound. bound_in (scope_in setup.now caller) (option_map tree query.now.0) query.now.1 ≡ Ok (option_map view bound.cond, bound.order.keys)) }

@@ -1,4 +1,4 @@
-// Why a query can't be tied to a setup.
+// Why a query can't be bound to a setup.
 ghost use Rattle.std.specs.Prelude.{◌≡◌};
 ghost use Rattle.jql_grammar.specs.Binding.{number_of_kind};
 ghost use Rattle.jql_grammar.specs.declared.fault.Stop.TheVariants.{Memory as StopMemory};
@@ -32,7 +32,7 @@ impl FaultKind {
     }
 }
 
-/// Why a test or a sort key wasn't tied.
+/// Why a test or a sort key wasn't bound.
 #[derive(Clone, Copy, PartialEq, Eq)]
 pub(crate) enum Stop {
     Memory,
@@ -63,7 +63,7 @@ impl<T: Drop> From<AllocFailed<T>> for Stop {
     }
 }
 
-/// Why a query can't be tied to a setup.
+/// Why a query can't be bound to a setup.
 #[derive(Clone, Copy, PartialEq, Eq)]
 pub enum BindFault {
     /// The first test at fault, counted from 0 and from the left, or the first sort key at fault, counted on after all tests; and what is

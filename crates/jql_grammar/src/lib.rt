@@ -1,4 +1,4 @@
-//! Queries read from texts and tied to a setup: names in them become numbers, NOT is pushed to the tests of fields, and the first fault
+//! Queries read from texts and bound to a setup: names in them become numbers, NOT is pushed to the tests of fields, and the first fault
 //! is told.
 #![tactic(auto)]
 

@@ -1,7 +1,7 @@
 use fields::{Setup, UserNo};
 use std::alloc::Global;
 
-/// What a query is tied to: the setup, and the user who asks.
+/// What a query is bound to: the setup, and the user who asks.
 #[derive(Clone, Copy)]
 pub(crate) struct Binder<'a> {
     pub(crate) alloc: Global,

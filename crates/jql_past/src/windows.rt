@@ -10,6 +10,7 @@ ghost use Rattle.jql_past.specs.Interval.{IsOfWindows, all_moments, starting, en
 
 use field_values::Moment;
 use jql_bound::{Context, PastPredicate};
+use jql_present::second_now;
 use relative_dates::Term;
 
 /// The seconds from `first` on before `end`; there are none where `end` isn't later.
@@ -112,14 +113,6 @@ fn narrowed(
         }
         PastPredicate::By(_) => interval,
     }
-}
-
-// The second that a date means now.
-fn second_now(context: &Context, at: Moment, date: &Term) -> i64
-    ensures value { result ≡ second_now (surroundings_of context.now) at date.now }
-    ensures bound { IsWithin 200_000_000_000_000 result }
-{
-    date.at(&context.calendar, at.seconds())
 }
 
 // The local day of a second.

@@ -2,6 +2,7 @@
 ghost use Rattle.std.specs.Prelude.{◌≡◌, ◌≤◌, ◌==◌, length};
 ghost use Rattle.std.specs.List.{position_or_len};
 ghost use Rattle.std.specs.Ordering.{int_cmp, int_eq};
+ghost use Rattle.jiff_core.specs.Calendar.{IsWithin};
 ghost use Rattle.jql_meaning.specs.Surroundings.{surroundings_of};
 ghost use Rattle.jql_meaning.specs.Comparison.{project_of, second_now, midnight_of, equals_value, equals_moment, is_project, is_issue, equals, value_order, moment_order, order};
 
@@ -57,9 +58,10 @@ pub fn midnight_of(context: &Context, day: Day) -> i64
     context.calendar.start_of(i64::from(day.0))
 }
 
-// The second that a date means now.
-fn second_now(context: &Context, at: Moment, date: &Term) -> i64
-    ensures { result ≡ second_now (surroundings_of context.now) at date.now }
+/// The second that a date means now.
+pub fn second_now(context: &Context, at: Moment, date: &Term) -> i64
+    ensures value { result ≡ second_now (surroundings_of context.now) at date.now }
+    ensures bound { IsWithin 200_000_000_000_000 result }
 {
     date.at(&context.calendar, at.seconds())
 }

@@ -8,5 +8,6 @@ mod mark;
 mod phase;
 mod words;
 
+pub use compare::second_now;
 pub use end::{earlier, next_present};
 pub use holds::holds_present;

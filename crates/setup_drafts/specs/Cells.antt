@@ -47,21 +47,21 @@ new_name_fault key form earlier (Some d) =
     (fault_if (is_among earlier (text_in (Some d))) (Duplicate (text_in (Some d))))
 
 -- the names at a key
-abbrev pub names_in : Option Data → List (List ℕ)
-names_in value = unwrap_or (option_and_then texts_of value) []
+abbrev pub cell_names : Option Data → List (List ℕ)
+cell_names value = unwrap_or (option_and_then texts_of value) []
 
 -- there may be so many, or any number
-abbrev pub crowd_fault : List ℕ → Option ℕ → ℕ → Option SetupFault
-crowd_fault key None n = None
-crowd_fault key (Some most) n = fault_if (nat_lt most n) (TooMany key most)
+abbrev pub count_fault : List ℕ → Option ℕ → ℕ → Option SetupFault
+count_fault key None n = None
+count_fault key (Some most) n = fault_if (nat_lt most n) (TooMany key most)
 
 -- the faults of a list of names, each of which stands once
 abbrev pub list_fault : List ℕ → NameForm → ℕ → Option ℕ → Data → Option SetupFault
 list_fault key form least most d =
     option_or (fault_if (has_fewer_than least d) (Missing key))
     (option_or (fault_if (not (option_map_or (list_all (has_form form)) (texts_of d) false)) (BadValue key))
-    (option_or (crowd_fault key most (length (names_in (Some d))))
-    (option_map Duplicate (first_double [] (names_in (Some d))))))
+    (option_or (count_fault key most (length (cell_names (Some d))))
+    (option_map Duplicate (first_double [] (cell_names (Some d))))))
 
 -- a key that wants a list of names
 abbrev pub names_fault : List ℕ → NameForm → ℕ → Option ℕ → Option Data → Option SetupFault
@@ -78,7 +78,7 @@ abbrev pub rules_fault : List ℕ → Option Data → Option SetupFault
 rules_fault key None = None
 rules_fault key (Some d) =
     option_or (fault_if (not (is_some (texts_of d))) (BadValue key))
-    (crowd_fault key (Some 20) (length (names_in (Some d))))
+    (count_fault key (Some 20) (length (cell_names (Some d))))
 
 -- a key that wants a list of tables; it may be absent where none need be there
 abbrev pub tables_fault : List ℕ → ℕ → ℕ → Option Data → Option SetupFault
@@ -86,7 +86,7 @@ tables_fault key least most None = fault_if (nat_lt 0 least) (Missing key)
 tables_fault key least most (Some d) =
     option_or (fault_if (has_fewer_than least d) (Missing key))
     (option_or (fault_if (not (is_some (tables_of d))) (BadValue key))
-    (crowd_fault key (Some most) (length (unwrap_or (tables_of d) []))))
+    (count_fault key (Some most) (length (unwrap_or (tables_of d) []))))
 
 abbrev pub tables_in : Option Data → List Members
 tables_in value = unwrap_or (option_and_then tables_of value) []

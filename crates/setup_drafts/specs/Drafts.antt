@@ -18,7 +18,7 @@ use Rattle.field_values.specs.declared.status.Status.{Status}
 use Rattle.field_values.specs.declared.field.Field.{Field}
 use Rattle.setup_drafts.specs.Faults.{first_of}
 use Rattle.setup_drafts.specs.Cells as cells
-use Rattle.setup_drafts.specs.Cells.{whole_fault, whole_in, word_fault, word_in, text_fault, text_in, names_fault, optional_names_fault, names_in, tables_in}
+use Rattle.setup_drafts.specs.Cells.{whole_fault, whole_in, word_fault, word_in, text_fault, text_in, names_fault, optional_names_fault, cell_names, tables_in}
 use Rattle.setup_drafts.specs.Entries.{entries_fault, with_name}
 use Rattle.field_values.specs.Words.{weekday_of, day_number}
 use Rattle.setup_drafts.specs.Groups.{group_fault, group_draft}
@@ -54,11 +54,11 @@ lists_fault ms = first_of
 
 unfoldable pub lists_of : Members → Lists
 lists_of ms = record {
-  users = names_in (get_member (codes "users") ms);
-  types = names_in (get_member (codes "types") ms);
-  priorities = names_in (get_member (codes "priorities") ms);
-  resolutions = names_in (get_member (codes "resolutions") ms);
-  versions = names_in (get_member (codes "versions") ms);
+  users = cell_names (get_member (codes "users") ms);
+  types = cell_names (get_member (codes "types") ms);
+  priorities = cell_names (get_member (codes "priorities") ms);
+  resolutions = cell_names (get_member (codes "resolutions") ms);
+  versions = cell_names (get_member (codes "versions") ms);
 }
 
 -- no list is longer than the setup allows
@@ -79,8 +79,8 @@ rights_fault ms = first_of
 unfoldable pub rights_of : Members → Rights
 rights_of ms = record {
   first_status = text_in (get_member (codes "first_status") ms);
-  plan = names_in (get_member (codes "plan") ms);
-  administer = names_in (get_member (codes "administer") ms);
+  plan = cell_names (get_member (codes "plan") ms);
+  administer = cell_names (get_member (codes "administer") ms);
 }
 
 unfoldable pub groups_fault : Members → Option SetupFault

@@ -39,14 +39,14 @@ Tells fault (Ok _) = fault ≡ None
 Tells fault (Err e) = e ≢ Memory → fault ≡ Some e
 
 -- the number of each kind of fault, and 0 for want of memory
-abbrev pub kind_of : SetupFault → ℕ
-kind_of BadToml = 1
-kind_of (Missing name) = 2
-kind_of (Duplicate name) = 3
-kind_of (Unknown name) = 4
-kind_of (TooMany name most) = 5
-kind_of (BadValue name) = 6
-kind_of Memory = 0
+abbrev pub fault_kind : SetupFault → ℕ
+fault_kind BadToml = 1
+fault_kind (Missing name) = 2
+fault_kind (Duplicate name) = 3
+fault_kind (Unknown name) = 4
+fault_kind (TooMany name most) = 5
+fault_kind (BadValue name) = 6
+fault_kind Memory = 0
 
 -- what the fault tells of
 abbrev pub name_of : SetupFault → Option (List ℕ)

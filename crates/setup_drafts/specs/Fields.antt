@@ -10,7 +10,7 @@ use Rattle.field_values.specs.declared.words.FieldKind.{FieldKind}
 use Rattle.field_values.specs.declared.words.FieldKind.TheVariants.{Text, Choice}
 use Rattle.field_values.specs.declared.field.Field.{Field}
 use Rattle.setup_drafts.specs.Faults.{first_of, fault_if}
-use Rattle.setup_drafts.specs.Cells.{whole_fault, whole_in, new_name_fault, text_in, names_fault, names_in, word_fault, word_in}
+use Rattle.setup_drafts.specs.Cells.{whole_fault, whole_in, new_name_fault, text_in, names_fault, cell_names, word_fault, word_in}
 use Rattle.field_values.specs.Words.{field_kind_of}
 
 -- the number that is written at a key
@@ -29,7 +29,7 @@ options_fault key Choice value = names_fault key Plain 1 (Some 200) value
 options_fault key _ value = fault_if (is_some value) (BadValue key)
 
 abbrev pub options_in : FieldKind → Option Data → List (List ℕ)
-options_in Choice value = names_in value
+options_in Choice value = cell_names value
 options_in _ value = []
 
 unfoldable pub field_fault : List Field → Members → Option SetupFault

@@ -5,7 +5,7 @@ use Rattle.setup_drafts.specs.declared.fault.SetupFault.{SetupFault}
 use Rattle.field_forms.specs.declared.name_form.NameForm.TheVariants.{Plain, AnyText}
 use Rattle.setup_drafts.specs.declared.draft.group.GroupDraft.{GroupDraft}
 use Rattle.setup_drafts.specs.Faults.{first_of}
-use Rattle.setup_drafts.specs.Cells.{new_name_fault, names_fault, text_in, names_in}
+use Rattle.setup_drafts.specs.Cells.{new_name_fault, names_fault, text_in, cell_names}
 
 unfoldable pub group_fault : List (List ℕ) → Members → Option SetupFault
 group_fault earlier e = first_of
@@ -16,5 +16,5 @@ group_fault earlier e = first_of
 unfoldable pub group_draft : Members → GroupDraft
 group_draft e = record {
   name = text_in (get_member (codes "name") e);
-  members = names_in (get_member (codes "members") e);
+  members = cell_names (get_member (codes "members") e);
 }

@@ -31,9 +31,9 @@ abbrev pub is_key : KeySet → List ℕ → Bool
 is_key set name = list_any (λ key. bytes_eq name key) (keys_of set)
 
 -- the first key that isn't the table's; the keys of a table stand in the order of their bytes
-abbrev pub strange_key : KeySet → Members → Option (List ℕ)
-strange_key set no_members = None
-strange_key set (member key value ms) = if is_key set key then strange_key set ms else Some key
+abbrev pub unknown_key : KeySet → Members → Option (List ℕ)
+unknown_key set no_members = None
+unknown_key set (member key value ms) = if is_key set key then unknown_key set ms else Some key
 
 -- the one that comes first in the order of bytes
 abbrev pub lesser : Option (List ℕ) → Option (List ℕ) → Option (List ℕ)
@@ -41,15 +41,15 @@ lesser None other = other
 lesser (Some one) None = Some one
 lesser (Some one) (Some other) = if is_before other one then Some other else Some one
 
--- the first strange key of some tables, or the one that was found before
-abbrev pub strange_below : KeySet → Option (List ℕ) → List Members → Option (List ℕ)
-strange_below set found [] = found
-strange_below set found (e ∷ es) = strange_below set (lesser found (strange_key set e)) es
+-- the first unknown key of some tables, or the one that was found before
+abbrev pub unknown_below : KeySet → Option (List ℕ) → List Members → Option (List ℕ)
+unknown_below set found [] = found
+unknown_below set found (e ∷ es) = unknown_below set (lesser found (unknown_key set e)) es
 
--- the first strange key of all tables below the top
-unfoldable pub strange_in_tables : Members → Option (List ℕ)
-strange_in_tables ms =
-    strange_below Offset (strange_below Field (strange_below Transition (strange_below Status (strange_below Project (strange_below Group None
+-- the first unknown key of all tables below the top
+unfoldable pub unknown_in_tables : Members → Option (List ℕ)
+unknown_in_tables ms =
+    unknown_below Offset (unknown_below Field (unknown_below Transition (unknown_below Status (unknown_below Project (unknown_below Group None
     (tables_in (get_member (codes "group") ms)))
     (tables_in (get_member (codes "project") ms)))
     (tables_in (get_member (codes "status") ms)))
@@ -59,4 +59,4 @@ strange_in_tables ms =
 
 -- a key that isn't the setup's: one of the top table, else the first of all tables below it
 unfoldable pub key_fault : Members → Option SetupFault
-key_fault ms = option_map Unknown (option_or (strange_key Top ms) (strange_in_tables ms))
+key_fault ms = option_map Unknown (option_or (unknown_key Top ms) (unknown_in_tables ms))

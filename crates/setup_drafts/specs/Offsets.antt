@@ -6,6 +6,7 @@ use Rattle.relative_dates.specs.Calendar.{Zone, goes_back, step_at}
 use Rattle.setup_drafts.specs.declared.fault.SetupFault.{SetupFault}
 use Rattle.setup_drafts.specs.declared.fault.SetupFault.TheVariants.{BadValue}
 use Rattle.field_values.specs.declared.offset.Offset.{Offset}
+use Rattle.field_values.specs.Years.{last_second}
 use Rattle.setup_drafts.specs.Faults.{first_of, fault_if}
 use Rattle.setup_drafts.specs.declared.draft.offset.OffsetSteps.{OffsetSteps}
 use Rattle.std.specs.Option.{option_or}
@@ -36,7 +37,7 @@ offset_of e = record { from = from_in e; minutes = minutes_in e }
 -- each moment is after the one before, and the local day doesn't go back
 unfoldable pub offset_fault : ℤ → List Offset → Members → Option SetupFault
 offset_fault first earlier e = first_of
-    (whole_fault (codes "from") (pos 0) (pos 4_102_444_799) (get_member (codes "from") e)
+    (whole_fault (codes "from") (pos 0) (pos last_second) (get_member (codes "from") e)
     ∷ fault_if (not (comes_later earlier (from_in e))) (BadValue (codes "from"))
     ∷ whole_fault (codes "minutes") (neg_ℤ (pos 840)) (pos 840) (get_member (codes "minutes") e)
     ∷ fault_if (turns_back (zone_of first earlier) (from_in e) (minutes_in e)) (BadValue (codes "minutes"))

@@ -5,7 +5,7 @@ use Rattle.setup_drafts.specs.declared.fault.SetupFault.{SetupFault}
 use Rattle.field_forms.specs.declared.name_form.NameForm.TheVariants.{ProjectKey, AnyText}
 use Rattle.setup_drafts.specs.declared.draft.project.ProjectDraft.{ProjectDraft}
 use Rattle.setup_drafts.specs.Faults.{first_of}
-use Rattle.setup_drafts.specs.Cells.{new_name_fault, text_fault, text_in, names_fault, names_in}
+use Rattle.setup_drafts.specs.Cells.{new_name_fault, text_fault, text_in, names_fault, cell_names}
 
 -- the groups of one permission in the project
 abbrev pub groups_fault : List ℕ → Members → Option SetupFault
@@ -26,9 +26,9 @@ unfoldable pub project_draft : Members → ProjectDraft
 project_draft e = record {
   key = text_in (get_member (codes "key") e);
   lead = text_in (get_member (codes "lead") e);
-  browse = names_in (get_member (codes "browse") e);
-  create = names_in (get_member (codes "create") e);
-  edit = names_in (get_member (codes "edit") e);
-  transition = names_in (get_member (codes "transition") e);
-  rank = names_in (get_member (codes "rank") e);
+  browse = cell_names (get_member (codes "browse") e);
+  create = cell_names (get_member (codes "create") e);
+  edit = cell_names (get_member (codes "edit") e);
+  transition = cell_names (get_member (codes "transition") e);
+  rank = cell_names (get_member (codes "rank") e);
 }

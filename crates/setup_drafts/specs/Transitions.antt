@@ -5,7 +5,7 @@ use Rattle.setup_drafts.specs.declared.fault.SetupFault.{SetupFault}
 use Rattle.field_forms.specs.declared.name_form.NameForm.TheVariants.{Plain, AnyText}
 use Rattle.setup_drafts.specs.declared.draft.transition.TransitionDraft.{TransitionDraft}
 use Rattle.setup_drafts.specs.Faults.{first_of}
-use Rattle.setup_drafts.specs.Cells.{new_name_fault, text_fault, text_in, names_fault, names_in, rules_fault}
+use Rattle.setup_drafts.specs.Cells.{new_name_fault, text_fault, text_in, names_fault, cell_names, rules_fault}
 
 unfoldable pub transition_fault : List (List ℕ) → Members → Option SetupFault
 transition_fault earlier e = first_of
@@ -20,9 +20,9 @@ transition_fault earlier e = first_of
 unfoldable pub transition_draft : Members → TransitionDraft
 transition_draft e = record {
   name = text_in (get_member (codes "name") e);
-  from = names_in (get_member (codes "from") e);
+  from = cell_names (get_member (codes "from") e);
   to = text_in (get_member (codes "to") e);
-  conditions = names_in (get_member (codes "conditions") e);
-  validators = names_in (get_member (codes "validators") e);
-  post = names_in (get_member (codes "post") e);
+  conditions = cell_names (get_member (codes "conditions") e);
+  validators = cell_names (get_member (codes "validators") e);
+  post = cell_names (get_member (codes "post") e);
 }

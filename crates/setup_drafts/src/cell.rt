@@ -4,7 +4,7 @@ ghost use Rattle.toml.specs.Data.{get_member};
 ghost use Rattle.toml.specs.View.{view, table_view};
 ghost use Rattle.setup_drafts.specs.Faults.{Answers, AnswersBy, FaultOf};
 ghost use Rattle.setup_drafts.specs.Written.{texts_of, tables_of, has_fewer_than};
-ghost use Rattle.setup_drafts.specs.Cells.{IsWithin, whole_fault, whole_in, text_fault, text_in, new_name_fault, list_fault, names_fault, optional_names_fault, names_in, rules_fault, tables_fault, tables_in, crowd_fault};
+ghost use Rattle.setup_drafts.specs.Cells.{IsWithin, whole_fault, whole_in, text_fault, text_in, new_name_fault, list_fault, names_fault, optional_names_fault, cell_names, rules_fault, tables_fault, tables_in, count_fault};
 
 use crate::fault::SetupFault;
 use field_forms::name_form::{NameForm, all_have_form, has_form, is_among};
@@ -119,8 +119,8 @@ fn has_fewer_than(least: usize, value: &Value) -> bool
 }
 
 /// The fault that there are more than so many, if there is a most.
-fn crowd_of(alloc: Global, key: &str, most: Option<usize>, count: usize) -> Option<SetupFault>
-    ensures { FaultOf (crowd_fault key.now most count) result }
+fn count_fault_of(alloc: Global, key: &str, most: Option<usize>, count: usize) -> Option<SetupFault>
+    ensures { FaultOf (count_fault key.now most count) result }
 {
     match most {
         Some(most) if most < count => Some(SetupFault::too_many(alloc, key, most)),
@@ -129,7 +129,7 @@ fn crowd_of(alloc: Global, key: &str, most: Option<usize>, count: usize) -> Opti
 }
 
 /// The names of an array of names, each of which stands once.
-fn names_in(
+fn cell_names(
     alloc: Global,
     value: &Value,
     key: &str,
@@ -138,7 +138,7 @@ fn names_in(
     most: Option<usize>,
 ) -> Result<Names, SetupFault>
     ensures told { Answers (list_fault key.now form least most (view value.now))
-        (names_in (Some (view value.now))) result }
+        (cell_names (Some (view value.now))) result }
     ensures few { IfOk result (λ names. IsWithin most (length names)) }
 {
     if has_fewer_than(least, value) {
@@ -150,7 +150,7 @@ fn names_in(
     if !all_have_form(form, names.as_slice()) {
         return Err(SetupFault::bad_value(alloc, key));
     }
-    if let Some(fault) = crowd_of(alloc, key, most, names.as_slice().len()) {
+    if let Some(fault) = count_fault_of(alloc, key, most, names.as_slice().len()) {
         return Err(fault);
     }
     if let Some(double) = first_double(alloc, names.as_slice())? {
@@ -170,12 +170,12 @@ pub(crate) fn names_at(
 ) -> Result<Names, SetupFault>
     ensures told { Answers
         (names_fault key.now form least most (get_member key.now (table_view table.now)))
-        (names_in (get_member key.now (table_view table.now))) result }
+        (cell_names (get_member key.now (table_view table.now))) result }
     ensures few { IfOk result (λ names. IsWithin most (length names)) }
 {
     match value_at(table, key) {
         None => Err(SetupFault::missing(alloc, key)),
-        Some(value) => names_in(alloc, value, key, form, least, most),
+        Some(value) => cell_names(alloc, value, key, form, least, most),
     }
 }
 
@@ -190,19 +190,19 @@ pub(crate) fn optional_names_at(
 ) -> Result<Names, SetupFault>
     ensures told { Answers
         (optional_names_fault key.now form least most (get_member key.now (table_view table.now)))
-        (names_in (get_member key.now (table_view table.now))) result }
+        (cell_names (get_member key.now (table_view table.now))) result }
     ensures few { IfOk result (λ names. IsWithin most (length names)) }
 {
     match value_at(table, key) {
         None => Ok(Names::new(alloc)),
-        Some(value) => names_in(alloc, value, key, form, least, most),
+        Some(value) => cell_names(alloc, value, key, form, least, most),
     }
 }
 
 /// The texts at a key that may be absent: at most twenty.
 pub(crate) fn rules_at(alloc: Global, table: &Table, key: &str) -> Result<Names, SetupFault>
     ensures { Answers (rules_fault key.now (get_member key.now (table_view table.now)))
-        (names_in (get_member key.now (table_view table.now))) result }
+        (cell_names (get_member key.now (table_view table.now))) result }
 {
     let Some(value) = value_at(table, key) else {
         return Ok(Names::new(alloc));
@@ -210,7 +210,7 @@ pub(crate) fn rules_at(alloc: Global, table: &Table, key: &str) -> Result<Names,
     let Some(texts) = texts_in(alloc, value)? else {
         return Err(SetupFault::bad_value(alloc, key));
     };
-    if let Some(fault) = crowd_of(alloc, key, Some(20), texts.as_slice().len()) {
+    if let Some(fault) = count_fault_of(alloc, key, Some(20), texts.as_slice().len()) {
         return Err(fault);
     }
     Ok(texts)

@@ -48,7 +48,7 @@ impl Drop for Draft {
 }
 
 impl Draft {
-    /// What it is made of, but for the rights, whose names are tied to numbers.
+    /// What it is made of, but for the rights, whose names are to be resolved.
     pub fn into_parts(self) -> (Head, Lists, Tables, OffsetSteps)
         ensures { result ≡ (self.head, self.lists, self.tables, self.steps) }
     {

@@ -1,6 +1,6 @@
 ghost use Rattle.std.specs.Prelude.{◌≡◌, option_map};
 ghost use Rattle.setup_drafts.specs.declared.fault.SetupFault.{SetupFault};
-ghost use Rattle.setup_drafts.specs.Faults.{IsUnlessMemory, kind_of, name_of};
+ghost use Rattle.setup_drafts.specs.Faults.{IsUnlessMemory, fault_kind, name_of};
 
 use field_values::memory::Memory;
 use field_values::text::Text;
@@ -52,7 +52,7 @@ impl From<Memory> for SetupFault {
 impl SetupFault {
     /// 1 to 6 in the order of the variants; 0 for want of memory.
     pub fn kind(&self) -> u8
-        ensures { result ≡ kind_of self.now }
+        ensures { result ≡ fault_kind self.now }
     {
         match self {
             SetupFault::BadToml => 1,

@@ -6,7 +6,7 @@ ghost use Rattle.toml.specs.Data.{get_member};
 ghost use Rattle.toml.specs.View.{table_view};
 ghost use Rattle.setup_drafts.specs.Faults.{Tells};
 ghost use Rattle.setup_drafts.specs.Cells.{tables_in};
-ghost use Rattle.setup_drafts.specs.Keys.{keys_of, is_key, strange_key, lesser, strange_below, strange_in_tables, key_fault};
+ghost use Rattle.setup_drafts.specs.Keys.{keys_of, is_key, unknown_key, lesser, unknown_below, unknown_in_tables, key_fault};
 
 use crate::cell::entries_at;
 use crate::fault::SetupFault;
@@ -125,8 +125,8 @@ fn is_key(set: KeySet, name: &str) -> bool
 }
 
 /// The first key that isn't the table's.
-fn strange_key(set: KeySet, table: &Table) -> Option<&str>
-    ensures { option_map (λ key. key.now) result ≡ strange_key set (table_view table.now) }
+fn unknown_key(set: KeySet, table: &Table) -> Option<&str>
+    ensures { option_map (λ key. key.now) result ≡ unknown_key set (table_view table.now) }
 {
     for (name, _) in table.iter() {
         if !is_key(set, name.as_str()) {
@@ -154,46 +154,46 @@ fn lesser<'a>(one: Option<&'a str>, other: Option<&'a str>) -> Option<&'a str>
     }
 }
 
-/// The first strange key of some tables, or the one that was found before.
-fn strange_below<'a>(set: KeySet, found: Option<&'a str>, tables: &[&'a Table]) -> Option<&'a str>
+/// The first unknown key of some tables, or the one that was found before.
+fn unknown_below<'a>(set: KeySet, found: Option<&'a str>, tables: &[&'a Table]) -> Option<&'a str>
     ensures { option_map (λ key. key.now) result
-        ≡ strange_below set (option_map (λ key. key.now) found.entry) (map (λ t. table_view t.now) tables.now) }
+        ≡ unknown_below set (option_map (λ key. key.now) found.entry) (map (λ t. table_view t.now) tables.now) }
 {
     let mut first = found;
     for table in tables {
-        first = lesser(first, strange_key(set, table));
+        first = lesser(first, unknown_key(set, table));
     }
     first
 }
 
-/// The first strange key of the tables at a key, or the one that was found before.
-fn strange_at<'a>(
+/// The first unknown key of the tables at a key, or the one that was found before.
+fn unknown_at<'a>(
     alloc: Global,
     set: KeySet,
     found: Option<&'a str>,
     table: &'a Table,
     key: &str,
 ) -> Result<Option<&'a str>, Memory>
-    ensures { IfOk result (λ strange. option_map (λ key. key.now) strange
-        ≡ strange_below set (option_map (λ key. key.now) found.entry)
+    ensures { IfOk result (λ unknown. option_map (λ key. key.now) unknown
+        ≡ unknown_below set (option_map (λ key. key.now) found.entry)
         (tables_in (get_member key.now (table_view table.now)))) }
 {
     let entries = entries_at(alloc, table, key)?;
-    Ok(strange_below(set, found, entries.as_slice()))
+    Ok(unknown_below(set, found, entries.as_slice()))
 }
 
-/// The first strange key of all tables below the top.
-#[tactic(auto, unfolding(crate::specs::Keys::strange_in_tables))]
-fn strange_in_tables(alloc: Global, table: &Table) -> Result<Option<&str>, Memory>
-    ensures { IfOk result (λ strange. option_map (λ key. key.now) strange
-        ≡ strange_in_tables (table_view table.now)) }
+/// The first unknown key of all tables below the top.
+#[tactic(auto, unfolding(crate::specs::Keys::unknown_in_tables))]
+fn unknown_in_tables(alloc: Global, table: &Table) -> Result<Option<&str>, Memory>
+    ensures { IfOk result (λ unknown. option_map (λ key. key.now) unknown
+        ≡ unknown_in_tables (table_view table.now)) }
 {
-    let found = strange_at(alloc, KeySet::Group, None, table, "group")?;
-    let found = strange_at(alloc, KeySet::Project, found, table, "project")?;
-    let found = strange_at(alloc, KeySet::Status, found, table, "status")?;
-    let found = strange_at(alloc, KeySet::Transition, found, table, "transition")?;
-    let found = strange_at(alloc, KeySet::Field, found, table, "field")?;
-    strange_at(alloc, KeySet::Offset, found, table, "offset")
+    let found = unknown_at(alloc, KeySet::Group, None, table, "group")?;
+    let found = unknown_at(alloc, KeySet::Project, found, table, "project")?;
+    let found = unknown_at(alloc, KeySet::Status, found, table, "status")?;
+    let found = unknown_at(alloc, KeySet::Transition, found, table, "transition")?;
+    let found = unknown_at(alloc, KeySet::Field, found, table, "field")?;
+    unknown_at(alloc, KeySet::Offset, found, table, "offset")
 }
 
 /// The fault that a key isn't the setup's.
@@ -201,10 +201,10 @@ fn strange_in_tables(alloc: Global, table: &Table) -> Result<Option<&str>, Memor
 pub fn check_keys(alloc: Global, table: &Table) -> Result<(), SetupFault>
     ensures { Tells (key_fault (table_view table.now)) result }
 {
-    if let Some(key) = strange_key(KeySet::Top, table) {
+    if let Some(key) = unknown_key(KeySet::Top, table) {
         return Err(SetupFault::unknown(alloc, key));
     }
-    match strange_in_tables(alloc, table)? {
+    match unknown_in_tables(alloc, table)? {
         Some(key) => Err(SetupFault::unknown(alloc, key)),
         None => Ok(()),
     }

@@ -1,2 +1,2 @@
-pub mod Ties
+pub mod Resolving
 pub mod Reading

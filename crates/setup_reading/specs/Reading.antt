@@ -6,11 +6,11 @@ use Rattle.toml.specs.Parse.{parse_document}
 use Rattle.setup_drafts.specs.declared.fault.SetupFault.{SetupFault}
 use Rattle.setup_drafts.specs.declared.fault.SetupFault.TheVariants.{BadToml, Memory}
 use Rattle.setup_drafts.specs.declared.draft.Draft.{Draft}
-use Rattle.setup_reading.specs.declared.tied.Tied.{Tied}
+use Rattle.setup_reading.specs.declared.resolved.Resolved.{Resolved}
 use Rattle.field_values.specs.Parts.{Parts}
 use Rattle.setup_drafts.specs.Faults.{first_of}
 use Rattle.setup_drafts.specs.Drafts.{draft_fault, draft_of}
-use Rattle.setup_reading.specs.Ties.{tie_fault, tied}
+use Rattle.setup_reading.specs.Resolving.{resolve_fault, resolved}
 use Rattle.setup_drafts.specs.Keys.{key_fault}
 
 abbrev pub fault_or : {V : Type 0} → Option SetupFault → V → Result V SetupFault
@@ -19,10 +19,10 @@ fault_or (Some fault) value = Err fault
 
 -- the first fault: of what the keys hold, then of the names and rules in it, then of the keys themselves
 unfoldable pub first_fault : Members → Option SetupFault
-first_fault ms = first_of (draft_fault ms ∷ tie_fault (draft_of ms) ∷ key_fault ms ∷ [])
+first_fault ms = first_of (draft_fault ms ∷ resolve_fault (draft_of ms) ∷ key_fault ms ∷ [])
 
 -- what is written, with numbers in place of the names that must be known
-abbrev pub parts_of : Draft → Tied → Parts
+abbrev pub parts_of : Draft → Resolved → Parts
 parts_of draft numbers = record {
   utc_offset_minutes = draft.head.utc_offset_minutes;
   week_starts = draft.head.week_starts;
@@ -45,7 +45,7 @@ parts_of draft numbers = record {
 
 -- the setup that a table says
 unfoldable pub parts_in : Members → Parts
-parts_in ms = parts_of (draft_of ms) (tied (draft_of ms))
+parts_in ms = parts_of (draft_of ms) (resolved (draft_of ms))
 
 -- the parts, or the first fault
 unfoldable pub parts_or_fault : Members → Result Parts SetupFault

@@ -4,8 +4,8 @@
 pub mod built_in_text;
 pub mod name_lists;
 pub mod reading;
-pub mod tie;
-pub mod tie_transition;
-pub mod tied;
+pub mod resolve;
+pub mod resolve_transition;
+pub mod resolved;
 
 pub use built_in_text::BUILT_IN;

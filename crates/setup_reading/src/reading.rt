@@ -7,9 +7,9 @@ ghost use Rattle.field_values.specs.Words.{day_number};
 ghost use Rattle.setup_drafts.specs.Drafts.{draft_of, IsSmall};
 ghost use Rattle.setup_drafts.specs.Faults.{Answers};
 ghost use Rattle.setup_reading.specs.Reading.{parts_of, first_fault, setup_in};
-ghost use Rattle.setup_reading.specs.Ties.{tie_fault, tied};
+ghost use Rattle.setup_reading.specs.Resolving.{resolve_fault, resolved};
 
-use crate::tied::{Tied, tie};
+use crate::resolved::{Resolved, resolve};
 use setup_drafts::draft::{Draft, read_draft};
 use setup_drafts::fault::SetupFault;
 use setup_drafts::keys::check_keys;
@@ -19,7 +19,7 @@ use toml::Table;
 /// What is written in a setup's table, and the numbers of what it names.
 pub struct Reading {
     pub draft: Draft,
-    pub numbers: Tied,
+    pub numbers: Resolved,
 }
 
 // Written by hand, so that whoever lets one go makes one call, and its proof takes one step there.
@@ -34,7 +34,7 @@ impl Drop for Reading {
 
 impl Reading {
     /// What it is made of.
-    pub fn into_parts(self) -> (Draft, Tied)
+    pub fn into_parts(self) -> (Draft, Resolved)
         ensures { result ≡ (self.draft, self.numbers) }
     {
         let Reading { draft, numbers } = self;
@@ -61,28 +61,28 @@ fn table_of(alloc: Global, text: &str) -> Result<Table, SetupFault>
 }
 
 /// What the names of a table's draft name, or the first fault among them.
-fn tie_table(alloc: Global, table: &Table, draft: &Draft) -> Result<Tied, SetupFault>
+fn resolve_table(alloc: Global, table: &Table, draft: &Draft) -> Result<Resolved, SetupFault>
     requires draft { draft.now ≡ draft_of (table_view table.now) }
     requires small { IsSmall draft.now }
-    ensures told { Answers (tie_fault (draft_of (table_view table.now))) (tied (draft_of (table_view table.now))) result }
-    ensures groups { IfOk result (λ tied. length tied.tables.groups ≡ length draft.now.tables.groups) }
-    ensures projects { IfOk result (λ tied. length tied.tables.projects ≡ length draft.now.tables.projects) }
+    ensures told { Answers (resolve_fault (draft_of (table_view table.now))) (resolved (draft_of (table_view table.now))) result }
+    ensures groups { IfOk result (λ resolved. length resolved.tables.groups ≡ length draft.now.tables.groups) }
+    ensures projects { IfOk result (λ resolved. length resolved.tables.projects ≡ length draft.now.tables.projects) }
 {
     let _table = table;
-    tie(alloc, draft)
+    resolve(alloc, draft)
 }
 
 /// A table's draft beside what its names name, or the first fault among them.
 fn with_numbers(alloc: Global, table: &Table, draft: Draft) -> Result<Reading, SetupFault>
     requires draft { draft ≡ draft_of (table_view table.now) }
     requires small { IsSmall draft }
-    ensures told { Answers (tie_fault (draft_of (table_view table.now)))
-        (record { draft = draft_of (table_view table.now); numbers = tied (draft_of (table_view table.now)) }) result }
+    ensures told { Answers (resolve_fault (draft_of (table_view table.now)))
+        (record { draft = draft_of (table_view table.now); numbers = resolved (draft_of (table_view table.now)) }) result }
     ensures draft { IfOk result (λ reading. reading.draft ≡ draft) }
     ensures groups { IfOk result (λ reading. length reading.numbers.tables.groups ≡ length reading.draft.tables.groups) }
     ensures projects { IfOk result (λ reading. length reading.numbers.tables.projects ≡ length reading.draft.tables.projects) }
 {
-    match tie_table(alloc, table, &draft) {
+    match resolve_table(alloc, table, &draft) {
         Ok(numbers) => Ok(Reading { draft, numbers }),
         Err(fault) => Err(fault),
     }
@@ -103,7 +103,7 @@ fn unless(fault: Result<(), SetupFault>, reading: Reading) -> Result<Reading, Se
 #[tactic(auto, unfolding(crate::specs::Reading::first_fault))]
 fn read_table(alloc: Global, table: &Table) -> Result<Reading, SetupFault>
     ensures told { Answers (first_fault (table_view table.now))
-        (record { draft = draft_of (table_view table.now); numbers = tied (draft_of (table_view table.now)) }) result }
+        (record { draft = draft_of (table_view table.now); numbers = resolved (draft_of (table_view table.now)) }) result }
     ensures small { IfOk result (λ reading. IsSmall reading.draft) }
     ensures clock { IfOk result (λ reading. reading.draft.steps ≡ steps_of reading.draft.head.utc_offset_minutes
         (day_number reading.draft.head.week_starts) reading.draft.steps.offsets) }

@@ -22,10 +22,10 @@ use Rattle.workflow.specs.declared.fault.PlanFault.{PlanFault}
 use Rattle.field_values.specs.declared.numbers.TheConstants.FieldNo.{STATUS as status, REPORTER as reporter}
 use Rattle.workflow.specs.Net.{last_value, with_changes, put_change, put_changes, is_news, net_changes}
 use Rattle.workflow.specs.Inputs.{is_refused, least_with, refused_input}
-use Rattle.workflow.specs.Conditions.{project_of}
+use Rattle.workflow.specs.Conditions.{project_number}
 use Rattle.workflow.specs.PostFunctions.{change, lead_of, post_change, with_post}
 use Rattle.workflow.specs.Plan.{first_fault, all_changes, planned}
-use Rattle.workflow.specs.Laws.{AllFit, PostFits, AllPostFit, AreLeadsKnown, IsSound, EditFits, PlanFits}
+use Rattle.workflow.specs.Laws.{AllFit, PostFits, AllPostFit, AreLeadsKnown, IsSoundTransition, EditFits, PlanFits}
 use Rattle.workflow.proofs.Differing.{net_is}
 use Rattle.workflow.specs.Difference.{AreNews}
 
@@ -178,7 +178,7 @@ lead_fits_at names projects (Some n) (Some p) known is = user_fits names p.lead 
 lead_fits : (setup : Parts) (h : History) → AreLeadsKnown (length setup.users) setup.project → fits (names_in setup) 5 (lead_of setup h) ≡ true
 unfolding lead_of
 lead_fits setup h known =
-    lead_fits_at (names_in setup) setup.project (project_of setup h) (option_and_then (slice_get setup.project) (project_of setup h)) known refl
+    lead_fits_at (names_in setup) setup.project (project_number setup h) (option_and_then (slice_get setup.project) (project_number setup h)) known refl
 
 post_fits : (setup : Parts) (h : History) (caller : UserNo) (values : FieldNo → Value) (post : PostFunction)
     → PostFits (names_in setup) post → AreLeadsKnown (length setup.users) setup.project → caller.0 < length setup.users → fits (names_in setup) 6 (values reporter) ≡ true
@@ -207,7 +207,7 @@ length-names [] = refl
 length-names (s ∷ ss) = omega (arith, length-names ss)
 
 pub all_fit : (setup : Parts) (h : History) (caller : UserNo) (t : Transition) (inputs : List Change)
-    → IsSound setup t → caller.0 < length setup.users → fits (names_in setup) 6 (present h reporter) ≡ true → AllFit (names_in setup) inputs
+    → IsSoundTransition setup t → caller.0 < length setup.users → fits (names_in setup) 6 (present h reporter) ≡ true → AllFit (names_in setup) inputs
     → AllFit (names_in setup) (all_changes setup h caller t inputs)
     × (last_value (present h status) (all_changes setup h caller t inputs) status ≡ value.Choice t.to)
 unfolding all_changes
@@ -239,7 +239,7 @@ planned_is setup h caller t inputs = refl
 
 -- the changes of a plan fit, whatever its checks say
 pub planned_fit : (setup : Parts) (h : History) (caller : UserNo) (t : Transition) (inputs : List Change)
-    → IsSound setup t → caller.0 < length setup.users → fits (names_in setup) 6 (present h reporter) ≡ true → AllFit (names_in setup) inputs
+    → IsSoundTransition setup t → caller.0 < length setup.users → fits (names_in setup) 6 (present h reporter) ≡ true → AllFit (names_in setup) inputs
     → AllFit (names_in setup) (planned setup h caller t inputs)
 planned_fit setup h caller t inputs sound known reports fit =
     subst (AllFit (names_in setup)) (sym (planned_is setup h caller t inputs))
@@ -251,7 +251,7 @@ planned_news setup h caller t inputs =
     subst (AreNews (present h) 0) (sym (planned_is setup h caller t inputs)) (net_is (present h) (all_changes setup h caller t inputs)).news
 
 pub plan_fits : (setup : Parts) (h : History) (caller : UserNo) (t : Transition) (inputs : List Change) (at : ℕ)
-    → IsSound setup t → caller.0 < length setup.users → fits (names_in setup) 6 (present h reporter) ≡ true
+    → IsSoundTransition setup t → caller.0 < length setup.users → fits (names_in setup) 6 (present h reporter) ≡ true
     → first_fault setup h caller t inputs at ≡ None → PlanFits setup h caller t inputs
 plan_fits setup h caller t inputs at sound known reports none =
     let fit = unrefused_fit (names_in setup) inputs (nothing_refused setup h caller t inputs at none) in

@@ -13,9 +13,9 @@ use Rattle.field_values.specs.declared.rules.PostFunction.TheVariants.{Set, Clea
 use Rattle.field_forms.specs.Known.{Names}
 use Rattle.field_forms.specs.Rules.{is_settable}
 use Rattle.field_forms.specs.SoundRules.{post_is_sound, rules_are_sound, condition_is_sound, validator_is_sound}
-use Rattle.fields.specs.Sound.{part_names, goes_inside, project_is_sound, IsSound as IsSoundSetup}
+use Rattle.fields.specs.Sound.{part_names, goes_inside, project_is_sound, IsSound}
 use Rattle.fields.specs.SetupParts.{names_in}
-use Rattle.workflow.specs.Laws.{PostFits, AllPostFit, AreLeadsKnown, IsSound}
+use Rattle.workflow.specs.Laws.{PostFits, AllPostFit, AreLeadsKnown, IsSoundTransition}
 
 -- the status isn't settable
 not_status : (n : ℕ) → is_settable n ≡ true → n ≢ 4
@@ -54,7 +54,7 @@ at_place p xs k x all is =
     ap p (sym (get_or_from_slice_get xs k x x is)) ∙ AllPass-from_list_all p xs all k x (slice_get_within xs k x is)
 
 -- a transition of a setup leads to a status of it, and what its post functions set fits
-pub sound_transition : (setup : Parts) (place : ℕ) (t : Transition) → IsSoundSetup setup → slice_get setup.transition place ≡ Some t → IsSound setup t
+pub sound_transition : (setup : Parts) (place : ℕ) (t : Transition) → IsSound setup → slice_get setup.transition place ≡ Some t → IsSoundTransition setup t
 sound_transition setup place t sound is =
     let goes = and_parts (nat_lt t.to.0 (length setup.status)) _ (at_place (goes_inside (length setup.status)) setup.transition place t sound.transitions is) in
     let rules = at_place (rules_are_sound (part_names setup)) setup.transition place t sound.rules is in

@@ -18,8 +18,8 @@ use Rattle.change_history.specs.History.{History, present}
 use Rattle.field_values.specs.declared.numbers.TheConstants.FieldNo.{STATUS as status, ASSIGNEE as assignee, REPORTER as reporter}
 
 -- the place of the issue's project, whose key stands before the hyphen of the issue's key
-unfoldable pub project_of : Parts → History → Option ℕ
-project_of setup h = option_and_then (λ parts. place_named parts.0 (map (λ p. p.key) setup.project)) (cut_at 45 h.key)
+unfoldable pub project_number : Parts → History → Option ℕ
+project_number setup h = option_and_then (λ parts. place_named parts.0 (map (λ p. p.key) setup.project)) (cut_at 45 h.key)
 
 -- the value is that user
 abbrev pub is_user : UserNo → Value → Bool
@@ -35,7 +35,7 @@ passes setup h caller IsReporter = is_user caller (present h reporter)
 -- `group:NAME`: the caller is a member of the group now
 passes setup h caller (InGroup group) = has_member setup.group caller.0 group
 -- `permission:NAME`: the caller has the permission in the issue's project
-passes setup h caller (HasPermission permission) = may setup caller.0 permission (project_of setup h)
+passes setup h caller (HasPermission permission) = may setup caller.0 permission (project_number setup h)
 
 -- a condition holds where one of its tests passes; `any:` has several tests, every other condition has one
 abbrev pub condition_holds : Parts → History → UserNo → Condition → Bool

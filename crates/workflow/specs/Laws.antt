@@ -11,7 +11,7 @@ use Rattle.field_values.specs.declared.parts.Project.{Project}
 use Rattle.field_values.specs.declared.parts.Transition.{Transition}
 use Rattle.field_values.specs.Parts.{Parts}
 use Rattle.field_forms.specs.Known.{Names, fits}
-use Rattle.fields.specs.Sound.{IsSound as IsSoundSetup}
+use Rattle.fields.specs.Sound.{IsSound}
 use Rattle.fields.specs.SetupParts.{names_in}
 use Rattle.change_history.specs.declared.change.Change.{Change}
 use Rattle.change_history.specs.History.{History, present, updated, last_change, MayAdd}
@@ -78,7 +78,7 @@ AreLeadsKnown users [] = Unit {0}
 AreLeadsKnown users (p ∷ ps) = (p.lead.0 < users) × AreLeadsKnown users ps
 
 -- the transition leads to a status, its post functions fit, and the leads of projects are users, as of each transition of a setup
-pub record IsSound (setup : Parts) (t : Transition) : Type 0 where
+pub record IsSoundTransition (setup : Parts) (t : Transition) : Type 0 where
   pub to : t.to.0 < length setup.status
   pub post : AllPostFit (names_in setup) t.post
   pub leads : AreLeadsKnown (length setup.users) setup.project
@@ -103,5 +103,5 @@ pub record PlanFits (setup : Parts) (h : History) (caller : UserNo) (t : Transit
 abbrev pub PlansFit : Type 0
 PlansFit =
     (setup : Parts) (h : History) (caller : UserNo) (place : ℕ) (t : Transition) (inputs : List Change) (at : ℕ) →
-    IsSoundSetup setup → slice_get setup.transition place ≡ Some t → caller.0 < length setup.users → fits (names_in setup) 6 (present h reporter) ≡ true →
+    IsSound setup → slice_get setup.transition place ≡ Some t → caller.0 < length setup.users → fits (names_in setup) 6 (present h reporter) ≡ true →
     first_fault setup h caller t inputs at ≡ None → PlanFits setup h caller t inputs

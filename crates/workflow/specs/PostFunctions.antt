@@ -12,7 +12,7 @@ use Rattle.change_history.specs.declared.change.Change.{Change}
 use Rattle.change_history.specs.History.{History, present}
 use Rattle.field_values.specs.declared.numbers.TheConstants.FieldNo.{ASSIGNEE as assignee, REPORTER as reporter, RESOLUTION as resolution}
 use Rattle.workflow.specs.Net.{with_changes}
-use Rattle.workflow.specs.Conditions.{project_of}
+use Rattle.workflow.specs.Conditions.{project_number}
 
 -- that field gets that value
 abbrev pub change : FieldNo → Value → Change
@@ -20,7 +20,7 @@ change field value = record { field = field; to = value }
 
 -- the lead of the issue's project
 unfoldable pub lead_of : Parts → History → Value
-lead_of setup h = option_map_or (λ p. User p.lead) (option_and_then (slice_get setup.project) (project_of setup h)) Empty
+lead_of setup h = option_map_or (λ p. User p.lead) (option_and_then (slice_get setup.project) (project_number setup h)) Empty
 
 -- the change that a post function makes, where the fields hold these values before it
 abbrev pub post_change : Parts → History → UserNo → (FieldNo → Value) → PostFunction → Change

@@ -15,7 +15,7 @@ use Rattle.change_history.specs.History.{History, present}
 use Rattle.field_values.specs.declared.numbers.TheConstants.FieldNo.{DUE as due}
 use Rattle.workflow.specs.Same.{same_value, is_empty}
 use Rattle.workflow.specs.Net.{with_changes}
-use Rattle.workflow.specs.Conditions.{project_of}
+use Rattle.workflow.specs.Conditions.{project_number}
 
 -- the local day of a moment
 abbrev pub today : Parts → ℕ → ℤ
@@ -36,7 +36,7 @@ validator_holds setup h caller inputs at (Changed field) = not (same_value (with
 -- `due`: the due date after the inputs is empty, or not before the local day of the present moment
 validator_holds setup h caller inputs at Due = is_open (today setup at) (with_changes (present h) inputs due)
 -- `permission:NAME`: the caller has the permission in the issue's project
-validator_holds setup h caller inputs at (Permission permission) = may setup caller.0 permission (project_of setup h)
+validator_holds setup h caller inputs at (Permission permission) = may setup caller.0 permission (project_number setup h)
 
 -- the first validator that fails, counted from 1
 unfoldable pub failing_validator : Parts → History → UserNo → Transition → List Change → ℕ → Option ℕ

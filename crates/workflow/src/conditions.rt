@@ -4,7 +4,7 @@ ghost use Rattle.std.specs.List.{list_any};
 ghost use Rattle.fields.specs.SetupParts.{parts};
 ghost use Rattle.workflow.specs.Conditions.{is_user, passes, condition_holds, is_among, failing_condition};
 
-use crate::project::project_of;
+use crate::project::project_number;
 use change_history::Issue;
 use field_values::membership::has_member;
 use fields::{CallerTest, ChoiceNo, Condition, FieldNo, Setup, Transition, UserNo, Value};
@@ -28,7 +28,7 @@ fn passes(setup: &Setup, issue: &Issue, caller: UserNo, test: CallerTest) -> boo
         CallerTest::HasPermission(permission) => setup.may(
             caller,
             permission,
-            project_of(setup, issue),
+            project_number(setup, issue),
         ),
     }
 }

@@ -17,5 +17,5 @@ pub use fault::PlanFault;
 pub use inputs::refused_input;
 pub use net::net_changes;
 pub use planning::{plan, planned};
-pub use project::project_of;
+pub use project::project_number;
 pub use validators::failing_validator;

@@ -6,7 +6,7 @@ ghost use Rattle.workflow.specs.Net.{with_changes};
 ghost use Rattle.workflow.specs.PostFunctions.{lead_of, post_change, with_post};
 
 use crate::net::value_after;
-use crate::project::project_of;
+use crate::project::project_number;
 use change_history::{Change, Changes, Issue};
 use fields::{FieldNo, Memory, PostFunction, Setup, UserNo, Value};
 use std::alloc::Global;
@@ -16,7 +16,7 @@ use std::alloc::Global;
 fn lead_of(setup: &Setup, issue: &Issue) -> Value
     ensures { result ≡ lead_of (parts setup.now) issue.now.history }
 {
-    let Some(no) = project_of(setup, issue) else {
+    let Some(no) = project_number(setup, issue) else {
         return Value::Empty;
     };
     match setup.project.as_slice().get(usize::from(no.0)) {

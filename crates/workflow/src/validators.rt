@@ -5,7 +5,7 @@ ghost use Rattle.change_history.specs.History.{present};
 ghost use Rattle.workflow.specs.Validators.{is_open, validator_holds, failing_validator};
 
 use crate::net::value_after;
-use crate::project::project_of;
+use crate::project::project_number;
 use crate::same::{is_empty, is_same};
 use change_history::{Change, Issue};
 use fields::{Day, FieldNo, Moment, Setup, Transition, UserNo, Validator, Value};
@@ -38,7 +38,7 @@ fn validator_holds(
         }
         Validator::Due => is_open(setup.day_of(at), value_after(issue, inputs, FieldNo::DUE)),
         Validator::Permission(permission) => {
-            setup.may(caller, permission, project_of(setup, issue))
+            setup.may(caller, permission, project_number(setup, issue))
         }
     }
 }

@@ -2,6 +2,7 @@ ghost use Rattle.std.specs.Prelude.{◌≡◌, ◌≤◌, ◌≤ℤ◌, [], nat_
 ghost use Rattle.std.specs.List.{list_all};
 ghost use Rattle.toml.specs.Data.{get_member};
 ghost use Rattle.toml.specs.View.{table_view};
+ghost use Rattle.field_values.specs.Years.{last_second};
 ghost use Rattle.relative_dates.specs.Calendar.{IsOffset, calendar_with, step_at};
 ghost use Rattle.setup_drafts.specs.Faults.{Answers};
 ghost use Rattle.setup_drafts.specs.Cells.{whole_fault, whole_in};
@@ -18,6 +19,9 @@ use relative_dates::{Calendar, StepFault};
 use std::alloc::Global;
 use toml::Table;
 
+// The last moment, as a table's number.
+const LAST: i64 = Moment::LAST as i64;
+
 /// Steps of the offset, and the calendar that has taken them.
 #[derive(Drop)]
 pub struct OffsetSteps {
@@ -32,10 +36,10 @@ fn comes_later(earlier: &[Offset], from: u64) -> bool
 }
 
 fn moment_at(alloc: Global, entry: &Table, key: &str) -> Result<Moment, SetupFault>
-    ensures { Answers (whole_fault key.now (pos 0) (pos 4_102_444_799) (get_member key.now (table_view entry.now)))
+    ensures { Answers (whole_fault key.now (pos 0) (pos last_second) (get_member key.now (table_view entry.now)))
         (unsigned_abs (whole_in (get_member key.now (table_view entry.now)))) result }
 {
-    let seconds = whole_at(alloc, entry, key, 0, 4_102_444_799)?;
+    let seconds = whole_at(alloc, entry, key, 0, LAST)?;
     match Moment::new(seconds as u64) {
         Some(moment) => Ok(moment),
         None => unreachable!(),
@@ -45,7 +49,7 @@ fn moment_at(alloc: Global, entry: &Table, key: &str) -> Result<Moment, SetupFau
 /// Whether the calendar took the step; it doesn't where the local day would go back.
 #[tactic(auto, using(crate::proofs::LocalSteps::day_goes_back, crate::proofs::LocalSteps::day_goes_on), unfolding(crate::specs::Offsets::turns_back))]
 fn takes_step(calendar: &mut Calendar, from: u64, minutes: i32) -> Result<bool, Memory>
-    requires from { from ≤ 4_102_444_799 }
+    requires from { from ≤ last_second }
     requires minutes { IsOffset minutes }
     ensures told { IfOk result (λ taken. taken ≡ not (turns_back calendar.old.zone from minutes)) }
     ensures taken { IfOk result (λ taken. IsTrue taken → calendar.new ≡ calendar_with calendar.old (step_at from minutes)) }

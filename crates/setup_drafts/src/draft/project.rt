@@ -1,7 +1,7 @@
 ghost use Rattle.std.specs.Prelude.{◌≡◌, [], ◌∷◌, length, map, IfOk, OnOk, codes};
 ghost use Rattle.toml.specs.Data.{get_member};
 ghost use Rattle.toml.specs.View.{table_view};
-ghost use Rattle.setup_drafts.specs.Cells.{names_in};
+ghost use Rattle.setup_drafts.specs.Cells.{cell_names};
 ghost use Rattle.setup_drafts.specs.Faults.{Answers, Tells, first_of};
 ghost use Rattle.setup_drafts.specs.Entries.{entries_fault, with_name};
 ghost use Rattle.setup_drafts.specs.Projects.{groups_fault, project_fault, project_draft};
@@ -56,11 +56,11 @@ fn read_permissions(
         ∷ [])) result }
     ensures read { let e = table_view entry.now in
         OnOk result (project.new ≡ record project.old {
-          browse = names_in (get_member (codes "browse") e);
-          create = names_in (get_member (codes "create") e);
-          edit = names_in (get_member (codes "edit") e);
-          transition = names_in (get_member (codes "transition") e);
-          rank = names_in (get_member (codes "rank") e);
+          browse = cell_names (get_member (codes "browse") e);
+          create = cell_names (get_member (codes "create") e);
+          edit = cell_names (get_member (codes "edit") e);
+          transition = cell_names (get_member (codes "transition") e);
+          rank = cell_names (get_member (codes "rank") e);
         }) }
 {
     project.browse = names_at(alloc, entry, "browse", NameForm::AnyText, 0, None)?;

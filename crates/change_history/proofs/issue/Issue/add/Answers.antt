@@ -1,5 +1,5 @@
 use Rattle.std.proofs.Common.{◌≡◌, ℕ, ◌+◌, arith, subst, sym, ap, List, length, refl, ◌∙◌}
-use Rattle.change_history.specs.History.{Kept, MayAdd}
+use Rattle.change_history.specs.History.{RoomyHistory, MayAdd}
 use Rattle.change_history.specs.contracts.issue.Issue.{the_view}
 use Rattle.change_history.specs.declared.entry.Entry.{Entry}
 use Rattle.change_history.specs.declared.entry.Group.{Group}
@@ -12,7 +12,7 @@ pub invariant_of-self : goal.invariant_of-self
 invariant_of-self c =
     let before = c.self.invariant in
     let group = c.args.group in
-    let may = subst (λ (k : Kept). MayAdd k.history group.change group.at group.author group.entries) (sym c.self.view_is) c.requires.group in
+    let may = subst (λ (k : RoomyHistory). MayAdd k.history group.change group.at group.author group.entries) (sym c.self.view_is) c.requires.group in
     let may_own = subst (λ (es : List Entry). MayAdd (the_view c.self.inside).history group.change group.at group.author es) (sym (ap (λ (g : Group). g.entries) c.group.view_is)) may in
     let count : c.len-opening.result + c.len-2.result ≡ length c.self.inside.opening.items + length c.self.inside.entries.items = omega (arith, c.len-opening.ensures, c.len-2.ensures) in
     let n : length c.self.inside.opening.items ≡ c.len-opening.result = omega (arith, c.len-opening.ensures) in
