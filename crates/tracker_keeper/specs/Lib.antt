@@ -1,3 +1,13 @@
 pub mod Rows
 pub mod Causes
 pub mod Places
+pub mod Parts
+pub mod ValueData
+pub mod Bodies
+pub mod Forms
+pub mod Kept
+pub mod Written
+pub mod Sorted
+pub mod Looking
+pub mod LookingAtValues
+pub mod LookingAtRows

@@ -1,9 +1,9 @@
 ghost use Rattle.std.specs.Prelude.{◌<◌, ◌^◌, IfSome};
 ghost use Rattle.tracker_keeper.specs.Rows.{number_of};
 
-use crate::{KeepFault, Keeper, MemoryKeeper, NeverFails, Row, RowOp};
 use field_values::Text;
 use std::alloc::Global;
+use tracker_keeper::{KeepFault, Keeper, MemoryKeeper, NeverFails, Row, RowOp};
 
 /// Rows in no order: one is put twice, one is taken out again, and one that isn't there is taken out.
 const OPERATIONS: [(u8, u32, &str); 7] = [
