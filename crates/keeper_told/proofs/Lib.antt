@@ -1,0 +1,10 @@
+pub mod Answering
+pub mod Upserting
+pub mod Deleting
+pub mod Making
+pub mod Selecting
+pub mod Inside
+pub mod Lasting
+pub mod Columns
+pub mod Schemas
+pub mod Finding
