@@ -87,4 +87,5 @@ reply_has_no_float (reply.Refused (refusal.Unfit field)) = refl
 reply_has_no_float (reply.Refused (refusal.Query kind place)) = refl
 reply_has_no_float (reply.Refused (refusal.Limit l)) = refl
 reply_has_no_float (reply.Refused (refusal.Earlier kept)) = refl
+reply_has_no_float (reply.Refused refusal.Keeper) = refl
 reply_has_no_float (reply.Refused refusal.Memory) = refl

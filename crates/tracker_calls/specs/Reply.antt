@@ -160,6 +160,7 @@ refusal_data (refusal.Unfit field) = unfit_data field
 refusal_data (refusal.Query kind place) = query_data kind place
 refusal_data (refusal.Limit l) = limit_data l
 refusal_data (refusal.Earlier kept) = earlier_data kept
+refusal_data refusal.Keeper = number_data 14
 refusal_data refusal.Memory = number_data 15
 
 abbrev pub reply_data : Reply → Data

@@ -201,6 +201,9 @@ pub enum Refusal {
         kept: Moment,
     },
 
+    /// Number 14: what keeps the rows failed, and nothing was kept.
+    Keeper,
+
     /// Number 15: there was not enough memory.
     Memory,
 }

@@ -165,6 +165,7 @@ fn put_refusal(
         Refusal::Query { kind, place } => put_query(alloc, members, *kind, *place),
         Refusal::Limit { limit } => put_limit(alloc, members, *limit),
         Refusal::Earlier { kept } => put_earlier(alloc, members, *kept),
+        Refusal::Keeper => put_number(alloc, members, "no", 14),
         Refusal::Memory => put_number(alloc, members, "no", 15),
     }
 }

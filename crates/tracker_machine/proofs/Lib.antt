@@ -1,5 +1,14 @@
+pub mod Chronicle
+pub mod Totals
+pub mod Settled
+pub mod Tracker
+pub mod Kept
+pub mod Keepable
+pub mod Opening
+pub mod WorkedRows
 pub mod Replies
 pub mod Runs
 pub mod Naming
 pub mod InOrder
 pub mod Asking
+pub mod Least

@@ -1,6 +1,5 @@
 -- A line's reply, by what was answered.
 use Rattle.std.proofs.Common.{subst, codes, [], false, ◌≡◌, ℕ, List, Ok, Err, Some, None, refl, sym, ap, ◌∙◌}
-use Rattle.std.specs.Prelude.{Option}
 use Rattle.std.specs.Bool.{MatchBool}
 use Rattle.std.specs.Fmt.{digits}
 use Rattle.serde_json.proofs.OnLiterals.{serde_json_on_literals}
@@ -13,10 +12,10 @@ use Rattle.tracker_calls.specs.declared.reply.Answer.{Answer}
 use Rattle.tracker_calls.specs.declared.reply.Refusal.{Refusal}
 use Rattle.tracker_calls.specs.declared.reply.Refusal.TheVariants as refusal
 use Rattle.tracker_machine.specs.Machine.{Machine}
-use Rattle.tracker_machine.specs.Refusal.{first_refusal, user_of}
-use Rattle.tracker_machine.specs.Answer.{answer_of}
-use Rattle.tracker_machine.specs.Step.{changed, refused_or, same_or, reply_of, next_of, Performs, IsRefused, IsStep}
-use Rattle.tracker_machine.specs.Run.{plain, memory, asked_reply, asked_next, reply_line, is_blank, RepliesTo, HasReply, AnswersLine}
+use Rattle.tracker_machine.specs.Meaning.{Meaning, reply_to, next_after, IsDue, Performs}
+use Rattle.tracker_machine.specs.Meaning.Meaning.{Refuses}
+use Rattle.tracker_machine.specs.Step.{meaning, reply_of, next_of, IsStep}
+use Rattle.tracker_machine.specs.Run.{plain, memory, keeper, asked_reply, asked_next, reply_line, is_blank, RepliesTo, HasReply, AnswersLine}
 
 plainly : (old new : Machine) (line user : List ℕ) (c : Call) (r : Reply) → line_of line ≡ Ok (user, c) → r ≡ reply_of old user c → new ≡ next_of old user c → RepliesTo old line r new
 plainly old new line user c r asked is next = record {
@@ -25,37 +24,34 @@ plainly old new line user c r asked is next = record {
   new_is = next ∙ ap (asked_next old) (sym asked);
 }
 
-reply_at : (m : Machine) (user : List ℕ) (c : Call) (o : Option Refusal) → first_refusal m user c ≡ o → reply_of m user c ≡ refused_or o (answer_of m (user_of m user) c)
-unfolding reply_of
-reply_at m user c o is = ap (λ o. refused_or o (answer_of m (user_of m user) c)) is
+-- what was answered is what is due
+answered : (old new : Machine) (line user : List ℕ) (c : Call) (due : Meaning) (a : Answer) → line_of line ≡ Ok (user, c) → meaning old user c ≡ due → reply_to due ≡ reply.Ok a → new ≡ next_after due old
+    → RepliesTo old line (reply.Ok a) new
+unfolding reply_of next_of
+answered old new line user c due a asked is same next =
+    plainly old new line user c (reply.Ok a) asked (sym same ∙ ap reply_to (sym is)) (next ∙ ap (λ d. next_after d old) (sym is))
 
-next_at : (m : Machine) (user : List ℕ) (c : Call) (o : Option Refusal) → first_refusal m user c ≡ o → next_of m user c ≡ same_or o m (changed m (user_of m user) c)
-unfolding next_of
-next_at m user c o is = ap (λ o. same_or o m (changed m (user_of m user) c)) is
-
-refused : (old new : Machine) (line user : List ℕ) (c : Call) (r : Refusal) → line_of line ≡ Ok (user, c) → first_refusal old user c ≡ Some r → new ≡ old → RepliesTo old line (reply.Refused r) new
+refused : (old new : Machine) (line user : List ℕ) (c : Call) (r : Refusal) → line_of line ≡ Ok (user, c) → meaning old user c ≡ Refuses r → new ≡ old → RepliesTo old line (reply.Refused r) new
+unfolding reply_of next_of
 refused old new line user c r asked is same =
-    plainly old new line user c (reply.Refused r) asked (sym (reply_at old user c (Some r) is)) (same ∙ sym (next_at old user c (Some r) is))
+    plainly old new line user c (reply.Refused r) asked (ap reply_to (sym is)) (same ∙ ap (λ d. next_after d old) (sym is))
 
-answered : (old new : Machine) (line user : List ℕ) (c : Call) (a : Answer) → line_of line ≡ Ok (user, c) → first_refusal old user c ≡ None → a ≡ answer_of old (user_of old user) c → new ≡ changed old (user_of old user) c → RepliesTo old line (reply.Ok a) new
-answered old new line user c a asked is same next =
-    plainly old new line user c (reply.Ok a) asked (ap reply.Ok same ∙ sym (reply_at old user c None is)) (next ∙ sym (next_at old user c None is))
+unmarked : (old new : Machine) (line user : List ℕ) (c : Call) (r : Refusal) → line_of line ≡ Ok (user, c) → IsDue (meaning old user c) r → new ≡ old → RepliesTo old line (reply.Refused r) new
+unmarked old new line user c refusal.Memory asked due same = record { mark = memory; reply_is = refl; new_is = same }
+unmarked old new line user c refusal.Keeper asked due same = record { mark = keeper; reply_is = refl; new_is = same }
+unmarked old new line user c (refusal.Form f) asked due same = refused old new line user c (refusal.Form f) asked due same
+unmarked old new line user c (refusal.Unknown k f) asked due same = refused old new line user c (refusal.Unknown k f) asked due same
+unmarked old new line user c (refusal.Forbidden p q) asked due same = refused old new line user c (refusal.Forbidden p q) asked due same
+unmarked old new line user c (refusal.Condition k) asked due same = refused old new line user c (refusal.Condition k) asked due same
+unmarked old new line user c (refusal.Validator k) asked due same = refused old new line user c (refusal.Validator k) asked due same
+unmarked old new line user c (refusal.Unfit f) asked due same = refused old new line user c (refusal.Unfit f) asked due same
+unmarked old new line user c (refusal.Query k p) asked due same = refused old new line user c (refusal.Query k p) asked due same
+unmarked old new line user c (refusal.Limit l) asked due same = refused old new line user c (refusal.Limit l) asked due same
+unmarked old new line user c (refusal.Earlier k) asked due same = refused old new line user c (refusal.Earlier k) asked due same
 
-unmarked : (old new : Machine) (line user : List ℕ) (c : Call) (r : Refusal) → line_of line ≡ Ok (user, c) → IsRefused (first_refusal old user c) old r new → RepliesTo old line (reply.Refused r) new
-unmarked old new line user c refusal.Memory asked same = record { mark = memory; reply_is = refl; new_is = same }
-unmarked old new line user c (refusal.Form f) asked step = refused old new line user c (refusal.Form f) asked step.0 step.1
-unmarked old new line user c (refusal.Unknown k f) asked step = refused old new line user c (refusal.Unknown k f) asked step.0 step.1
-unmarked old new line user c (refusal.Forbidden p q) asked step = refused old new line user c (refusal.Forbidden p q) asked step.0 step.1
-unmarked old new line user c (refusal.Condition k) asked step = refused old new line user c (refusal.Condition k) asked step.0 step.1
-unmarked old new line user c (refusal.Validator k) asked step = refused old new line user c (refusal.Validator k) asked step.0 step.1
-unmarked old new line user c (refusal.Unfit f) asked step = refused old new line user c (refusal.Unfit f) asked step.0 step.1
-unmarked old new line user c (refusal.Query k p) asked step = refused old new line user c (refusal.Query k p) asked step.0 step.1
-unmarked old new line user c (refusal.Limit l) asked step = refused old new line user c (refusal.Limit l) asked step.0 step.1
-unmarked old new line user c (refusal.Earlier k) asked step = refused old new line user c (refusal.Earlier k) asked step.0 step.1
-
-performed : (old new : Machine) (line user : List ℕ) (c : Call) (r : Reply) → line_of line ≡ Ok (user, c) → Performs (first_refusal old user c) (answer_of old (user_of old user) c) (changed old (user_of old user) c) old r new → RepliesTo old line r new
-performed old new line user c (reply.Ok a) asked step = answered old new line user c a asked step.0 step.1 step.2
-performed old new line user c (reply.Refused r) asked step = unmarked old new line user c r asked step
+performed : (old new : Machine) (line user : List ℕ) (c : Call) (r : Reply) → line_of line ≡ Ok (user, c) → Performs (meaning old user c) old r new → RepliesTo old line r new
+performed old new line user c (reply.Ok a) asked step = answered old new line user c (meaning old user c) a asked refl step.0 step.1
+performed old new line user c (reply.Refused r) asked step = unmarked old new line user c r asked step.0 step.1
 
 pub RepliesTo-step : (old new : Machine) (line user : List ℕ) (c : Call) (r : Reply) → line_of line ≡ Ok (user, c) → IsStep old user c r new → RepliesTo old line r new
 unfolding IsStep
@@ -80,3 +76,8 @@ AnswersLine-reply old new line text r some replies is =
 pub memory_text : reply_text (reply.Refused refusal.Memory) ≡ codes "{\"refused\":{\"no\":15}}"
 unfolding digits serde_json_on_literals reply_text
 memory_text = refl
+
+-- so has that of a keeper that failed
+pub keeper_text : reply_text (reply.Refused refusal.Keeper) ≡ codes "{\"refused\":{\"no\":14}}"
+unfolding digits serde_json_on_literals reply_text
+keeper_text = refl

@@ -12,7 +12,6 @@ use Rattle.change_history.specs.declared.change.Change.{Change}
 use Rattle.change_history.specs.History.{History}
 use Rattle.workflow.specs.Same.{is_empty}
 use Rattle.tracker_calls.specs.declared.given.GivenField.{GivenField}
-use Rattle.tracker_calls.specs.declared.reply.Answer.{Answer}
 use Rattle.tracker_calls.specs.declared.reply.Answer.TheVariants as answer
 use Rattle.tracker_calls.specs.declared.reply.Refusal.{Refusal}
 use Rattle.tracker_calls.specs.declared.reply.Refusal.TheVariants as refusal
@@ -24,6 +23,9 @@ use Rattle.fields.specs.Naming.{name_at}
 use Rattle.tracker_machine.specs.Known.{project_keys, known_place, next_key}
 use Rattle.tracker_machine.specs.Wanted.{given_for, wanted_or, wanted_given, wanted_in, changes_of}
 use Rattle.tracker_machine.specs.Checks.{or_then, unless_known, set_refusal, permission_refusal, issues_refusal, bytes_refusal, values_refusal}
+use Rattle.tracker_machine.specs.Effect.Effect.{NewIssue}
+use Rattle.tracker_machine.specs.Meaning.{Meaning, unless}
+use Rattle.tracker_machine.specs.Meaning.Meaning.{Makes}
 
 -- type and summary have members of their own, and aren't given in `set` as well
 abbrev pub member_wanted : Names → ℕ → List GivenField → List ℕ → Wanted
@@ -59,17 +61,15 @@ create_refusal m caller project issue_type summary set =
 abbrev pub spelled_key : Machine → List ℕ → List ℕ
 spelled_key m project = name_at (project_keys m.setup) (known_place project (project_keys m.setup))
 
-abbrev pub create_answer : Machine → List ℕ → Answer
-create_answer m project = answer.Create false (m.change + 1) (next_key m (spelled_key m project))
-
 -- the changes that aren't to nothing
 abbrev pub filled : List Change → List Change
 filled changes = filter (λ c. not (is_empty c.to)) changes
 
-abbrev pub opened : Machine → ℕ → List ℕ → List Change → History
-opened m caller project opening = record {
+-- an issue of that key that opens now
+abbrev pub opening_history : Machine → ℕ → List ℕ → List Change → History
+opening_history m caller key opening = record {
   no = record { 0 = length m.histories + 1 };
-  key = next_key m project;
+  key = key;
   change = m.change + 1;
   at = m.moment;
   author = record { 0 = caller };
@@ -77,9 +77,15 @@ opened m caller project opening = record {
   entries = [];
 }
 
-abbrev pub with_issue : Machine → History → Machine
-with_issue m h = record m { change = m.change + 1; histories = m.histories ++ h ∷ [] }
+abbrev pub opened : Machine → ℕ → List ℕ → List Change → History
+opened m caller project opening = opening_history m caller (next_key m project) opening
 
-abbrev pub created : Machine → ℕ → List ℕ → List ℕ → List ℕ → List GivenField → Machine
-created m caller project issue_type summary set =
-    with_issue m (opened m caller (spelled_key m project) (filled (changes_of (names_in m.setup) (create_wants m.setup caller issue_type summary set))))
+-- an issue of the project of that key, with these values
+abbrev pub created : Machine → ℕ → List ℕ → List Change → Meaning
+created m caller project changes =
+    Makes (answer.Create false (m.change + 1) (next_key m project)) (NewIssue (opened m caller project (filled changes)))
+
+abbrev pub create_meaning : Machine → ℕ → List ℕ → List ℕ → List ℕ → List GivenField → Meaning
+create_meaning m caller project issue_type summary set =
+    unless (create_refusal m caller project issue_type summary set)
+    (created m caller (spelled_key m project) (changes_of (names_in m.setup) (create_wants m.setup caller issue_type summary set)))

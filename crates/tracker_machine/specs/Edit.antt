@@ -17,7 +17,8 @@ use Rattle.tracker_machine.specs.Known.{place_of_issue, history_named}
 use Rattle.tracker_machine.specs.Wanted.{wanted_in, changes_of}
 use Rattle.tracker_machine.specs.Checks.{or_then, unless_known, set_refusal, entries_refusal, bytes_refusal, values_refusal}
 use Rattle.tracker_machine.specs.Access.{access_refusal}
-use Rattle.tracker_machine.specs.Group.{group_number, with_group_at}
+use Rattle.tracker_machine.specs.Group.{grouped_at}
+use Rattle.tracker_machine.specs.Meaning.{Meaning, unless}
 
 -- what the call gives for each field
 abbrev pub set_wants : Machine → List GivenField → ℕ → Wanted
@@ -41,9 +42,10 @@ abbrev pub edit_news : Machine → List GivenField → Option History → List C
 edit_news m set None = []
 edit_news m set (Some h) = net_changes (present h) (set_changes m set)
 
-abbrev pub edit_answer : Machine → List ℕ → List GivenField → Answer
-edit_answer m issue set = answer.Edit (group_number m (edit_news m set (history_named m issue))) issue
+abbrev pub edit_answer : List ℕ → Option ℕ → Answer
+edit_answer issue number = answer.Edit number issue
 
-abbrev pub edited : Machine → ℕ → List ℕ → List GivenField → Machine
-edited m caller issue set =
-    with_group_at m caller (place_of_issue issue m.histories) (history_named m issue) (edit_news m set (history_named m issue))
+abbrev pub edit_meaning : Machine → ℕ → List ℕ → List GivenField → Meaning
+edit_meaning m caller issue set =
+    unless (edit_refusal m caller issue set)
+    (grouped_at (edit_answer issue) m caller (place_of_issue issue m.histories) (history_named m issue) (edit_news m set (history_named m issue)))

@@ -19,6 +19,8 @@ use Rattle.tracker_machine.specs.Known.{history_named}
 use Rattle.tracker_machine.specs.Checks.{or_then, unless_known}
 use Rattle.tracker_machine.specs.Access.{access_refusal}
 use Rattle.tracker_machine.specs.Show.{shown_value}
+use Rattle.tracker_machine.specs.Meaning.{Meaning, unless}
+use Rattle.tracker_machine.specs.Meaning.Meaning.{Tells}
 
 -- an entry as it is told
 abbrev pub told_entry : Names → Entry → ToldEntry
@@ -40,5 +42,5 @@ abbrev pub history_answer_of : Machine → Part → Option History → Answer
 history_answer_of m part None = answer.History [] 0
 history_answer_of m part (Some h) = answer.History (map (told_entry (names_in m.setup)) (part_of part h.entries)) (length h.entries)
 
-abbrev pub history_answer : Machine → List ℕ → Part → Answer
-history_answer m issue part = history_answer_of m part (history_named m issue)
+abbrev pub history_meaning : Machine → ℕ → List ℕ → Part → Meaning
+history_meaning m caller issue part = unless (history_refusal m caller issue) (Tells (history_answer_of m part (history_named m issue)))

@@ -3,6 +3,11 @@ pub mod Known
 pub mod Wanted
 pub mod Checks
 pub mod Access
+pub mod Chronicle
+pub mod Tracker
+pub mod Effect
+pub mod Kept
+pub mod Meaning
 pub mod Group
 pub mod Create
 pub mod Edit
@@ -10,9 +15,8 @@ pub mod Transition
 pub mod Show
 pub mod Entries
 pub mod Tick
-pub mod Refusal
-pub mod Answer
-pub mod Step
-pub mod Run
 pub mod Listing
 pub mod Search
+pub mod Step
+pub mod Run
+pub mod Laws

@@ -4,6 +4,8 @@ use Rattle.field_values.specs.Parts.{Parts}
 use Rattle.change_history.specs.History.{History}
 
 pub record Machine : Type 0 where
+  -- the text of the setup, and its parts
+  pub text : List ℕ
   pub setup : Parts
   pub moment : ℕ
   -- the number of the last change group
@@ -12,5 +14,5 @@ pub record Machine : Type 0 where
   pub histories : List History
 
 -- a new tracker of this setup
-abbrev pub opening : Parts → Machine
-opening setup = record { setup = setup; moment = 0; change = 0; histories = [] }
+abbrev pub opening : List ℕ → Parts → Machine
+opening text setup = record { text = text; setup = setup; moment = 0; change = 0; histories = [] }

@@ -23,10 +23,11 @@ is_blank line = list_all is_blank_byte line
 abbrev pub requests : List (List ℕ) → List (List ℕ)
 requests all = filter (λ line. not (is_blank line)) all
 
--- a marked line was answered want of memory
+-- a marked line was answered want of memory, or a fault of the keeper
 pub data Mark : Type 0 where
   plain : Mark
   memory : Mark
+  keeper : Mark
 
 pub record Marked : Type 0 where
   pub line : List ℕ
@@ -44,10 +45,12 @@ asked_next m (Err r) = m
 abbrev pub marked_reply : Machine → List ℕ → Mark → Reply
 marked_reply m line plain = asked_reply m (line_of line)
 marked_reply m line memory = reply.Refused refusal.Memory
+marked_reply m line keeper = reply.Refused refusal.Keeper
 
 abbrev pub marked_next : Machine → List ℕ → Mark → Machine
 marked_next m line plain = asked_next m (line_of line)
 marked_next m line memory = m
+marked_next m line keeper = m
 
 -- a reply's text with its line feed
 abbrev pub reply_line : Reply → List ℕ

@@ -8,7 +8,7 @@ use Rattle.field_values.specs.Words.{day_number}
 use Rattle.setup_drafts.specs.Offsets.{zone_of}
 use Rattle.fields.specs.SetupParts.{may}
 use Rattle.change_history.specs.History.{History}
-use Rattle.workflow.specs.Conditions.{project_of}
+use Rattle.workflow.specs.Conditions.{project_number}
 use Rattle.jql_syntax.specs.Either.{QueryOrFault, text_is, text_has}
 use Rattle.jql_syntax.specs.Fault.{number_of_kind as number_of_text_fault}
 use Rattle.jql_syntax.proofs.Total.{text_decided}
@@ -28,6 +28,8 @@ use Rattle.tracker_calls.specs.declared.reply.Refusal.{Refusal}
 use Rattle.tracker_calls.specs.declared.reply.Refusal.TheVariants as refusal
 use Rattle.tracker_machine.specs.Machine.{Machine}
 use Rattle.tracker_machine.specs.Listing.{in_order}
+use Rattle.tracker_machine.specs.Meaning.{Meaning}
+use Rattle.tracker_machine.specs.Meaning.Meaning.{Refuses, Finds}
 
 -- ---- what is asked for
 
@@ -50,13 +52,6 @@ asked_by setup user text (text_has place kind is) = Err (refusal.Query (number_o
 unfoldable pub asked : Parts → ℕ → List ℕ → Result Query Refusal
 asked setup user text = asked_by setup user text (text_decided text)
 
-abbrev pub fault_of : Result Query Refusal → Option Refusal
-fault_of (Ok query) = None
-fault_of (Err r) = Some r
-
-unfoldable pub search_refusal : Machine → ℕ → List ℕ → Option Refusal
-search_refusal m caller jql = fault_of (asked m.setup caller jql)
-
 -- ---- what is found
 
 -- there are no sprints yet
@@ -70,7 +65,7 @@ surroundings_in setup = record {
 -- the user may browse the issue, and the query holds of it now
 abbrev pub is_found : Machine → ℕ → Option Condition → History → Bool
 is_found m caller condition h =
-    may m.setup caller permission.Browse (project_of m.setup h) && query_holds (surroundings_in m.setup) h m.moment condition
+    may m.setup caller permission.Browse (project_number m.setup h) && query_holds (surroundings_in m.setup) h m.moment condition
 
 unfoldable pub found : Machine → ℕ → Option Condition → List History
 found m caller condition = filter (is_found m caller condition) m.histories
@@ -82,10 +77,14 @@ comes_before setup keys one other = is_lt (issue_cmp setup keys Equal one other)
 unfoldable pub listed : Parts → List OrderKey → List History → List History
 listed setup keys histories = in_order (comes_before setup keys) histories
 
-abbrev pub search_answer_of : Machine → ℕ → Part → Result Query Refusal → Answer
-search_answer_of m caller part (Err r) = answer.Search [] 0
-search_answer_of m caller part (Ok query) =
+abbrev pub search_answer : Machine → ℕ → Part → Query → Answer
+search_answer m caller part query =
     answer.Search (map (λ h. h.key) (part_of part (listed m.setup query.keys (found m caller query.condition)))) (length (found m caller query.condition))
 
-unfoldable pub search_answer : Machine → ℕ → List ℕ → Part → Answer
-search_answer m caller jql part = search_answer_of m caller part (asked m.setup caller jql)
+-- the issues that a query finds, or its fault
+abbrev pub searched : Machine → ℕ → Part → Result Query Refusal → Meaning
+searched m caller part (Err r) = Refuses r
+searched m caller part (Ok query) = Finds (search_answer m caller part query)
+
+unfoldable pub search_meaning : Machine → ℕ → List ℕ → Part → Meaning
+search_meaning m caller jql part = searched m caller part (asked m.setup caller jql)

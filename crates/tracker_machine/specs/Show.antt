@@ -22,6 +22,8 @@ use Rattle.fields.specs.Naming.{name_at, field_name, field_numbers}
 use Rattle.tracker_machine.specs.Known.{history_named}
 use Rattle.tracker_machine.specs.Checks.{or_then, unless_known}
 use Rattle.tracker_machine.specs.Access.{access_refusal}
+use Rattle.tracker_machine.specs.Meaning.{Meaning, unless}
+use Rattle.tracker_machine.specs.Meaning.Meaning.{Tells}
 
 -- a value as it is told: a choice or a user by name, versions as the list of their names, a number by its shortest
 -- text, a day as yyyy-MM-dd, and a sprint by its number; a value that is empty isn't told
@@ -58,5 +60,5 @@ abbrev pub show_answer_of : Machine → Option History → Answer
 show_answer_of m None = answer.Show 0 [] [] 0
 show_answer_of m (Some h) = answer.Show h.at (shown_issue (names_in m.setup) h) h.key (updated h)
 
-abbrev pub show_answer : Machine → List ℕ → Answer
-show_answer m issue = show_answer_of m (history_named m issue)
+abbrev pub show_meaning : Machine → ℕ → List ℕ → Meaning
+show_meaning m caller issue = unless (show_refusal m caller issue) (Tells (show_answer_of m (history_named m issue)))

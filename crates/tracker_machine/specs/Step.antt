@@ -1,61 +1,58 @@
--- One step of the abstract tracker: the reply to a call, and the state after it.
-use Rattle.std.specs.Prelude.{◌≡◌, ℕ, List, length, Option, Some, None}
+-- One step of the abstract tracker: what a call means, the reply to it, and the state after it.
+use Rattle.std.specs.Prelude.{ℕ, List, Option, None}
 use Rattle.tracker_calls.specs.declared.call.Call.{Call}
 use Rattle.tracker_calls.specs.declared.call.Call.TheVariants as call
-use Rattle.tracker_calls.specs.declared.reply.Reply.{Reply}
-use Rattle.tracker_calls.specs.declared.reply.Reply.TheVariants as reply
-use Rattle.tracker_calls.specs.declared.reply.Answer.{Answer}
 use Rattle.tracker_calls.specs.declared.reply.Refusal.{Refusal}
-use Rattle.tracker_calls.specs.declared.reply.Refusal.TheVariants as refusal
+use Rattle.tracker_calls.specs.declared.reply.Reply.{Reply}
 use Rattle.tracker_machine.specs.Machine.{Machine}
-use Rattle.tracker_machine.specs.Refusal.{first_refusal, user_of}
-use Rattle.tracker_machine.specs.Answer.{answer_of}
-use Rattle.tracker_machine.specs.Create.{created}
-use Rattle.tracker_machine.specs.Edit.{edited}
-use Rattle.tracker_machine.specs.Transition.{transitioned}
-use Rattle.tracker_machine.specs.Tick.{ticked}
+use Rattle.tracker_machine.specs.Known.{known_place}
+use Rattle.tracker_machine.specs.Checks.{caller_refusal, twins_refusal, part_refusal}
+use Rattle.tracker_machine.specs.Meaning.{Meaning, unless, reply_to, next_after, allowance, Performs}
+use Rattle.tracker_machine.specs.Create.{create_meaning}
+use Rattle.tracker_machine.specs.Edit.{edit_meaning}
+use Rattle.tracker_machine.specs.Transition.{transition_meaning}
+use Rattle.tracker_machine.specs.Tick.{tick_meaning}
+use Rattle.tracker_machine.specs.Show.{show_meaning}
+use Rattle.tracker_machine.specs.Entries.{history_meaning}
+use Rattle.tracker_machine.specs.Search.{search_meaning}
 
--- the state after a call that isn't refused
-unfoldable pub changed : Machine → ℕ → Call → Machine
-changed m user (call.Create project issue_type summary set) = created m user project issue_type summary set
-changed m user (call.Edit issue set) = edited m user issue set
-changed m user (call.Transition issue transition set) = transitioned m user issue transition set
-changed m user (call.Tick to) = ticked m to
-changed m user (call.Show issue) = m
-changed m user (call.History issue part) = m
-changed m user (call.Search jql part) = m
+-- the call of a user, who is known, by place
+unfoldable pub meaning_for : Machine → ℕ → Call → Meaning
+meaning_for m user (call.Create project issue_type summary set) = create_meaning m user project issue_type summary set
+meaning_for m user (call.Edit issue set) = edit_meaning m user issue set
+meaning_for m user (call.Transition issue transition set) = transition_meaning m user issue transition set
+meaning_for m user (call.Tick to) = tick_meaning m to
+meaning_for m user (call.Show issue) = show_meaning m user issue
+meaning_for m user (call.History issue part) = history_meaning m user issue part
+meaning_for m user (call.Search jql part) = search_meaning m user jql part
 
--- how often at most a call asks whether a query holds of an issue
-unfoldable pub evaluations : Machine → Call → ℕ
-evaluations m (call.Search jql part) = length m.histories
-evaluations m _ = 0
+-- the fault of a call's form; a call that was read from a line has none
+unfoldable pub form_refusal : Call → Option Refusal
+form_refusal (call.Create project issue_type summary set) = twins_refusal set
+form_refusal (call.Edit issue set) = twins_refusal set
+form_refusal (call.Transition issue transition set) = twins_refusal set
+form_refusal (call.History issue part) = part_refusal 50 part
+form_refusal (call.Search jql part) = part_refusal 1_000 part
+form_refusal _ = None
 
--- a refused call has its refusal as the reply, and leaves all as it is
-abbrev pub refused_or : Option Refusal → Answer → Reply
-refused_or None a = reply.Ok a
-refused_or (Some r) a = reply.Refused r
+-- the caller by place
+abbrev pub user_of : Machine → List ℕ → ℕ
+user_of m caller = known_place caller m.setup.users
 
-abbrev pub same_or : Option Refusal → Machine → Machine → Machine
-same_or None old next = next
-same_or (Some r) old next = old
+-- what the call of somebody of that name means
+unfoldable pub meaning : Machine → List ℕ → Call → Meaning
+meaning m caller c = unless (form_refusal c) (unless (caller_refusal m caller) (meaning_for m (user_of m caller) c))
 
 unfoldable pub reply_of : Machine → List ℕ → Call → Reply
-reply_of m caller c = refused_or (first_refusal m caller c) (answer_of m (user_of m caller) c)
+reply_of m caller c = reply_to (meaning m caller c)
 
 unfoldable pub next_of : Machine → List ℕ → Call → Machine
-next_of m caller c = same_or (first_refusal m caller c) m (changed m (user_of m caller) c)
+next_of m caller c = next_after (meaning m caller c) m
 
--- A call is refused, and all is as it was, or it has its answer and leads to the next state. Want of
--- memory may come in place of either, and then all is as it was.
-abbrev pub IsRefused : Option Refusal → Machine → Refusal → Machine → Type 0
-IsRefused expected old refusal.Memory new = new ≡ old
-IsRefused expected old r new = (expected ≡ Some r) × (new ≡ old)
-
-abbrev pub Performs : Option Refusal → Answer → Machine → Machine → Reply → Machine → Type 0
-Performs expected answer next old (reply.Ok a) new = (expected ≡ None) × (a ≡ answer) × (new ≡ next)
-Performs expected answer next old (reply.Refused r) new = IsRefused expected old r new
+-- how often at most a call asks whether a query holds of an issue
+unfoldable pub evaluations : Machine → List ℕ → Call → ℕ
+evaluations m caller c = allowance (meaning m caller c) m
 
 -- a call is performed as the abstract tracker performs it
 unfoldable pub IsStep : Machine → List ℕ → Call → Reply → Machine → Type 0
-IsStep old caller c result new =
-    Performs (first_refusal old caller c) (answer_of old (user_of old caller) c) (changed old (user_of old caller) c) old result new
+IsStep old caller c result new = Performs (meaning old caller c) old result new

@@ -19,8 +19,9 @@ use Rattle.tracker_machine.specs.Machine.{Machine}
 use Rattle.tracker_machine.specs.Known.{place_of_issue, history_named}
 use Rattle.tracker_machine.specs.Checks.{or_then, unless_known, set_refusal, entries_refusal, bytes_refusal, values_refusal}
 use Rattle.tracker_machine.specs.Access.{access_refusal}
-use Rattle.tracker_machine.specs.Group.{group_number, with_group_at}
+use Rattle.tracker_machine.specs.Group.{grouped_at}
 use Rattle.tracker_machine.specs.Edit.{set_wants, set_changes}
+use Rattle.tracker_machine.specs.Meaning.{Meaning, unless}
 
 abbrev pub transition_names : Parts → List (List ℕ)
 transition_names setup = map (λ t. t.name) setup.transition
@@ -62,11 +63,11 @@ abbrev pub transition_news : Machine → ℕ → List GivenField → Option Hist
 transition_news m caller set (Some h) (Some t) = planned m.setup h (record { 0 = caller }) t (set_changes m set)
 transition_news m caller set _ _ = []
 
-abbrev pub transition_answer : Machine → ℕ → List ℕ → List ℕ → List GivenField → Answer
-transition_answer m caller issue transition set =
-    answer.Transition (group_number m (transition_news m caller set (history_named m issue) (transition_named m transition))) issue
+abbrev pub transition_answer : List ℕ → Option ℕ → Answer
+transition_answer issue number = answer.Transition number issue
 
-abbrev pub transitioned : Machine → ℕ → List ℕ → List ℕ → List GivenField → Machine
-transitioned m caller issue transition set =
-    with_group_at m caller (place_of_issue issue m.histories) (history_named m issue)
-    (transition_news m caller set (history_named m issue) (transition_named m transition))
+abbrev pub transition_meaning : Machine → ℕ → List ℕ → List ℕ → List GivenField → Meaning
+transition_meaning m caller issue transition set =
+    unless (transition_refusal m caller issue transition set)
+    (grouped_at (transition_answer issue) m caller (place_of_issue issue m.histories) (history_named m issue)
+    (transition_news m caller set (history_named m issue) (transition_named m transition)))

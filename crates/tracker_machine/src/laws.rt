@@ -1,5 +1,6 @@
 ghost use Rattle.std.specs.Prelude.{◌≡◌, codes};
 ghost use Rattle.tracker_calls.specs.Reply.{reply_text};
+ghost use Rattle.tracker_machine.specs.Laws.{EffectsKeepTrackers, OperationsKeepEffects, OperationsOpenTrackers, OperationsAreSmall, OpeningIsSmall, PartsMayBeKept, EffectsMayBeKept, OpeningMayBeKept, FirstNameIsLeast};
 
 use tracker_calls::{Refusal, Reply};
 
@@ -9,3 +10,43 @@ pub fn memory_text_is_its_own(reply: &Reply)
 {
     let _ = reply;
 }
+
+/// And no other reply has the text of the refusal of a keeper that failed.
+pub fn keeper_text_is_its_own(reply: &Reply)
+    ensures { reply_text reply.now ≡ codes "{\"refused\":{\"no\":14}}" → reply.now ≡ Reply.Refused Refusal.Keeper }
+{
+    let _ = reply;
+}
+
+/// What holds of every tracker stays: each call's effect, where it is allowed, leads from a tracker to a tracker.
+pub fn effects_keep_trackers()
+    ensures { EffectsKeepTrackers }
+{}
+
+/// What an effect does is kept: the rows of the tracker after it are those before it, with the effect's operations, and the
+/// rows of a new tracker are what its opening operations leave where nothing is kept.
+#[tactic(auto, using(crate::proofs::Kept::rows_applied, crate::proofs::Kept::rows_opening))]
+pub fn operations_keep_effects()
+    ensures later { OperationsKeepEffects }
+    ensures opening { OperationsOpenTrackers }
+{}
+
+/// The numbers of all rows are below 2^63, which a table of signed numbers can hold.
+#[tactic(auto, using(crate::proofs::Kept::ops_small, crate::proofs::Kept::opening_small))]
+pub fn operations_are_small()
+    ensures later { OperationsAreSmall }
+    ensures opening { OpeningIsSmall }
+{}
+
+/// Each part of a tracker, each part that an effect puts and each part of a new tracker may be kept, so that it has a body.
+#[tactic(auto, using(crate::proofs::Keepable::parts_kept, crate::proofs::Keepable::opening_kept))]
+pub fn parts_may_be_kept()
+    ensures all { PartsMayBeKept }
+    ensures later { EffectsMayBeKept }
+    ensures opening { OpeningMayBeKept }
+{}
+
+/// The name in `set` that a call is refused for is the least in byte order of those that are refused.
+pub fn first_name_is_least()
+    ensures { FirstNameIsLeast }
+{}

@@ -1,9 +1,12 @@
-//! The abstract tracker, for contracts alone: its state, the first refusal of a call, the answer, the
-//! step, and the run over a whole input. It knows whole histories and nothing that is derived from them.
+//! The abstract tracker, for contracts alone: its state, what a call means (its first refusal, its answer
+//! and its effect), the step, and the run over a whole input. It knows whole histories and nothing that is derived from them.
 #![tactic(auto)]
 
 mod laws;
 mod wanted;
 
-pub use laws::memory_text_is_its_own;
+pub use laws::{
+    effects_keep_trackers, first_name_is_least, keeper_text_is_its_own, memory_text_is_its_own,
+    operations_are_small, operations_keep_effects, parts_may_be_kept,
+};
 pub use wanted::Wanted;

@@ -1,0 +1,108 @@
+-- What is kept of a tracker: its parts by kind and number, the row of each, and the operations that keep an effect.
+use Rattle.std.specs.Prelude.{ℕ, ◌==◌, ◌&&◌, List, [], ◌∷◌, map, filter, slice_get, Option, Some, None, option_map, if◌then◌else◌}
+use Rattle.std.specs.List.{find}
+use Rattle.std.specs.Option.{option_or, option_map_or}
+use Rattle.field_values.specs.Parts.{Parts}
+use Rattle.field_forms.specs.Known.{Names}
+use Rattle.fields.specs.SetupParts.{names_in}
+use Rattle.change_history.specs.declared.entry.Entry.{Entry}
+use Rattle.change_history.specs.declared.entry.Group.{Group}
+use Rattle.change_history.specs.History.{History}
+use Rattle.rank_balancer.specs.declared.balance.Balance.TheVariants.{Idle}
+use Rattle.tracker_keeper.specs.declared.row.RowOp.{RowOp}
+use Rattle.tracker_keeper.specs.declared.row.RowOp.TheVariants.{Put}
+use Rattle.tracker_keeper.specs.declared.part.Part.{Part}
+use Rattle.tracker_keeper.specs.declared.part.Part.TheVariants as part
+use Rattle.tracker_keeper.specs.declared.part.Format.TheVariants.{First}
+use Rattle.tracker_keeper.specs.Parts.{part_kind, part_number}
+use Rattle.tracker_keeper.specs.Bodies.{body_text}
+use Rattle.tracker_keeper.specs.Rows.{Rows}
+use Rattle.tracker_machine.specs.Machine.{Machine}
+use Rattle.tracker_machine.specs.Effect.{Effect, with_issue, with_group}
+use Rattle.tracker_machine.specs.Effect.Effect.{NewMoment, NewIssue, NewGroup}
+
+-- ---- parts
+
+abbrev pub setup_part : Machine → Part
+setup_part m = part.Setup m.text
+
+-- where the tracker stands; as nothing has a rank yet, the balance is at rest
+abbrev pub present_part : Machine → Part
+present_part m = part.Present (Idle 0) m.change First m.moment
+
+-- an issue as it was created
+abbrev pub issue_part : History → Part
+issue_part h = part.Issue h.no h.key h.change h.at h.author h.opening
+
+-- a change group of an issue
+abbrev pub group_part : History → Group → Part
+group_part h group = part.Group h.no group
+
+-- ---- the part of each kind and number
+
+-- the issue of a number
+abbrev pub issue_numbered : List History → ℕ → Option History
+issue_numbered histories number = find (λ h. h.no.0 == number) histories
+
+-- the entries of a change
+abbrev pub entries_of_change : ℕ → List Entry → List Entry
+entries_of_change change entries = filter (λ e. e.change == change) entries
+
+-- the change group that the entries of one change are
+abbrev pub group_of : List Entry → Option Group
+group_of [] = None
+group_of (e ∷ es) = Some (record { change = e.change; at = e.at; author = e.author; entries = e ∷ es })
+
+-- the change group of a number, where the issue has it
+abbrev pub issue_group : ℕ → History → Option Part
+issue_group number h = option_map (group_part h) (group_of (entries_of_change number h.entries))
+
+-- the same of whatever issue has it
+abbrev pub group_numbered : List History → ℕ → Option Part
+group_numbered [] number = None
+group_numbered (h ∷ hs) number = option_or (issue_group number h) (group_numbered hs number)
+
+unfoldable pub part_at : Machine → ℕ → ℕ → Option Part
+part_at m kind number =
+    if (kind == 1) && (number == 0) then Some (setup_part m)
+    else if (kind == 2) && (number == 0) then Some (present_part m)
+    else if kind == 3 then option_map issue_part (issue_numbered m.histories number)
+    else if kind == 4 then group_numbered m.histories number
+    else None
+
+-- ---- rows
+
+-- the rows of a tracker: each part's text at its kind and its number
+unfoldable pub rows_of : Machine → Rows
+rows_of m kind number = option_map (body_text (names_in m.setup)) (part_at m kind number)
+
+-- a part is put where it belongs
+abbrev pub put_part : Names → Part → RowOp
+put_part names p = Put (record { kind = part_kind p; no = part_number p; body = body_text names p })
+
+abbrev pub put_parts : Parts → List Part → List RowOp
+put_parts setup ps = map (put_part (names_in setup)) ps
+
+-- ---- what is put
+
+-- the change group of the issue at a place
+abbrev pub group_parts : List History → ℕ → Group → List Part
+group_parts histories place group = option_map_or (λ h. group_part h group ∷ []) (slice_get histories place) []
+
+-- the parts that an effect changes or makes, by kind; the number of the last change is always in one of them
+unfoldable pub parts_of : Effect → Machine → List Part
+parts_of (NewMoment to) m = present_part (record m { moment = to }) ∷ []
+parts_of (NewIssue h) m = present_part (with_issue m h) ∷ issue_part h ∷ []
+parts_of (NewGroup place group) m = present_part (with_group m place group) ∷ group_parts m.histories place group
+
+-- the operations that keep an effect
+unfoldable pub ops_of : Effect → Machine → List RowOp
+ops_of effect m = put_parts m.setup (parts_of effect m)
+
+-- a new tracker has a setup, and stands at its beginning
+abbrev pub opening_parts : Machine → List Part
+opening_parts m = setup_part m ∷ present_part m ∷ []
+
+-- the operations that keep a new tracker
+unfoldable pub opening_ops : Machine → List RowOp
+opening_ops m = put_parts m.setup (opening_parts m)

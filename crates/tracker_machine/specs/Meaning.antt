@@ -1,0 +1,54 @@
+-- What a call means: a refusal, an answer, or an answer and an effect.
+use Rattle.std.specs.Prelude.{◌≡◌, ◌≢◌, ℕ, List, [], ◌∷◌, length, Option, Some, None}
+use Rattle.change_history.specs.History.{History}
+use Rattle.tracker_calls.specs.declared.reply.Answer.{Answer}
+use Rattle.tracker_calls.specs.declared.reply.Refusal.{Refusal}
+use Rattle.tracker_calls.specs.declared.reply.Refusal.TheVariants as refusal
+use Rattle.tracker_calls.specs.declared.reply.Reply.{Reply}
+use Rattle.tracker_calls.specs.declared.reply.Reply.TheVariants as reply
+use Rattle.tracker_machine.specs.Machine.{Machine}
+use Rattle.tracker_machine.specs.Effect.{Effect, applied}
+
+pub data Meaning : Type 0 where
+  Refuses : Refusal → Meaning
+  Tells : Answer → Meaning
+  -- an answer for which each issue is asked once whether a query holds of it
+  Finds : Answer → Meaning
+  Makes : Answer → Effect → Meaning
+
+-- a refusal comes before what else the call would mean
+abbrev pub unless : Option Refusal → Meaning → Meaning
+unless None due = due
+unless (Some r) due = Refuses r
+
+abbrev pub reply_to : Meaning → Reply
+reply_to (Refuses r) = reply.Refused r
+reply_to (Tells a) = reply.Ok a
+reply_to (Finds a) = reply.Ok a
+reply_to (Makes a effect) = reply.Ok a
+
+abbrev pub next_after : Meaning → Machine → Machine
+next_after (Makes a effect) m = applied effect m
+next_after _ m = m
+
+-- how often at most it is asked whether a query holds of an issue
+abbrev pub allowance : Meaning → Machine → ℕ
+allowance (Finds a) m = length m.histories
+allowance _ m = 0
+
+-- something is to be kept
+abbrev pub HasEffect : Meaning → Type 0
+HasEffect (Makes a effect) = Unit {0}
+HasEffect _ = ⊥
+
+-- the refusal is the one that is due; want of memory may come in place of any reply, and a keeper's fault where there is
+-- something to keep
+abbrev pub IsDue : Meaning → Refusal → Type 0
+IsDue due refusal.Memory = Unit {0}
+IsDue due refusal.Keeper = HasEffect due
+IsDue due r = due ≡ Refuses r
+
+-- a reply that is due and the state that it leads to; a refusal leaves all as it is
+abbrev pub Performs : Meaning → Machine → Reply → Machine → Type 0
+Performs due old (reply.Ok a) new = (reply_to due ≡ reply.Ok a) × (new ≡ next_after due old)
+Performs due old (reply.Refused r) new = IsDue due r × (new ≡ old)
