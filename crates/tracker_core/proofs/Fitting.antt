@@ -14,7 +14,7 @@ use Rattle.tracker_machine.specs.declared.wanted.Wanted.{Wanted}
 use Rattle.tracker_machine.specs.declared.wanted.Wanted.TheVariants as wanted
 use Rattle.fields.specs.Naming.{field_numbers}
 use Rattle.tracker_machine.specs.Wanted.{is_fault, faults_in, field_at_fault, change_to, changes_to, changes_of}
-use Rattle.tracker_core.specs.State.{AllEntriesFit}
+use Rattle.tracker_machine.specs.Tracker.{AllEntriesFit}
 
 kept_fit : (names : Names) (b : Bool) (c : Change) (cs : List Change) → fits names c.field.0 c.to ≡ true → AllFit names cs → AllFit names (if b then c ∷ cs else cs)
 kept_fit names true c cs fit all = (fit, all)

@@ -9,7 +9,7 @@ use Rattle.field_values.specs.declared.numbers.TheConstants.FieldNo.{REPORTER as
 use Rattle.field_forms.proofs.Fitting.{fits_says}
 use Rattle.civil_dates.specs.Days.{is_day}
 use Rattle.change_history.specs.declared.entry.Entry.{Entry}
-use Rattle.tracker_core.specs.State.{Holds, AllEntriesHold}
+use Rattle.tracker_machine.specs.Tracker.{Holds, AllEntriesHold}
 
 -- a day that a field holds is one of the years 1970 to 2099
 pub day_inside : (names : Names) (f : FieldNo) (day : Day) → Holds names f (value.Date day) → is_day day.0 ≡ true

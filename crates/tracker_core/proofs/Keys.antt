@@ -5,7 +5,7 @@ use Rattle.std.specs.Option.{option_or, is_some}
 use Rattle.std.specs.HashMap.{HashMap, get, get_by_text}
 use Rattle.std.specs.Map.{lookup, update}
 use Rattle.std.proofs.lemmas.Slice.Eq.{bytes_eq-Decides}
-use Rattle.change_history.specs.History.{Kept, History}
+use Rattle.change_history.specs.History.{RoomyHistory, History}
 use Rattle.tracker_core.specs.Issues.{place_of}
 use Rattle.tracker_machine.specs.Known.{place_of_issue}
 
@@ -77,35 +77,35 @@ append_at true c o more n is = refl
 append_at false c o more n is = ap (λ p. option_map suc p) is ∙ shift o c n
 
 -- an issue at the end is found where no other has its key
-pub place_of-append : (name : List ℕ) (is : List Kept) (i : Kept) → place_of name (is ++ i ∷ []) ≡ option_or (place_of name is) (if bytes_eq i.history.key name then Some (length is) else None)
+pub place_of-append : (name : List ℕ) (is : List RoomyHistory) (i : RoomyHistory) → place_of name (is ++ i ∷ []) ≡ option_or (place_of name is) (if bytes_eq i.history.key name then Some (length is) else None)
 place_of-append name [] i = refl
 place_of-append name (j ∷ is) i = append_at (bytes_eq j.history.key name) (bytes_eq i.history.key name) (place_of name is) (place_of name (is ++ i ∷ [])) (length is) (place_of-append name is i)
 
-abbrev key_of : Option Kept → List ℕ
+abbrev key_of : Option RoomyHistory → List ℕ
 key_of None = []
 key_of (Some i) = i.history.key
 
 -- an issue in place of one of the same key
-pub place_of-set : (name : List ℕ) (is : List Kept) (k : ℕ) (i j : Kept) → slice_get is k ≡ Some i → j.history.key ≡ i.history.key → place_of name (set is k j) ≡ place_of name is
+pub place_of-set : (name : List ℕ) (is : List RoomyHistory) (k : ℕ) (i j : RoomyHistory) → slice_get is k ≡ Some i → j.history.key ≡ i.history.key → place_of name (set is k j) ≡ place_of name is
 place_of-set name [] k i j at same = cc
 place_of-set name (x ∷ is) zero i j at same = ap (λ key. if bytes_eq key name then Some 0 else option_map suc (place_of name is)) (same ∙ sym (ap key_of at))
 place_of-set name (x ∷ is) (suc k) i j at same = ap (λ o. if bytes_eq x.history.key name then Some 0 else option_map suc o) (place_of-set name is k i j at same)
 
 -- the issues' histories are found alike
-pub place_of-histories : (name : List ℕ) (is : List Kept) → place_of name is ≡ place_of_issue name (map (λ i. i.history) is)
+pub place_of-histories : (name : List ℕ) (is : List RoomyHistory) → place_of name is ≡ place_of_issue name (map (λ i. i.history) is)
 place_of-histories name [] = refl
 place_of-histories name (i ∷ is) = ap (λ o. if bytes_eq i.history.key name then Some 0 else option_map suc o) (place_of-histories name is)
 
 -- ---- an issue at a place
 
-pub some_is : (a b : Kept) → Some a ≡ Some b → a ≡ b
+pub some_is : (a b : RoomyHistory) → Some a ≡ Some b → a ≡ b
 some_is a b e = ap (λ o. unwrap_or o a) e
 
-pub if_found : (o : Option Kept) (P : Kept → Type 0) → ((i : Kept) → o ≡ Some i → P i) → IfSome o P
+pub if_found : (o : Option RoomyHistory) (P : RoomyHistory → Type 0) → ((i : RoomyHistory) → o ≡ Some i → P i) → IfSome o P
 if_found None P f = tt
 if_found (Some i) P f = f i refl
 
-pub kept_is : (a : Kept) (h : History) (n : ℕ) → a.history ≡ h → a.room ≡ n → a ≡ record { history = h; room = n }
+pub kept_is : (a : RoomyHistory) (h : History) (n : ℕ) → a.history ≡ h → a.room ≡ n → a ≡ record { history = h; room = n }
 kept_is a h n e f = ap₂ (λ h n. record { history = h; room = n }) e f
 
 within_at : (b : Bool) (o : Option ℕ) (n : ℕ) → IfSome o (λ place. place < n) → IfSome (if b then Some 0 else option_map suc o) (λ place. place < suc n)

@@ -20,7 +20,7 @@ use Rattle.fields.specs.Naming.{field_numbers}
 use Rattle.tracker_machine.specs.Wanted.{given_for, wanted_or, is_fault, faults_in, field_at_fault, change_to, changes_to, changes_of}
 use Rattle.tracker_machine.specs.Checks.{values_refusal}
 use Rattle.tracker_machine.specs.Create.{member_wanted, status_wanted, create_wants, filled}
-use Rattle.tracker_core.specs.State.{AreNamed}
+use Rattle.tracker_machine.specs.Tracker.{AreNamed}
 use Rattle.tracker_core.proofs.Fitting.{found_least, none_at}
 
 -- ---- what the changes that aren't to nothing open a field with

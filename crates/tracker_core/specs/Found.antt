@@ -1,4 +1,4 @@
--- What a query that is tied to a setup asks for.
+-- What a query that is bound to a setup asks for.
 use Rattle.std.specs.Prelude.{◌≡◌, ◌≢◌, option_map, Result, Err}
 use Rattle.jql_bound.specs.Condition.{view}
 use Rattle.jql_bound.specs.declared.cond.Bound.{Bound}
@@ -13,7 +13,7 @@ query_of bound = record { condition = option_map view bound.cond; keys = bound.o
 
 -- the refusal is the one that is due, unless there was not enough memory to tell it
 abbrev pub Faults : Result Query Refusal → Refusal → Type 0
-Faults due r = r ≢ refusal.Memory → due ≡ Err r
+Faults due r = (r ≢ refusal.Keeper) × (r ≢ refusal.Memory → due ≡ Err r)
 
 -- the refusal that tells a text's fault
 abbrev pub text_refusal : JqlFault → Refusal

@@ -1,7 +1,7 @@
 pub mod Check
-pub mod Chronicle
+pub mod Desk
 pub mod Found
 pub mod Issues
-pub mod Made
+pub mod Plan
 pub mod State
 pub mod Wants

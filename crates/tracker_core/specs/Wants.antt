@@ -10,14 +10,14 @@ use Rattle.tracker_machine.specs.Wanted.{wanted_in}
 use Rattle.tracker_machine.specs.Create.{create_wants}
 use Rattle.tracker_core.specs.declared.wants.Wants.{Wants}
 use Rattle.tracker_core.specs.declared.wants.Wants.TheVariants as wants
-use Rattle.tracker_core.specs.declared.names.Strange.{Strange}
-use Rattle.tracker_core.specs.declared.names.Strange.TheVariants as strange
+use Rattle.tracker_core.specs.declared.names.UnknownName.{UnknownName}
+use Rattle.tracker_core.specs.declared.names.UnknownName.TheVariants as unknown_name
 
 abbrev pub wants_of : Parts → Wants → ℕ → Wanted
 wants_of setup (wants.Create caller issue_type summary set) n = create_wants setup caller.0 issue_type.now summary.now set.now n
 wants_of setup (wants.Set set) n = wanted_in (names_in setup) n set.now
 
 -- the refusal of a name in `set` that stands for nothing
-abbrev pub strange_refusal : Strange → Refusal
-strange_refusal (strange.Field name) = refusal.Unknown thing.Field name.now
-strange_refusal (strange.Sprint k) = refusal.Unknown thing.Sprint (decimal k)
+abbrev pub unknown_name_refusal : UnknownName → Refusal
+unknown_name_refusal (unknown_name.Field name) = refusal.Unknown thing.Field name.now
+unknown_name_refusal (unknown_name.Sprint k) = refusal.Unknown thing.Sprint (decimal k)

@@ -9,21 +9,21 @@ ghost use Rattle.tracker_machine.specs.Wanted.{changes_of};
 ghost use Rattle.tracker_machine.specs.Checks.{unless_known, set_refusal, permission_refusal, issues_refusal, entries_refusal, bytes_refusal, values_refusal, entries_kept, bytes_kept};
 ghost use Rattle.tracker_machine.specs.Access.{access_refusal};
 ghost use Rattle.tracker_machine.specs.Transition.{transition_names};
-ghost use Rattle.tracker_core.specs.Check.{Checks, Refuses};
-ghost use Rattle.tracker_core.specs.Wants.{wants_of, strange_refusal};
+ghost use Rattle.tracker_core.specs.Check.{Checks, IsRefusal};
+ghost use Rattle.tracker_core.specs.Wants.{wants_of, unknown_name_refusal};
 
-use crate::names::{Strange, first_strange};
+use crate::names::{UnknownName, first_unknown_name};
 use crate::state::State;
 use crate::wants::{Outcome, Wants, outcome_of_all};
 use change_history::Changes;
 use fields::{FieldNo, Permission, ProjectNo, Text, UserNo};
 use std::alloc::Global;
 use tracker_calls::{GivenField, Limit, Refusal, Thing};
-use workflow::project_of;
+use workflow::project_number;
 
 /// The refusal of a member that is not of its form.
 pub fn malformed(alloc: Global, member: &str) -> Refusal
-    ensures { Refuses (Some (Refusal.Form member.now)) result }
+    ensures { IsRefusal (Some (Refusal.Form member.now)) result }
 {
     match Text::copy_of(alloc, member) {
         Ok(member) => Refusal::Form { member },
@@ -33,7 +33,7 @@ pub fn malformed(alloc: Global, member: &str) -> Refusal
 
 /// The refusal of a name that nothing of that kind has.
 pub fn unknown(alloc: Global, kind: Thing, name: &str) -> Refusal
-    ensures { Refuses (Some (Refusal.Unknown kind name.now)) result }
+    ensures { IsRefusal (Some (Refusal.Unknown kind name.now)) result }
 {
     match Text::copy_of(alloc, name) {
         Ok(name) => Refusal::Unknown { kind, name },
@@ -78,12 +78,12 @@ pub fn known_transition(alloc: Global, state: &State, name: &str) -> Result<usiz
 }
 
 // The refusal of a name in `set` that stands for nothing.
-fn strange(alloc: Global, name: Strange<'_>) -> Refusal
-    ensures { Refuses (Some (strange_refusal name.entry)) result }
+fn unknown_named(alloc: Global, name: UnknownName<'_>) -> Refusal
+    ensures { IsRefusal (Some (unknown_name_refusal name.entry)) result }
 {
     match name {
-        Strange::Field(name) => unknown(alloc, Thing::Field, name),
-        Strange::Sprint(number) => match format!(in alloc; "{number}") {
+        UnknownName::Field(name) => unknown(alloc, Thing::Field, name),
+        UnknownName::Sprint(number) => match format!(in alloc; "{number}") {
             Ok(digits) => Refusal::Unknown {
                 kind: Thing::Sprint,
                 name: Text::of(digits),
@@ -97,8 +97,8 @@ fn strange(alloc: Global, name: Strange<'_>) -> Refusal
 pub fn check_set(alloc: Global, state: &State, set: &[GivenField]) -> Result<(), Refusal>
     ensures { Checks (set_refusal state.now.machine set.now) result }
 {
-    match first_strange(state.setup(), set) {
-        Some(name) => Err(strange(alloc, name)),
+    match first_unknown_name(state.setup(), set) {
+        Some(name) => Err(unknown_named(alloc, name)),
         None => Ok(()),
     }
 }
@@ -110,7 +110,7 @@ fn forbidden(
     permission: Permission,
     project: Option<ProjectNo>,
 ) -> Refusal
-    ensures { Refuses (Some (Refusal.Forbidden permission
+    ensures { IsRefusal (Some (Refusal.Forbidden permission
         (option_map (name_at (project_keys state.now.machine.setup)) (option_map (λ no. no.0) project)))) result }
 {
     let Some(project) = project else {
@@ -162,7 +162,7 @@ pub fn check_access(
         state,
         caller,
         permission,
-        project_of(state.setup(), issue),
+        project_number(state.setup(), issue),
     )
 }
 
@@ -207,7 +207,7 @@ pub fn check_bytes(state: &State) -> Result<(), Refusal>
 
 // The refusal of a field whose value doesn't fit.
 fn unfit(alloc: Global, state: &State, field: FieldNo) -> Refusal
-    ensures { Refuses (Some (Refusal.Unfit (field_name state.now.machine.setup.field field.0))) result }
+    ensures { IsRefusal (Some (Refusal.Unfit (field_name state.now.machine.setup.field field.0))) result }
 {
     match Text::copy_of(alloc, state.setup().field_name(field)) {
         Ok(field) => Refusal::Unfit { field },

@@ -1,32 +1,36 @@
 // The call `create`: a new issue of a project.
-ghost use Rattle.std.specs.Prelude.{◌≡◌, ◌<◌, ◌≤◌, ◌+◌, length, string_bytes, IfOk, Some, false};
+ghost use Rattle.std.specs.Prelude.{◌≡◌, ◌<◌, ◌≤◌, ◌+◌, length, string_bytes, IfOk, Some, true, false};
 ghost use Rattle.field_forms.specs.Names.{place_named};
 ghost use Rattle.fields.specs.SetupParts.{names_in};
 ghost use Rattle.workflow.specs.Laws.{AllFit};
-ghost use Rattle.tracker_machine.specs.Step.{Performs};
 ghost use Rattle.tracker_machine.specs.Checks.{bytes_kept, history_bytes};
-ghost use Rattle.tracker_machine.specs.Create.{create_wants, create_refusal, create_answer, created, opened, filled, with_issue};
+ghost use Rattle.tracker_machine.specs.Create.{create_wants, create_refusal, create_meaning, created, opened, opening_history, filled};
 ghost use Rattle.fields.specs.Naming.{name_at};
 ghost use Rattle.tracker_machine.specs.Known.{project_keys, next_key};
 ghost use Rattle.tracker_machine.specs.Wanted.{changes_of};
 ghost use Rattle.tracker_core.specs.Check.{Checks};
-ghost use Rattle.tracker_core.specs.Made.{IsMade};
+ghost use Rattle.tracker_core.specs.Plan.{IsPrepared, issue_row};
 ghost use Rattle.change_history.specs.History.{opening_value};
-ghost use Rattle.tracker_core.specs.State.{with_key, counts_of, AreNamed};
+ghost use Rattle.tracker_keeper.specs.Forms.{are_opening};
+ghost use Rattle.tracker_core.specs.State.{with_key, counts_of};
+ghost use Rattle.tracker_machine.specs.Tracker.{AreNamed, AreSmall};
 
 use crate::check::{
     check_bytes, check_issues, check_permission, check_set, known_project, known_values,
 };
 use crate::empty::is_empty;
-use crate::state::{NewIssue, State};
+use crate::plan::{IssuePlan, Plan, Prepared};
+use crate::rows::row_ops;
+use crate::state::State;
 use crate::wants::Wants;
 use crate::weight::bytes_of_changes;
 use change_history::{Change, Changes, Issue, Key};
 use fields::{IssueNo, Memory, Permission, ProjectNo, Text, UserNo};
 use std::alloc::Global;
-use tracker_calls::{Answer, GivenField, Refusal, Reply};
+use tracker_calls::{Answer, GivenField, Refusal};
+use tracker_keeper::{Created, Row, issue_text};
 
-/// Makes a new issue of the project, or says why not.
+/// Prepares a new issue of the project, or says why not.
 pub fn create(
     alloc: Global,
     state: &mut State,
@@ -35,16 +39,14 @@ pub fn create(
     issue_type: &str,
     summary: &str,
     set: &[GivenField],
-) -> Reply
+) -> Result<Prepared, Refusal>
     requires { caller.0 < length state.old.machine.setup.users }
-    ensures { Performs (create_refusal state.old.machine caller.0 project.now issue_type.now summary.now set.now)
-        (create_answer state.old.machine project.now)
-        (created state.old.machine caller.0 project.now issue_type.now summary.now set.now)
-        state.old.machine result state.new.machine }
+    ensures same { state.new.machine ≡ state.old.machine }
+    ensures prepared { IsPrepared (create_meaning state.old.machine caller.0 project.now issue_type.now summary.now set.now) state.new result }
 {
     match check_create(alloc, state, caller, project, issue_type, summary, set) {
         Ok((place, changes)) => open(alloc, state, caller, place, &changes),
-        Err(refusal) => Reply::Refused(refusal),
+        Err(refusal) => Err(refusal),
     }
 }
 
@@ -64,6 +66,7 @@ fn check_create(
     ensures changes { IfOk result (λ r. r.1 ≡ changes_of (names_in state.now.machine.setup) (create_wants state.now.machine.setup caller.0 issue_type.now summary.now set.now)) }
     ensures fitting { IfOk result (λ r. AllFit (names_in state.now.machine.setup) r.1) }
     ensures named { IfOk result (λ r. AreNamed (opening_value (filled r.1))) }
+    ensures listed { IfOk result (λ r. AreSmall (filled r.1) → are_opening (names_in state.now.machine.setup) (filled r.1) ≡ true) }
     ensures few { IfOk result (λ r. length state.now.machine.histories < 50_000) }
     ensures light { IfOk result (λ r. bytes_kept state.now.machine.histories ≤ 499_800_000) }
 {
@@ -83,70 +86,119 @@ fn check_create(
     Ok((place, changes))
 }
 
-// Opens the issue with these values.
+// The issue with these values, ready to come.
 fn open(
     alloc: Global,
     state: &mut State,
     caller: UserNo,
     project: ProjectNo,
     changes: &Changes,
-) -> Reply
+) -> Result<Prepared, Refusal>
     requires few { length state.old.machine.histories < 50_000 }
     requires light { bytes_kept state.old.machine.histories ≤ 499_800_000 }
     requires there { project.0 < length state.old.machine.setup.project }
     requires author { caller.0 < length state.old.machine.setup.users }
     requires named { AreNamed (opening_value (filled changes.now)) }
     requires fitting { AllFit (names_in state.old.machine.setup) changes.now }
-    ensures { IsMade (Answer.Create false (state.old.machine.change + 1) (next_key state.old.machine (name_at (project_keys state.old.machine.setup) project.0)))
-        (with_issue state.old.machine (opened state.old.machine caller.0 (name_at (project_keys state.old.machine.setup) project.0) (filled changes.now)))
-        state.old.machine result state.new.machine }
+    requires listed { AreSmall (filled changes.now) → are_opening (names_in state.old.machine.setup) (filled changes.now) ≡ true }
+    ensures same { state.new.machine ≡ state.old.machine }
+    ensures prepared { IsPrepared (created state.old.machine caller.0 (name_at (project_keys state.old.machine.setup) project.0) changes.now) state.new result }
 {
-    let Ok(new) = prepare(alloc, state, caller, project, changes) else {
-        return Reply::Refused(Refusal::Memory);
+    let Ok((new, row)) = new_issue(alloc, state, caller, project, changes) else {
+        return Err(Refusal::Memory);
+    };
+    let Ok(rows) = row_ops(alloc, state.next_change(), state.moment(), row) else {
+        return Err(Refusal::Memory);
     };
     let Ok(told) = Text::copy_of(alloc, new.key.as_str()) else {
-        return Reply::Refused(Refusal::Memory);
+        return Err(Refusal::Memory);
     };
     let Ok(()) = state.reserve_issue() else {
-        return Reply::Refused(Refusal::Memory);
+        return Err(Refusal::Memory);
     };
-    let change = state.next_change();
-    state.push(new);
-    Reply::Ok(Answer::Create {
+    let answer = Answer::Create {
         already: false,
-        change,
+        change: state.next_change(),
         issue: told,
+    };
+    Ok(Prepared::Make {
+        plan: Plan::Issue(new),
+        answer,
+        rows,
     })
 }
 
-// All that is kept of the new issue.
-fn prepare(
+// The new issue with all that is kept of it, and its row.
+fn new_issue(
     alloc: Global,
     state: &State,
     caller: UserNo,
     project: ProjectNo,
     changes: &Changes,
-) -> Result<NewIssue, Memory>
+) -> Result<(IssuePlan, Row), Memory>
     requires few { length state.now.machine.histories < 50_000 }
     requires there { project.0 < length state.now.machine.setup.project }
-    ensures history { IfOk result (λ new. new.issue.history ≡ opened state.now.machine caller.0 (name_at (project_keys state.now.machine.setup) project.0) (filled changes.now)) }
-    ensures key { IfOk result (λ new. string_bytes new.key ≡ next_key state.now.machine (name_at (project_keys state.now.machine.setup) project.0)) }
-    ensures counts { IfOk result (λ new. new.counts.items ≡ with_key (counts_of state.now.machine.setup.project state.now.machine.histories) state.now.machine.setup.project
+    requires listed { AreSmall (filled changes.now) → are_opening (names_in state.now.machine.setup) (filled changes.now) ≡ true }
+    ensures history { IfOk result (λ r. r.0.issue.history ≡ opened state.now.machine caller.0 (name_at (project_keys state.now.machine.setup) project.0) (filled changes.now)) }
+    ensures key { IfOk result (λ r. string_bytes r.0.key ≡ next_key state.now.machine (name_at (project_keys state.now.machine.setup) project.0)) }
+    ensures counts { IfOk result (λ r. r.0.counts.items ≡ with_key (counts_of state.now.machine.setup.project state.now.machine.histories) state.now.machine.setup.project
         (next_key state.now.machine (name_at (project_keys state.now.machine.setup) project.0))) }
-    ensures bytes { IfOk result (λ new. new.bytes ≡ history_bytes new.issue.history) }
-    ensures light { IfOk result (λ new. new.bytes ≤ 200_000) }
+    ensures bytes { IfOk result (λ r. r.0.bytes ≡ history_bytes r.0.issue.history) }
+    ensures light { IfOk result (λ r. r.0.bytes ≤ 200_000) }
+    ensures listed { IfOk result (λ r. are_opening (names_in state.now.machine.setup) (filled changes.now) ≡ true) }
+    ensures row { IfOk result (λ r. r.1 ≡ issue_row (names_in state.now.machine.setup) (opened state.now.machine caller.0 (name_at (project_keys state.now.machine.setup) project.0) (filled changes.now))) }
 {
     let opening = filled(alloc, changes.as_slice())?;
     let Some(bytes) = bytes_of_changes(opening.as_slice()) else {
         return Err(Memory);
     };
-    let issue = opened(alloc, state, caller, project, opening)?;
-    let (key, counts) = counted(alloc, state, issue.key().as_str())?;
-    Ok(NewIssue {
+    let key = next_key(alloc, state, project)?;
+    let row = row_of(alloc, state, caller, &key, opening.as_slice())?;
+    let (text, counts) = counted(alloc, state, key.as_str())?;
+    let issue = opened(alloc, state, caller, key, opening)?;
+    let new = IssuePlan {
         issue,
-        key,
+        key: text,
         counts,
         bytes,
+    };
+    Ok((new, row))
+}
+
+// The number of the next issue.
+fn next_no(state: &State) -> IssueNo
+    requires { length state.now.machine.histories < 50_000 }
+    ensures { result.0 ≡ length state.now.machine.histories + 1 }
+{
+    IssueNo(state.issue_count() as u32 + 1)
+}
+
+// The row of the issue with these values.
+#[tactic(auto, using(tracker_keeper::proofs::IssuesBack::held_values), unfolding(tracker_keeper::specs::Bodies::body_text))]
+fn row_of(
+    alloc: Global,
+    state: &State,
+    caller: UserNo,
+    key: &Key,
+    values: &[Change],
+) -> Result<Row, Memory>
+    requires few { length state.now.machine.histories < 50_000 }
+    requires listed { are_opening (names_in state.now.machine.setup) values.now ≡ true }
+    ensures { IfOk result (λ row. row ≡ issue_row (names_in state.now.machine.setup) (opening_history state.now.machine caller.0 key.now values.now)) }
+{
+    let no = next_no(state);
+    let created = Created {
+        key,
+        change: state.next_change(),
+        at: state.moment(),
+        author: caller,
+        values,
+    };
+    let body = issue_text(alloc, state.setup(), &created)?;
+    Ok(Row {
+        kind: 3,
+        no: u64::from(no.0),
+        body,
     })
 }
 
@@ -155,15 +207,13 @@ fn opened(
     alloc: Global,
     state: &State,
     caller: UserNo,
-    project: ProjectNo,
+    key: Key,
     opening: Changes,
 ) -> Result<Issue, Memory>
     requires few { length state.now.machine.histories < 50_000 }
-    requires there { project.0 < length state.now.machine.setup.project }
-    ensures { IfOk result (λ issue. issue.history ≡ opened state.now.machine caller.0 (name_at (project_keys state.now.machine.setup) project.0) opening) }
+    ensures { IfOk result (λ issue. issue.history ≡ opening_history state.now.machine caller.0 key opening) }
 {
-    let key = next_key(alloc, state, project)?;
-    let no = IssueNo(state.issue_count() as u32 + 1);
+    let no = next_no(state);
     let change = state.next_change();
     Issue::open(alloc, no, key, change, state.moment(), caller, opening)
 }

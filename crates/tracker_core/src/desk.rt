@@ -1,163 +1,206 @@
-ghost use Rattle.std.specs.Prelude.{◌≡◌, ◌≤◌, ◌<◌, ◌+◌, IfOk, length, option_map};
+// What makes the calls, one at a time, and has kept what they leave.
+ghost use Rattle.std.specs.Prelude.{◌≡◌, ◌≢◌, ◌≤◌, ◌+◌, [], true, false, IfOk, IfErr, OnOk, OnErr};
+ghost use Rattle.fields.specs.SetupParts.{parts};
+ghost use Rattle.request_lines.specs.Causes.{Rose};
+ghost use Rattle.tracker_keeper.specs.Causes.{HasKeepCause};
+ghost use Rattle.tracker_keeper.specs.Rows.{Rows, no_rows, with_ops};
 ghost use Rattle.tracker_machine.specs.Machine.{opening};
-ghost use Rattle.tracker_machine.specs.Answer.{answer_of};
-ghost use Rattle.tracker_machine.specs.Step.{IsStep, Performs, changed, evaluations};
-ghost use Rattle.tracker_calls.specs.Part.{part_fault};
-ghost use Rattle.tracker_machine.specs.Checks.{twins_refusal};
-ghost use Rattle.tracker_machine.specs.Refusal.{form_refusal, call_refusal};
+ghost use Rattle.tracker_machine.specs.Effect.{IsAllowed};
+ghost use Rattle.tracker_machine.specs.Meaning.{Performs};
+ghost use Rattle.tracker_machine.specs.Meaning.Meaning.{Makes};
+ghost use Rattle.tracker_machine.specs.Kept.{rows_of, ops_of};
+ghost use Rattle.tracker_machine.specs.Step.{IsStep, evaluations};
+ghost use Rattle.tracker_core.specs.Desk.{IsOwed, HasRow, HasNoRow};
+ghost use Rattle.tracker_core.specs.Plan.{effect_of, Fits};
 
-use crate::check::{malformed, unknown};
-use crate::create::create;
-use crate::edit::edit;
-use crate::history::history;
-use crate::search::search;
-use crate::show::show;
+use crate::plan::{Plan, Prepared};
+use crate::prepare::prepare;
+use crate::rows::opening_ops;
 use crate::state::State;
-use crate::tick::tick;
-use crate::transition::transition;
-use fields::{Memory, Setup, Steps, UserNo};
+use fields::{Setup, Steps};
 use std::alloc::Global;
 use std::marker::Model;
 use std::sync::ledger::Ledger;
-use tracker_calls::{
-    Call, GivenField, MOST_ENTRIES, MOST_FROM, MOST_LISTED, Part, Refusal, Reply, Thing, UserName,
-    has_twins,
-};
+use tracker_calls::{Answer, Call, Refusal, Reply, UserName};
+use tracker_keeper::{KeepFault, Keeper, Row, RowOp};
 
-/// What makes the calls, one at a time. Contracts see it as the abstract tracker's state.
+/// What makes the calls, one at a time, and has kept what they leave. Contracts see it as the abstract tracker and what keeps
+/// its rows.
 #[derive(Drop)]
-pub struct Desk {
+pub struct Desk<P: Keeper> {
     alloc: Global,
     state: State,
+    keeper: P,
 }
 
-impl Model for Desk {
-    ghost use Rattle.tracker_machine.specs.Machine.{Machine};
+impl<P: Keeper> Model for Desk<P> {
+    ghost use Rattle.tracker_core.specs.Desk.{DeskParts};
 
-    ghost Value = { Machine };
+    ghost Value = { DeskParts P };
 
-    ghost view = { λ d. d.state.machine };
+    ghost view = { λ d. record { machine = d.state.machine; keeper = d.keeper } };
 }
 
-impl Desk {
-    ghost use Rattle.fields.specs.SetupParts.{parts};
+/// Why no desk was made.
+#[derive(Clone, Copy, PartialEq, Eq)]
+pub enum OpenFault {
+    /// The keeper failed.
+    Keeper,
+    /// The keeper has a row already.
+    Held,
+    Memory,
+}
 
-    /// The desk of a new tracker.
-    pub fn fresh(alloc: Global, setup: Setup) -> Result<Desk, Memory>
-        ensures { IfOk result (λ desk. desk ≡ opening (parts setup)) }
+impl OpenFault {
+    fn of(fault: KeepFault) -> OpenFault
+        ensures { (result ≡ OpenFault.Keeper → fault ≡ KeepFault.Failed) × (result ≡ OpenFault.Held → ⊥) }
     {
-        let state = State::opening(alloc, setup)?;
-        Ok(Desk { alloc, state })
+        match fault {
+            KeepFault::Failed => OpenFault::Keeper,
+            KeepFault::Memory => OpenFault::Memory,
+        }
+    }
+}
+
+impl<P: Keeper + Drop> Desk<P> {
+    /// The desk of a new tracker, whose opening rows are kept. A keeper that has a row already, or that fails, is handed back with
+    /// its rows as they were.
+    pub fn create(alloc: Global, keeper: P, setup: Setup) -> Result<Desk<P>, (OpenFault, P)>
+        ensures state { IfOk result (λ desk. desk.machine ≡ opening setup.text (parts setup)) }
+        ensures rows { P.keeps keeper no_rows → IfOk result (λ desk. P.keeps desk.keeper (rows_of (opening setup.text (parts setup)))) }
+        ensures none { (rows : Rows) → P.keeps keeper rows → IfOk result (λ desk. P.tells desk.keeper → HasNoRow rows) }
+        ensures same { (rows : Rows) → P.keeps keeper rows → IfErr result (λ e. P.keeps e.1 rows) }
+        ensures held { (rows : Rows) → P.keeps keeper rows → IfErr result (λ e. e.0 ≡ OpenFault.Held → P.tells e.1 → HasRow rows) }
+        ensures cause { IfErr result (λ e. e.0 ≡ OpenFault.Keeper → Rose (P.faults keeper) (P.faults e.1)) }
+        ensures later_ok { IfOk result (λ desk. P.faults keeper ≤ P.faults desk.keeper) }
+        ensures later_err { IfErr result (λ e. P.faults keeper ≤ P.faults e.1) }
+    {
+        let mut keeper = keeper;
+        if let Err(fault) = look(&mut keeper) {
+            return Err((fault, keeper));
+        }
+        let opened = open(alloc, &mut keeper, setup);
+        match opened {
+            Ok(state) => Ok(Desk {
+                alloc,
+                state,
+                keeper,
+            }),
+            Err(fault) => Err((fault, keeper)),
+        }
     }
 
-    /// Makes one call by that user, as the abstract tracker makes it: either the call is carried out and
-    /// answered, or it is refused for the first cause that there is, or there was not enough memory; after
-    /// a refusal all is as before.
-    #[tactic(auto, using(crate::proofs::Performing::step_refused, crate::proofs::Performing::step_unknown, crate::proofs::Performing::step_of))]
+    /// Makes one call by that user, as the abstract tracker makes it: either the call is carried out and answered, or it is
+    /// refused for the first cause that there is, or there was not enough memory, or the keeper failed where something was to be
+    /// kept. After a refusal all is as before, and the rows that are kept are always the tracker's.
+    #[tactic(auto, unfolding(tracker_machine::specs::Step::IsStep, tracker_machine::specs::Step::evaluations), using(crate::proofs::Steps::told_step, crate::proofs::Steps::refused_step))]
     pub fn call<L: Ledger>(&mut self, caller: &UserName, call: &Call, steps: &mut Steps<L>) -> Reply
-        ensures step { IsStep self.old caller.now call.now result self.new }
-        ensures steps { steps.new ≤ steps.old + evaluations self.old call.now }
+        ensures step { IsStep self.old.machine caller.now call.now result self.new.machine }
+        ensures rows { P.keeps self.old.keeper (rows_of self.old.machine) → P.keeps self.new.keeper (rows_of self.new.machine) }
+        ensures cause { IsOwed result (P.faults self.old.keeper) (P.faults self.new.keeper) }
+        ensures steps { steps.new ≤ steps.old + evaluations self.old.machine caller.now call.now }
     {
-        if let Some(member) = fault_of_form(call) {
-            return Reply::Refused(malformed(self.alloc, member));
+        match prepare(self.alloc, &mut self.state, caller, call, steps) {
+            Err(refusal) => Reply::Refused(refusal),
+            Ok(Prepared::Tell(answer)) => Reply::Ok(answer),
+            Ok(Prepared::Make { plan, answer, rows }) => {
+                make(&mut self.state, &mut self.keeper, plan, answer, &rows)
+            }
         }
-        let Some(user) = self.state.user_named(caller.as_str()) else {
-            return Reply::Refused(unknown(self.alloc, Thing::User, caller.as_str()));
-        };
-        perform(self.alloc, &mut self.state, user, call, steps)
     }
 
     /// The state, lent.
     pub fn state(&self) -> &State
-        ensures { result.now.machine ≡ self.now }
+        ensures { result.now.machine ≡ self.now.machine }
     {
         &self.state
     }
+
+    /// Ends the desk and hands its keeper back, with its rows as they are.
+    pub fn close(self) -> P
+        ensures { result ≡ self.keeper }
+    {
+        let Desk {
+            alloc: _,
+            state: _,
+            keeper,
+        } = self;
+        keeper
+    }
 }
 
-// Makes a call of that user.
-#[tactic(auto, unfolding(tracker_machine::specs::Step::changed, tracker_machine::specs::Step::evaluations, tracker_machine::specs::Refusal::call_refusal, tracker_machine::specs::Answer::answer_of))]
-fn perform<L: Ledger>(
-    alloc: Global,
+// The keeper has no row.
+fn look<P: Keeper>(keeper: &mut P) -> Result<(), OpenFault>
+    ensures none { (rows : Rows) → P.keeps keeper.old rows → OnOk result (P.tells keeper.new → HasNoRow rows) }
+    ensures held { (rows : Rows) → P.keeps keeper.old rows → result ≡ Err OpenFault.Held → P.tells keeper.new → HasRow rows }
+    ensures told { P.tells keeper.new → P.tells keeper.old }
+    ensures same { (rows : Rows) → P.keeps keeper.old rows → P.keeps keeper.new rows }
+    ensures cause { result ≡ Err OpenFault.Keeper → Rose (P.faults keeper.old) (P.faults keeper.new) }
+    ensures later { P.faults keeper.old ≤ P.faults keeper.new }
+{
+    match keeper.rows() {
+        Ok(list) => {
+            if has_none(&list) {
+                Ok(())
+            } else {
+                Err(OpenFault::Held)
+            }
+        }
+        Err(fault) => Err(OpenFault::of(fault)),
+    }
+}
+
+fn has_none(list: &[Row]) -> bool
+    ensures none { result ≡ true → list.now ≡ [] }
+    ensures some { result ≡ false → list.now ≢ [] }
+{
+    list.is_empty()
+}
+
+// Keeps the opening rows, and makes the state of a new tracker.
+fn open<P: Keeper>(alloc: Global, keeper: &mut P, setup: Setup) -> Result<State, OpenFault>
+    ensures state { IfOk result (λ state. state.machine ≡ opening setup.text (parts setup)) }
+    ensures rows { P.keeps keeper.old no_rows → OnOk result (P.keeps keeper.new (rows_of (opening setup.text (parts setup)))) }
+    ensures told { P.tells keeper.new → P.tells keeper.old }
+    ensures same { (rows : Rows) → P.keeps keeper.old rows → OnErr result (P.keeps keeper.new rows) }
+    ensures held { result ≡ Err OpenFault.Held → ⊥ }
+    ensures cause { result ≡ Err OpenFault.Keeper → Rose (P.faults keeper.old) (P.faults keeper.new) }
+    ensures later { P.faults keeper.old ≤ P.faults keeper.new }
+{
+    let Ok(ops) = opening_ops(alloc, &setup) else {
+        return Err(OpenFault::Memory);
+    };
+    let Ok(state) = State::opening(alloc, setup) else {
+        return Err(OpenFault::Memory);
+    };
+    match keeper.commit(&ops) {
+        Ok(()) => Ok(state),
+        Err(fault) => Err(OpenFault::of(fault)),
+    }
+}
+
+// Has kept what a plan does, and then does it.
+fn make<P: Keeper>(
     state: &mut State,
-    user: UserNo,
-    call: &Call,
-    steps: &mut Steps<L>,
+    keeper: &mut P,
+    plan: Plan,
+    answer: Answer,
+    rows: &[RowOp],
 ) -> Reply
-    requires { user.0 < length state.old.machine.setup.users }
-    ensures reply { Performs (call_refusal state.old.machine user.0 call.now) (answer_of state.old.machine user.0 call.now)
-        (changed state.old.machine user.0 call.now) state.old.machine result state.new.machine }
-    ensures steps { steps.new ≤ steps.old + evaluations state.old.machine call.now }
+    requires fits { Fits state.old plan }
+    requires allowed { IsAllowed (effect_of plan) state.old.machine }
+    requires keeps { rows.now ≡ ops_of (effect_of plan) state.old.machine }
+    ensures step { Performs (Makes answer (effect_of plan)) state.old.machine result state.new.machine }
+    ensures rows { P.keeps keeper.old (rows_of state.old.machine) → P.keeps keeper.new (rows_of state.new.machine) }
+    ensures cause { IsOwed result (P.faults keeper.old) (P.faults keeper.new) }
 {
-    match call {
-        Call::Create {
-            project,
-            issue_type,
-            summary,
-            set,
-        } => create(
-            alloc,
-            state,
-            user,
-            project.as_str(),
-            issue_type.as_str(),
-            summary.as_str(),
-            set.as_slice(),
-        ),
-        Call::Edit { issue, set } => edit(alloc, state, user, issue.as_str(), set.as_slice()),
-        Call::Transition {
-            issue,
-            transition: name,
-            set,
-        } => transition(
-            alloc,
-            state,
-            user,
-            issue.as_str(),
-            name.as_str(),
-            set.as_slice(),
-        ),
-        Call::Tick { to } => tick(state, *to),
-        Call::Show { issue } => show(alloc, state, user, issue.as_str()),
-        Call::History { issue, part } => history(alloc, state, user, issue.as_str(), *part),
-        Call::Search { jql, part } => search(alloc, state, user, jql.as_str(), *part, steps),
-    }
-}
-
-// The member of a part that is out of range, which no line gives.
-fn part_fault(part: Part, most: u32) -> Option<&'static str>
-    ensures { option_map (λ name. name.now) result ≡ part_fault most part }
-{
-    if part.from > MOST_FROM {
-        return Some("from");
-    }
-    if part.count < 1 || most < part.count {
-        return Some("count");
-    }
-    None
-}
-
-// Two names in `set` that differ in case alone, which no line gives.
-fn twins_fault(set: &[GivenField]) -> Option<&'static str>
-    ensures { option_map (λ name. Refusal.Form name.now) result ≡ twins_refusal set.now }
-{
-    if has_twins(set) {
-        return Some("set");
-    }
-    None
-}
-
-// The first member of the call that isn't of its form.
-#[tactic(auto, unfolding(tracker_machine::specs::Refusal::form_refusal))]
-fn fault_of_form(call: &Call) -> Option<&'static str>
-    ensures { option_map (λ name. Refusal.Form name.now) result ≡ form_refusal call.now }
-{
-    match call {
-        Call::Create { set, .. } => twins_fault(set.as_slice()),
-        Call::Edit { set, .. } => twins_fault(set.as_slice()),
-        Call::Transition { set, .. } => twins_fault(set.as_slice()),
-        Call::History { part, .. } => part_fault(*part, MOST_ENTRIES),
-        Call::Search { part, .. } => part_fault(*part, MOST_LISTED),
-        Call::Tick { .. } | Call::Show { .. } => None,
+    state.is_tracker();
+    match keeper.commit(rows) {
+        Ok(()) => {
+            state.install(plan);
+            Reply::Ok(answer)
+        }
+        Err(KeepFault::Failed) => Reply::Refused(Refusal::Keeper),
+        Err(KeepFault::Memory) => Reply::Refused(Refusal::Memory),
     }
 }

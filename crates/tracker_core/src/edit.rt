@@ -6,43 +6,41 @@ ghost use Rattle.fields.specs.SetupParts.{names_in};
 ghost use Rattle.workflow.specs.Difference.{AreNews};
 ghost use Rattle.workflow.specs.Laws.{AllFit};
 ghost use Rattle.workflow.specs.Net.{net_changes};
-ghost use Rattle.tracker_machine.specs.Step.{Performs};
 ghost use Rattle.tracker_machine.specs.Checks.{entries_kept, bytes_kept};
-ghost use Rattle.tracker_machine.specs.Edit.{edit_refusal, edit_answer, edited, set_changes};
-ghost use Rattle.tracker_machine.specs.Group.{group_number, with_group};
+ghost use Rattle.tracker_machine.specs.Edit.{edit_refusal, edit_answer, edit_meaning, set_changes};
+ghost use Rattle.tracker_machine.specs.Group.{grouped};
 ghost use Rattle.tracker_machine.specs.Known.{place_of_issue};
 ghost use Rattle.tracker_core.specs.Check.{Checks};
-ghost use Rattle.tracker_core.specs.Made.{IsMade};
+ghost use Rattle.tracker_core.specs.Plan.{IsPrepared};
 
 use crate::check::{
     check_access, check_bytes, check_entries, check_set, known_issue, known_values,
 };
-use crate::group::put_group;
+use crate::group::{GroupCall, grouped};
+use crate::plan::Prepared;
 use crate::state::State;
 use crate::wants::Wants;
 use change_history::{Change, Changes, Issue};
-use fields::{Memory, Permission, Text, UserNo};
+use fields::{Memory, Permission, UserNo};
 use std::alloc::Global;
-use tracker_calls::{Answer, GivenField, Refusal, Reply};
+use tracker_calls::{GivenField, Refusal};
 use workflow::net_changes;
 
-/// Changes fields of the issue, or says why not.
+/// Prepares changes of fields of the issue, or says why not.
 pub fn edit(
     alloc: Global,
     state: &mut State,
     caller: UserNo,
     issue: &str,
     set: &[GivenField],
-) -> Reply
+) -> Result<Prepared, Refusal>
     requires { caller.0 < length state.old.machine.setup.users }
-    ensures { Performs (edit_refusal state.old.machine caller.0 issue.now set.now)
-        (edit_answer state.old.machine issue.now set.now)
-        (edited state.old.machine caller.0 issue.now set.now)
-        state.old.machine result state.new.machine }
+    ensures same { state.new.machine ≡ state.old.machine }
+    ensures prepared { IsPrepared (edit_meaning state.old.machine caller.0 issue.now set.now) state.new result }
 {
     match check_edit(alloc, state, caller, issue, set) {
         Ok((place, changes)) => change(alloc, state, caller, place, issue, &changes),
-        Err(refusal) => Reply::Refused(refusal),
+        Err(refusal) => Err(refusal),
     }
 }
 
@@ -72,7 +70,7 @@ fn check_edit(
     Ok((place, changes))
 }
 
-// Makes these changes of the issue at a place, as far as they are any.
+// These changes of the issue at a place, ready to come, as far as they are any.
 fn change(
     alloc: Global,
     state: &mut State,
@@ -80,30 +78,20 @@ fn change(
     place: usize,
     name: &str,
     changes: &Changes,
-) -> Reply
+) -> Result<Prepared, Refusal>
     requires there { place < length state.old.machine.histories }
     requires user { caller.0 < length state.old.machine.setup.users }
     requires few { entries_kept state.old.machine.histories ≤ 1_999_957 }
     requires light { bytes_kept state.old.machine.histories ≤ 499_800_000 }
     requires fitting { AllFit (names_in state.old.machine.setup) changes.now }
-    ensures { IfSome (slice_get state.old.machine.histories place) (λ h.
-        IsMade (Answer.Edit (group_number state.old.machine (net_changes (present h) changes.now)) name.now)
-        (with_group state.old.machine caller.0 place h (net_changes (present h) changes.now))
-        state.old.machine result state.new.machine) }
+    ensures same { state.new.machine ≡ state.old.machine }
+    ensures prepared { IfSome (slice_get state.old.machine.histories place) (λ h.
+        IsPrepared (grouped (edit_answer name.now) state.old.machine caller.0 place h (net_changes (present h) changes.now)) state.new result) }
 {
-    let Ok(told) = Text::copy_of(alloc, name) else {
-        return Reply::Refused(Refusal::Memory);
-    };
     let Ok(net) = news(alloc, state, place, changes) else {
-        return Reply::Refused(Refusal::Memory);
+        return Err(Refusal::Memory);
     };
-    match put_group(alloc, state, caller, place, &net) {
-        Ok(change) => Reply::Ok(Answer::Edit {
-            change,
-            issue: told,
-        }),
-        Err(_) => Reply::Refused(Refusal::Memory),
-    }
+    grouped(alloc, state, caller, GroupCall::Edit, place, name, &net)
 }
 
 // The values that differ from the present ones.

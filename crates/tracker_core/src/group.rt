@@ -1,54 +1,147 @@
-// A change group of an issue, prepared and then put in.
-ghost use Rattle.std.specs.Prelude.{◌≡◌, ◌≢◌, ◌<◌, ◌≤◌, ◌+◌, [], length, slice_get, IfOk, IfSome, OnOk, OnErr, Some};
+// A change group of an issue, as edits and transitions make it.
+ghost use Rattle.std.specs.Prelude.{◌≡◌, ◌≢◌, ◌<◌, ◌≤◌, ◌+◌, [], ◌∷◌, length, slice_get, IfOk, IfSome, OnOk, OnErr, Some};
 ghost use Rattle.change_history.specs.History.{present, updated, last_change, MayAdd};
 ghost use Rattle.field_forms.specs.Known.{Names};
-ghost use Rattle.fields.specs.SetupParts.{names_in};
+ghost use Rattle.fields.specs.SetupParts.{names_in, names};
 ghost use Rattle.workflow.specs.Difference.{AreNews, entries_of};
 ghost use Rattle.workflow.specs.Laws.{AllFit};
 ghost use Rattle.tracker_machine.specs.Checks.{entries_kept, bytes_kept};
-ghost use Rattle.tracker_machine.specs.Group.{group_number, with_group};
-ghost use Rattle.tracker_core.specs.State.{AllEntriesFit};
+ghost use Rattle.tracker_machine.specs.Group.{grouped, next_group};
+ghost use Rattle.tracker_machine.specs.Tracker.{AllEntriesFit, MayGroup};
+ghost use Rattle.tracker_core.specs.Plan.{group_answer, GroupFits, group_row, present_op, IsPrepared};
+ghost use Rattle.tracker_keeper.specs.Forms.{IsGroupEntry};
+ghost use Rattle.std.specs.List.{All};
 
+use crate::plan::{GroupPlan, Plan, Prepared};
+use crate::rows::row_ops;
 use crate::state::State;
 use crate::weight::bytes_of_entries;
 use change_history::{Change, Changes, Entries, Entry, Group, Issue};
-use fields::{Memory, Moment, UserNo};
+use fields::{Memory, Moment, Setup, Text, UserNo};
 use std::alloc::Global;
+use tracker_calls::{Answer, Refusal};
+use tracker_keeper::{Row, RowOp, group_text};
 
-/// Puts a group of these changes of the issue at a place in, and tells its number; no change makes no group. For want of
-/// memory all stays as it is.
-pub fn put_group(
+/// A call that changes an issue.
+#[derive(Clone, Copy)]
+pub enum GroupCall {
+    Edit,
+    Transition,
+}
+
+/// Prepares a group of these changes of the issue at a place, which the caller named so; no change makes no group.
+#[tactic(auto, using(crate::proofs::Grouping::nothing_grouped, crate::proofs::Grouping::group_made))]
+pub fn grouped(
     alloc: Global,
     state: &mut State,
     caller: UserNo,
+    call: GroupCall,
     place: usize,
+    name: &str,
     net: &Changes,
-) -> Result<Option<u64>, Memory>
+) -> Result<Prepared, Refusal>
     requires there { place < length state.old.machine.histories }
     requires user { caller.0 < length state.old.machine.setup.users }
     requires few { entries_kept state.old.machine.histories ≤ 1_999_957 }
     requires light { bytes_kept state.old.machine.histories ≤ 499_800_000 }
     requires news { IfSome (slice_get state.old.machine.histories place) (λ h. AreNews (present h) 0 net.now) }
     requires fitting { AllFit (names_in state.old.machine.setup) net.now }
-    ensures ok { IfOk result (λ number. IfSome (slice_get state.old.machine.histories place) (λ h.
-        (number ≡ group_number state.old.machine net.now) × (state.new.machine ≡ with_group state.old.machine caller.0 place h net.now))) }
-    ensures err { OnErr result (state.new.machine ≡ state.old.machine) }
+    ensures same { state.new.machine ≡ state.old.machine }
+    ensures prepared { IfSome (slice_get state.old.machine.histories place) (λ h.
+        IsPrepared (grouped (group_answer call name.now) state.old.machine caller.0 place h net.now) state.new result) }
 {
+    let Ok(told) = Text::copy_of(alloc, name) else {
+        return Err(Refusal::Memory);
+    };
     if net.as_slice().is_empty() {
-        return Ok(None);
+        return Ok(Prepared::Tell(answer_of(call, told, None)));
     }
-    let group = prepare(alloc, state, caller, place, net)?;
+    let Ok((new, rows)) = new_group(alloc, state, caller, place, net) else {
+        return Err(Refusal::Memory);
+    };
+    let answer = answer_of(call, told, Some(new.group.change));
+    Ok(Prepared::Make {
+        plan: Plan::Group(new),
+        answer,
+        rows,
+    })
+}
+
+fn answer_of(call: GroupCall, issue: Text, change: Option<u64>) -> Answer
+    ensures { result ≡ group_answer call issue change }
+{
+    match call {
+        GroupCall::Edit => Answer::Edit { change, issue },
+        GroupCall::Transition => Answer::Transition { change, issue },
+    }
+}
+
+// The group with all that is kept of it, for which there is room then, and the operations that keep it.
+fn new_group(
+    alloc: Global,
+    state: &mut State,
+    caller: UserNo,
+    place: usize,
+    net: &Changes,
+) -> Result<(GroupPlan, Vec<RowOp>), Memory>
+    requires there { place < length state.old.machine.histories }
+    requires user { caller.0 < length state.old.machine.setup.users }
+    requires few { entries_kept state.old.machine.histories ≤ 1_999_957 }
+    requires light { bytes_kept state.old.machine.histories ≤ 499_800_000 }
+    requires news { IfSome (slice_get state.old.machine.histories place) (λ h. AreNews (present h) 0 net.now) }
+    requires some { net.now ≢ [] }
+    requires fitting { AllFit (names_in state.old.machine.setup) net.now }
+    ensures some { net.now ≢ [] }
+    ensures same { state.new.machine ≡ state.old.machine }
+    ensures place { IfOk result (λ r. r.0.place ≡ place) }
+    ensures group { IfOk result (λ r. IfSome (slice_get state.old.machine.histories place) (λ h. r.0.group ≡ next_group state.old.machine caller.0 h net.now)) }
+    ensures allowed { IfOk result (λ r. MayGroup state.old.machine place r.0.group) }
+    ensures fits { IfOk result (λ r. GroupFits state.new r.0) }
+    ensures rows { IfOk result (λ r. IfSome (slice_get state.old.machine.histories place) (λ h.
+        r.1.items ≡ present_op (state.old.machine.change + 1) state.old.machine.moment ∷ RowOp.Put (group_row (names_in state.old.machine.setup) h r.0.group) ∷ [])) }
+{
+    let group = group_of(alloc, state, caller, place, net)?;
     let Some(bytes) = bytes_of_entries(group.entries.as_slice()) else {
         return Err(Memory);
     };
+    let row = row_of(alloc, state, place, &group)?;
+    let rows = row_ops(alloc, group.change, group.at, row)?;
     state.reserve_entries(place, group.entries.as_slice().len())?;
-    let number = group.change;
-    state.add(place, group, bytes);
-    Ok(Some(number))
+    let new = GroupPlan {
+        place,
+        group,
+        bytes,
+    };
+    Ok((new, rows))
+}
+
+// The row of a group of the issue at a place.
+fn row_of(alloc: Global, state: &State, place: usize, group: &Group) -> Result<Row, Memory>
+    requires may { MayGroup state.now.machine place group.now }
+    ensures { IfOk result (λ row. IfSome (slice_get state.now.machine.histories place) (λ h. row ≡ group_row (names_in state.now.machine.setup) h group.now)) }
+{
+    state.is_tracker();
+    let Some(issue) = state.issue_at(place) else {
+        unreachable!()
+    };
+    issue_row_of(alloc, state.setup(), issue, group)
+}
+
+#[tactic(auto, unfolding(tracker_keeper::specs::Bodies::body_text))]
+fn issue_row_of(alloc: Global, setup: &Setup, issue: &Issue, group: &Group) -> Result<Row, Memory>
+    requires { All (IsGroupEntry (names setup.now) group.now.change group.now.at group.now.author) group.now.entries }
+    ensures { IfOk result (λ row. row ≡ group_row (names setup.now) issue.now.history group.now) }
+{
+    let body = group_text(alloc, setup, issue.no(), group)?;
+    Ok(Row {
+        kind: 4,
+        no: group.change,
+        body,
+    })
 }
 
 // The change group of some changes.
-fn prepare(
+fn group_of(
     alloc: Global,
     state: &State,
     caller: UserNo,

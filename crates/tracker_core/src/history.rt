@@ -3,30 +3,33 @@ ghost use Rattle.std.specs.Prelude.{◌≡◌, ◌<◌, ◌++◌, length, IfOk, 
 ghost use Rattle.fields.specs.SetupParts.{parts, names_in};
 ghost use Rattle.tracker_calls.specs.Part.{part_of};
 ghost use Rattle.tracker_machine.specs.Known.{history_named};
-ghost use Rattle.tracker_machine.specs.Step.{Performs};
-ghost use Rattle.tracker_machine.specs.Entries.{history_refusal, history_answer, history_answer_of, told_entry};
-ghost use Rattle.tracker_core.specs.State.{AllEntriesHold, Holds};
+ghost use Rattle.tracker_core.specs.Plan.{IsPrepared};
+ghost use Rattle.tracker_machine.specs.Entries.{history_meaning, history_answer_of, told_entry};
+ghost use Rattle.tracker_machine.specs.Tracker.{AllEntriesHold, Holds};
 
+use crate::plan::Prepared;
 use crate::show::check_show;
 use crate::state::State;
 use crate::told::shown_value;
 use change_history::{Entry, Issue};
 use fields::{Memory, Setup, Text, UserNo, name_at};
 use std::alloc::Global;
-use tracker_calls::{Answer, Part, Refusal, Reply, ToldEntries, ToldEntry};
+use tracker_calls::{Answer, Part, Refusal, ToldEntries, ToldEntry};
 
 /// Tells a part of the issue's entries.
-pub fn history(alloc: Global, state: &State, caller: UserNo, issue: &str, part: Part) -> Reply
-    ensures { Performs (history_refusal state.now.machine caller.0 issue.now) (history_answer state.now.machine issue.now part)
-        state.now.machine state.now.machine result state.now.machine }
+pub fn history(
+    alloc: Global,
+    state: &State,
+    caller: UserNo,
+    issue: &str,
+    part: Part,
+) -> Result<Prepared, Refusal>
+    ensures { IsPrepared (history_meaning state.now.machine caller.0 issue.now part) state.now result }
 {
-    let place = match check_show(alloc, state, caller, issue) {
-        Ok(place) => place,
-        Err(refusal) => return Reply::Refused(refusal),
-    };
+    let place = check_show(alloc, state, caller, issue)?;
     match told(alloc, state, place, part) {
-        Ok(answer) => Reply::Ok(answer),
-        Err(_) => Reply::Refused(Refusal::Memory),
+        Ok(answer) => Ok(Prepared::Tell(answer)),
+        Err(_) => Err(Refusal::Memory),
     }
 }
 

@@ -11,7 +11,10 @@ mod history;
 mod issues;
 mod names;
 mod part;
+mod plan;
+mod prepare;
 mod project_key;
+mod rows;
 mod search;
 mod setting;
 mod show;
@@ -22,5 +25,5 @@ mod transition;
 mod wants;
 mod weight;
 
-pub use desk::Desk;
+pub use desk::{Desk, OpenFault};
 pub use state::State;

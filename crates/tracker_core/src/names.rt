@@ -4,7 +4,7 @@ ghost use Rattle.std.specs.Option.{option_or, is_some};
 ghost use Rattle.fields.specs.SetupParts.{parts};
 ghost use Rattle.tracker_machine.specs.Known.{is_field, names_field};
 ghost use Rattle.tracker_machine.specs.Wanted.{given_for, sprint_number};
-ghost use Rattle.tracker_core.specs.Wants.{strange_refusal};
+ghost use Rattle.tracker_core.specs.Wants.{unknown_name_refusal};
 ghost use Rattle.tracker_machine.specs.Checks.{sprint_given, name_refusal, names_refusal, refused_names, sooner, first_with};
 
 use field_forms::form::is_before;
@@ -13,7 +13,7 @@ use tracker_calls::{Given, GivenField};
 
 /// A name in `set` that stands for nothing.
 #[derive(Clone, Copy)]
-pub enum Strange<'s> {
+pub enum UnknownName<'s> {
     /// It is no field's.
     Field(&'s str),
     /// It is the sprint field's, and there is no sprint of the number that is given.
@@ -68,17 +68,17 @@ fn sprint_given(setup: &Setup, set: &[GivenField]) -> Option<u32>
     }
 }
 
-fn strange_name<'s>(setup: &Setup, set: &[GivenField], name: &'s str) -> Option<Strange<'s>>
-    ensures { option_map strange_refusal result ≡ name_refusal setup.now.field set.now name.now }
+fn unknown_name<'s>(setup: &Setup, set: &[GivenField], name: &'s str) -> Option<UnknownName<'s>>
+    ensures { option_map unknown_name_refusal result ≡ name_refusal setup.now.field set.now name.now }
 {
     if !is_field(setup, name) {
-        return Some(Strange::Field(name));
+        return Some(UnknownName::Field(name));
     }
     if !names_field(setup, FieldNo::SPRINT, name) {
         return None;
     }
     match sprint_given(setup, set) {
-        Some(number) => Some(Strange::Sprint(number)),
+        Some(number) => Some(UnknownName::Sprint(number)),
         None => None,
     }
 }
@@ -104,7 +104,7 @@ fn found_after<'s>(
         ≡ first_with (option_map (λ found. found.now) found.entry) (refused_names setup.now.field set.now (given.now ∷ [])) }
 {
     let name = given.name.as_str();
-    match strange_name(setup, set, name) {
+    match unknown_name(setup, set, name) {
         Some(_) => Some(sooner(found, name)),
         None => found,
     }
@@ -122,11 +122,11 @@ fn first_name<'s>(setup: &Setup, set: &'s [GivenField]) -> Option<&'s str>
 }
 
 /// The first name in `set`, in byte order, that stands for nothing.
-pub fn first_strange<'s>(setup: &Setup, set: &'s [GivenField]) -> Option<Strange<'s>>
-    ensures { option_map strange_refusal result ≡ names_refusal setup.now.field set.now }
+pub fn first_unknown_name<'s>(setup: &Setup, set: &'s [GivenField]) -> Option<UnknownName<'s>>
+    ensures { option_map unknown_name_refusal result ≡ names_refusal setup.now.field set.now }
 {
     match first_name(setup, set) {
-        Some(name) => strange_name(setup, set, name),
+        Some(name) => unknown_name(setup, set, name),
         None => None,
     }
 }

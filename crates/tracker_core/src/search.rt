@@ -9,12 +9,14 @@ ghost use Rattle.jql_syntax.specs.View.{view as tree};
 ghost use Rattle.jql_grammar.specs.Binding.{bound_in};
 ghost use Rattle.jql_grammar.specs.Scope.{scope_in};
 ghost use Rattle.jql_meaning.specs.Truth.{query_holds};
-ghost use Rattle.tracker_machine.specs.Search.{asked, bound_or_fault, found, is_found, listed, search_refusal, search_answer, search_answer_of, surroundings_in};
-ghost use Rattle.workflow.specs.Conditions.{project_of};
-ghost use Rattle.tracker_machine.specs.Step.{Performs};
+ghost use Rattle.tracker_machine.specs.Search.{asked, bound_or_fault, found, is_found, listed, search_meaning, search_answer, surroundings_in};
+ghost use Rattle.workflow.specs.Conditions.{project_number};
+ghost use Rattle.tracker_machine.specs.Meaning.{allowance};
+ghost use Rattle.tracker_core.specs.Plan.{IsPrepared};
 ghost use Rattle.tracker_core.specs.Found.{query_of, text_refusal, Faults};
 
 use crate::part::part_of;
+use crate::plan::Prepared;
 use crate::state::State;
 use change_history::Issue;
 use fields::{Memory, Names, Permission, Setup, Steps, Text, UserNo};
@@ -25,11 +27,11 @@ use jql_syntax::{JqlFault, Query, parse};
 use std::alloc::Global;
 use std::cmp::Ordering;
 use std::sync::ledger::Ledger;
-use tracker_calls::{Answer, Part, Refusal, Reply};
-use workflow::project_of;
+use tracker_calls::{Answer, Part, Refusal};
+use workflow::project_number;
 
 /// Tells a part of the issues of which the query holds and which the caller may browse, in the query's order.
-#[tactic(auto, unfolding(tracker_machine::specs::Search::search_refusal, tracker_machine::specs::Search::search_answer))]
+#[tactic(auto, unfolding(tracker_machine::specs::Search::search_meaning))]
 pub fn search<L: Ledger>(
     alloc: Global,
     state: &State,
@@ -37,20 +39,16 @@ pub fn search<L: Ledger>(
     jql: &str,
     part: Part,
     steps: &mut Steps<L>,
-) -> Reply
-    ensures reply { Performs (search_refusal state.now.machine caller.0 jql.now) (search_answer state.now.machine caller.0 jql.now part)
-        state.now.machine state.now.machine result state.now.machine }
-    ensures steps { steps.new ≤ steps.old + length state.now.machine.histories }
+) -> Result<Prepared, Refusal>
+    ensures prepared { IsPrepared (search_meaning state.now.machine caller.0 jql.now part) state.now result }
+    ensures steps { steps.new ≤ steps.old + allowance (search_meaning state.now.machine caller.0 jql.now part) state.now.machine }
 {
-    let bound = match asked(alloc, state.setup(), caller, jql) {
-        Ok(bound) => bound,
-        Err(refusal) => return Reply::Refused(refusal),
-    };
+    let bound = asked(alloc, state.setup(), caller, jql)?;
     let answer = told(alloc, state, caller, &bound, part, steps);
     drop(bound);
     match answer {
-        Ok(answer) => Reply::Ok(answer),
-        Err(_) => Reply::Refused(Refusal::Memory),
+        Ok(answer) => Ok(Prepared::Tell(answer)),
+        Err(_) => Err(Refusal::Memory),
     }
 }
 
@@ -60,7 +58,7 @@ fn asked(alloc: Global, setup: &Setup, caller: UserNo, jql: &str) -> Result<Boun
     ensures fault { IfErr result (Faults (asked (parts setup.now) caller.0 jql.now)) }
 {
     match parse(alloc, jql) {
-        Ok(query) => tied(alloc, setup, caller, query),
+        Ok(query) => bound(alloc, setup, caller, query),
         Err(fault) => Err(refusal_of(fault)),
     }
 }
@@ -75,14 +73,14 @@ fn refusal_of(fault: JqlFault) -> Refusal
     }
 }
 
-// The query tied to the setup; it ends here, before what came of it is looked at.
-fn tied(alloc: Global, setup: &Setup, caller: UserNo, query: Query) -> Result<Bound, Refusal>
+// The query bound to the setup; it ends here, before what came of it is looked at.
+fn bound(alloc: Global, setup: &Setup, caller: UserNo, query: Query) -> Result<Bound, Refusal>
     ensures query { IfOk result (λ bound. bound_or_fault (bound_in (scope_in setup.now caller) (option_map tree query.0) query.1) ≡ Ok (query_of bound)) }
     ensures fault { IfErr result (Faults (bound_or_fault (bound_in (scope_in setup.now caller) (option_map tree query.0) query.1))) }
 {
-    let tied = bind(alloc, &query, setup, caller);
+    let bound = bind(alloc, &query, setup, caller);
     drop(query);
-    match tied {
+    match bound {
         Ok(bound) => Ok(bound),
         Err(BindFault::Bad { place, kind }) => Err(Refusal::Query { kind, place }),
         Err(BindFault::Memory) => Err(Refusal::Memory),
@@ -97,7 +95,7 @@ fn told<L: Ledger>(
     part: Part,
     steps: &mut Steps<L>,
 ) -> Result<Answer, Memory>
-    ensures answer { IfOk result (λ answer. answer ≡ search_answer_of state.now.machine caller.0 part (Ok (query_of bound.now))) }
+    ensures answer { IfOk result (λ answer. answer ≡ search_answer state.now.machine caller.0 part (query_of bound.now)) }
     ensures steps { steps.new ≤ steps.old + length state.now.machine.histories }
 {
     let mut issues = found(alloc, state, caller, bound, steps)?;
@@ -145,9 +143,13 @@ fn is_found<L: Ledger>(
 }
 
 fn may_browse(state: &State, caller: UserNo, issue: &Issue) -> bool
-    ensures { result ≡ may state.now.machine.setup caller.0 Browse (project_of state.now.machine.setup issue.now.history) }
+    ensures { result ≡ may state.now.machine.setup caller.0 Browse (project_number state.now.machine.setup issue.now.history) }
 {
-    state.may(caller, Permission::Browse, project_of(state.setup(), issue))
+    state.may(
+        caller,
+        Permission::Browse,
+        project_number(state.setup(), issue),
+    )
 }
 
 fn holds_now<L: Ledger>(state: &State, bound: &Bound, issue: &Issue, steps: &mut Steps<L>) -> bool

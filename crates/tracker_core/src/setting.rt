@@ -18,7 +18,7 @@ pub struct Setting {
 impl Setting {
     /// The setup with its groups and its calendar as queries ask of them.
     pub fn of(alloc: Global, setup: Setup) -> Result<Setting, Memory>
-        ensures { IfOk result (λ setting. parts setting.setup ≡ parts setup) }
+        ensures { IfOk result (λ setting. setting.setup ≡ setup) }
     {
         let context = context_of(alloc, &setup)?;
         Ok(Setting { setup, context })

@@ -4,31 +4,28 @@ ghost use Rattle.fields.specs.SetupParts.{parts, names_in};
 ghost use Rattle.change_history.specs.History.{present, updated};
 ghost use Rattle.fields.specs.Naming.{field_name};
 ghost use Rattle.tracker_machine.specs.Known.{history_named};
-ghost use Rattle.tracker_machine.specs.Step.{Performs};
-ghost use Rattle.tracker_machine.specs.Show.{show_refusal, show_answer, show_answer_of, shown_issue, shown_fields, shown_value, with_shown};
+ghost use Rattle.tracker_core.specs.Plan.{IsPrepared};
+ghost use Rattle.tracker_machine.specs.Show.{show_refusal, show_meaning, show_answer_of, shown_issue, shown_fields, shown_value, with_shown};
 ghost use Rattle.tracker_core.specs.Check.{Checks};
-ghost use Rattle.tracker_core.specs.State.{Holds};
+ghost use Rattle.tracker_machine.specs.Tracker.{Holds};
 
 use crate::check::{check_access, known_issue};
+use crate::plan::Prepared;
 use crate::state::State;
 use crate::told::shown_value;
 use change_history::Issue;
 use fields::{FieldNo, Memory, Permission, Setup, Text, UserNo};
 use std::alloc::Global;
-use tracker_calls::{Answer, Refusal, Reply, ShownField, ShownFields};
+use tracker_calls::{Answer, Refusal, ShownField, ShownFields};
 
 /// Tells the issue's present values.
-pub fn show(alloc: Global, state: &State, caller: UserNo, issue: &str) -> Reply
-    ensures { Performs (show_refusal state.now.machine caller.0 issue.now) (show_answer state.now.machine issue.now)
-        state.now.machine state.now.machine result state.now.machine }
+pub fn show(alloc: Global, state: &State, caller: UserNo, issue: &str) -> Result<Prepared, Refusal>
+    ensures { IsPrepared (show_meaning state.now.machine caller.0 issue.now) state.now result }
 {
-    let place = match check_show(alloc, state, caller, issue) {
-        Ok(place) => place,
-        Err(refusal) => return Reply::Refused(refusal),
-    };
+    let place = check_show(alloc, state, caller, issue)?;
     match shown(alloc, state, place) {
-        Ok(answer) => Reply::Ok(answer),
-        Err(_) => Reply::Refused(Refusal::Memory),
+        Ok(answer) => Ok(Prepared::Tell(answer)),
+        Err(_) => Err(Refusal::Memory),
     }
 }
 

@@ -1,6 +1,8 @@
 ghost use Rattle.std.specs.Prelude.{◌≡◌, ◌≤◌, ◌<◌, ◌+◌, [], ◌∷◌, ◌++◌, true, length, map, slice_get, slice_set, option_map, string_bytes, IfOk, IfSome, OnOk, OnErr, Some, sum_by};
 ghost use Rattle.field_forms.specs.Names.{place_named};
-ghost use Rattle.tracker_machine.specs.Create.{with_issue};
+ghost use Rattle.tracker_machine.specs.Effect.{applied, IsAllowed};
+ghost use Rattle.tracker_machine.specs.Effect.Effect.{NewMoment, NewIssue, NewGroup};
+ghost use Rattle.tracker_core.specs.Plan.{effect_of, IssueFits, GroupFits, Fits};
 ghost use Rattle.fields.specs.SetupParts.{parts, names_in, may};
 ghost use Rattle.change_history.specs.History.{MayAdd};
 ghost use Rattle.jql_meaning.specs.Surroundings.{surroundings_of};
@@ -10,12 +12,14 @@ ghost use Rattle.tracker_machine.specs.Transition.{transition_names};
 ghost use Rattle.fields.specs.Naming.{name_at};
 ghost use Rattle.tracker_machine.specs.Known.{project_keys, issues_of, place_of_issue};
 ghost use Rattle.tracker_machine.specs.Checks.{entries_kept, bytes_kept, entry_bytes, history_bytes};
-ghost use Rattle.tracker_core.specs.State.{counts_of, with_key, IsSettled, AllEntriesFit, MayOpen};
+ghost use Rattle.tracker_core.specs.State.{counts_of, with_key};
+ghost use Rattle.tracker_machine.specs.Tracker.{IsSettled, IsTracker};
 
 use crate::issues::Issues;
+use crate::plan::{GroupPlan, IssuePlan, Plan};
 use crate::project_key::count_key;
 use crate::setting::Setting;
-use change_history::{Group, Issue};
+use change_history::Issue;
 use fields::{Memory, Moment, Permission, Project, ProjectNo, Setup, UserNo};
 use jql_bound::Context;
 use std::alloc::Global;
@@ -51,27 +55,15 @@ impl Model for State {
 
     ghost Value = { Held };
 
-    ghost view = { λ s. record { machine = record { setup = parts s.setting.setup; moment = s.moment; change = s.change; histories = map (λ i. i.history) s.issues.kept }; room = s.issues.room; rooms = map (λ i. i.room) s.issues.kept } };
+    ghost view = { λ s. record { machine = record { text = s.setting.setup.text; setup = parts s.setting.setup; moment = s.moment; change = s.change; histories = map (λ i. i.history) s.issues.kept }; room = s.issues.room; rooms = map (λ i. i.room) s.issues.kept } };
 
-    ghost invariant = { λ s. IsState (record { setup = parts s.setting.setup; moment = s.moment; change = s.change; histories = map (λ i. i.history) s.issues.kept }) s.counts.items };
-}
-
-/// A new issue with all that is kept of it.
-#[derive(Drop)]
-pub struct NewIssue {
-    pub issue: Issue,
-    /// The text of its key.
-    pub key: String,
-    /// How many issues each project has with it.
-    pub counts: Vec<u32>,
-    /// Its text bytes.
-    pub bytes: u64,
+    ghost invariant = { λ s. IsState (record { text = s.setting.setup.text; setup = parts s.setting.setup; moment = s.moment; change = s.change; histories = map (λ i. i.history) s.issues.kept }) s.counts.items };
 }
 
 impl State {
     /// The state of a new tracker.
     pub fn opening(alloc: Global, setup: Setup) -> Result<State, Memory>
-        ensures { IfOk result (λ state. state.machine ≡ opening (parts setup)) }
+        ensures { IfOk result (λ state. state.machine ≡ opening setup.text (parts setup)) }
     {
         let counts = no_counts(alloc, setup.project.as_slice())?;
         let setting = Setting::of(alloc, setup)?;
@@ -103,6 +95,20 @@ impl State {
         ensures { result ≡ self.now.machine.moment }
     {
         self.moment
+    }
+
+    /// It is a tracker's: contracts may cite what holds of each.
+    pub fn is_tracker(&self)
+        ensures { IsTracker self.now.machine }
+    {
+        let _ = self.issues.len();
+    }
+
+    /// The number of the last change group.
+    pub fn change(&self) -> u64
+        ensures { result ≡ self.now.machine.change }
+    {
+        self.change
     }
 
     /// The number of the next change group.
@@ -226,14 +232,6 @@ impl State {
         )
     }
 
-    /// Sets the present moment.
-    pub fn set_moment(&mut self, to: Moment)
-        requires { self.old.machine.moment ≤ to }
-        ensures { self.new ≡ record self.old { machine = record self.old.machine { moment = to } } }
-    {
-        self.moment = to;
-    }
-
     /// Makes room for one more issue, or leaves all as it is. There is room for as many entries as before.
     pub fn reserve_issue(&mut self) -> Result<(), Memory>
         ensures machine { self.new.machine ≡ self.old.machine }
@@ -242,20 +240,6 @@ impl State {
         ensures err { OnErr result (self.new ≡ self.old) }
     {
         self.issues.reserve()
-    }
-
-    /// Puts a new issue at the end. It takes no memory.
-    pub fn push(&mut self, new: NewIssue)
-        requires room { 1 ≤ self.old.room }
-        requires may { MayOpen self.old.machine new.issue.history }
-        requires key { string_bytes new.key ≡ new.issue.history.key }
-        requires bytes { new.bytes ≡ history_bytes new.issue.history }
-        requires counts { new.counts.items ≡ with_key (counts_of self.old.machine.setup.project self.old.machine.histories) self.old.machine.setup.project new.issue.history.key }
-        ensures { self.new.machine ≡ with_issue self.old.machine new.issue.history }
-    {
-        self.change += 1;
-        self.counts = new.counts;
-        self.issues.push(new.key, new.issue, new.bytes);
     }
 
     /// Makes room for n entries more of the issue at a place, or leaves all as it is. There is room for as many issues, and
@@ -271,23 +255,49 @@ impl State {
         self.issues.reserve_entries(place, n)
     }
 
-    /// Adds a group, whose text bytes are given too, to the issue at a place. It takes no memory.
-    pub fn add(&mut self, place: usize, group: Group, bytes: u64)
-        requires there { place < length self.old.machine.histories }
-        requires room { IfSome (slice_get self.old.rooms place) (λ room. length group.entries ≤ room) }
-        requires few { entries_kept self.old.machine.histories + length group.entries ≤ 2_000_000 }
-        requires change { group.change ≡ self.old.machine.change + 1 }
-        requires at { group.at ≡ self.old.machine.moment }
-        requires group { IfSome (slice_get self.old.machine.histories place) (λ h. MayAdd h group.change group.at group.author group.entries) }
-        requires fitting { AllEntriesFit (names_in self.old.machine.setup) group.entries }
-        requires author { group.author.0 < length self.old.machine.setup.users }
-        requires bytes { bytes ≡ sum_by entry_bytes group.entries }
-        requires light { bytes_kept self.old.machine.histories + bytes ≤ 500_000_000 }
-        ensures { IfSome (slice_get self.old.machine.histories place) (λ h. self.new.machine
-            ≡ record self.old.machine { change = self.old.machine.change + 1; histories = slice_set self.old.machine.histories place (record h { entries = h.entries ++ group.entries }) }) }
+    /// Carries out a plan that was made for this state. It takes no memory, and can't fail.
+    pub fn install(&mut self, plan: Plan)
+        requires fits { Fits self.old plan }
+        requires allowed { IsAllowed (effect_of plan) self.old.machine }
+        ensures machine { self.new.machine ≡ applied (effect_of plan) self.old.machine }
+    {
+        match plan {
+            Plan::Moment(to) => self.set_moment(to),
+            Plan::Issue(new) => self.push(new),
+            Plan::Group(new) => self.add(new),
+        }
+    }
+
+    // Sets the present moment.
+    #[tactic(auto, unfolding(tracker_machine::specs::Effect::applied, tracker_machine::specs::Effect::IsAllowed))]
+    fn set_moment(&mut self, to: Moment)
+        requires { IsAllowed (NewMoment to) self.old.machine }
+        ensures { self.new.machine ≡ applied (NewMoment to) self.old.machine }
+    {
+        self.moment = to;
+    }
+
+    // Puts a new issue at the end.
+    #[tactic(auto, unfolding(tracker_machine::specs::Effect::applied, tracker_machine::specs::Effect::IsAllowed))]
+    fn push(&mut self, new: IssuePlan)
+        requires fits { IssueFits self.old new }
+        requires allowed { IsAllowed (NewIssue new.issue.history) self.old.machine }
+        ensures { self.new.machine ≡ applied (NewIssue new.issue.history) self.old.machine }
     {
         self.change += 1;
-        self.issues.add(place, group, bytes);
+        self.counts = new.counts;
+        self.issues.push(new.key, new.issue, new.bytes);
+    }
+
+    // Adds a group to the issue at its place.
+    #[tactic(auto, unfolding(tracker_machine::specs::Effect::applied, tracker_machine::specs::Effect::IsAllowed))]
+    fn add(&mut self, new: GroupPlan)
+        requires fits { GroupFits self.old new }
+        requires allowed { IsAllowed (NewGroup new.place new.group) self.old.machine }
+        ensures { self.new.machine ≡ applied (NewGroup new.place new.group) self.old.machine }
+    {
+        self.change += 1;
+        self.issues.add(new.place, new.group, new.bytes);
     }
 }
 

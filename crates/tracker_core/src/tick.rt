@@ -1,19 +1,33 @@
 // The call `tick`.
-ghost use Rattle.tracker_machine.specs.Step.{Performs};
-ghost use Rattle.tracker_machine.specs.Tick.{tick_refusal, tick_answer, ticked};
+ghost use Rattle.tracker_machine.specs.Tick.{tick_meaning};
+ghost use Rattle.tracker_core.specs.Plan.{IsPrepared};
 
+use crate::plan::{Plan, Prepared};
+use crate::rows::moment_ops;
 use crate::state::State;
 use fields::Moment;
-use tracker_calls::{Answer, Refusal, Reply};
+use std::alloc::Global;
+use tracker_calls::{Answer, Refusal};
 
-/// Moves the present moment on, or refuses one that is earlier.
-pub fn tick(state: &mut State, to: Moment) -> Reply
-    ensures { Performs (tick_refusal state.old.machine to) (tick_answer to) (ticked state.old.machine to) state.old.machine result state.new.machine }
+/// Prepares that the present moment moves on, or refuses one that is earlier.
+#[tactic(auto, unfolding(tracker_machine::specs::Effect::IsAllowed), using(crate::proofs::Ops::moment_ops_are))]
+pub fn tick(alloc: Global, state: &State, to: Moment) -> Result<Prepared, Refusal>
+    ensures { IsPrepared (tick_meaning state.now.machine to) state.now result }
 {
     let kept = state.moment();
     if to < kept {
-        return Reply::Refused(Refusal::Earlier { kept });
+        return Err(Refusal::Earlier { kept });
     }
-    state.set_moment(to);
-    Reply::Ok(Answer::Tick { moment: to })
+    let answer = Answer::Tick { moment: to };
+    if to == kept {
+        return Ok(Prepared::Tell(answer));
+    }
+    let Ok(rows) = moment_ops(alloc, state.change(), to) else {
+        return Err(Refusal::Memory);
+    };
+    Ok(Prepared::Make {
+        plan: Plan::Moment(to),
+        answer,
+        rows,
+    })
 }

@@ -4,7 +4,7 @@ ghost use Rattle.civil_dates.specs.Days.{is_day};
 ghost use Rattle.civil_dates.specs.DateText.{date_text};
 ghost use Rattle.fields.specs.SetupParts.{parts, names_in};
 ghost use Rattle.tracker_machine.specs.Show.{shown_value};
-ghost use Rattle.tracker_core.specs.State.{Holds};
+ghost use Rattle.tracker_machine.specs.Tracker.{Holds};
 
 use field_forms::value_text::chosen_names;
 use fields::{Day, FieldNo, Memory, Setup, Text, Value, name_at};

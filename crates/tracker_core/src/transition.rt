@@ -5,30 +5,29 @@ ghost use Rattle.fields.specs.SetupParts.{names_in, parts};
 ghost use Rattle.workflow.specs.Plan.{planned};
 ghost use Rattle.workflow.specs.Difference.{AreNews};
 ghost use Rattle.field_values.specs.declared.numbers.TheConstants.FieldNo.{REPORTER as reporter};
-ghost use Rattle.workflow.specs.Laws.{AllFit, IsSound};
-ghost use Rattle.tracker_machine.specs.Step.{Performs};
+ghost use Rattle.workflow.specs.Laws.{AllFit, IsSoundTransition};
 ghost use Rattle.tracker_machine.specs.Checks.{entries_kept, bytes_kept};
-ghost use Rattle.tracker_machine.specs.Group.{group_number, with_group};
 ghost use Rattle.tracker_machine.specs.Known.{place_of_issue};
-ghost use Rattle.tracker_machine.specs.Transition.{transition_named, transition_refusal, transition_answer, transitioned, condition_refusal, validator_refusal, plan_refusal, transition_news};
+ghost use Rattle.tracker_machine.specs.Transition.{transition_named, transition_refusal, transition_meaning, condition_refusal, validator_refusal, plan_refusal, transition_news};
 ghost use Rattle.tracker_core.specs.Check.{Checks};
-ghost use Rattle.tracker_core.specs.State.{Holds};
-ghost use Rattle.tracker_core.specs.Made.{IsMade};
+ghost use Rattle.tracker_machine.specs.Tracker.{Holds};
+ghost use Rattle.tracker_core.specs.Plan.{IsPrepared};
 
 use crate::check::{
     check_access, check_bytes, check_entries, check_set, known_issue, known_transition,
     known_values,
 };
-use crate::group::put_group;
+use crate::group::{GroupCall, grouped};
+use crate::plan::Prepared;
 use crate::state::State;
 use crate::wants::Wants;
 use change_history::{Change, Changes, Issue};
-use fields::{Memory, Permission, Setup, Text, Transition, UserNo};
+use fields::{Memory, Permission, Setup, Transition, UserNo};
 use std::alloc::Global;
-use tracker_calls::{Answer, GivenField, Refusal, Reply};
+use tracker_calls::{GivenField, Refusal};
 use workflow::{failing_condition, failing_validator, planned};
 
-/// Makes the transition of that name, or says why not.
+/// Prepares the transition of that name, or says why not.
 pub fn transition(
     alloc: Global,
     state: &mut State,
@@ -36,16 +35,22 @@ pub fn transition(
     issue: &str,
     transition: &str,
     set: &[GivenField],
-) -> Reply
+) -> Result<Prepared, Refusal>
     requires { caller.0 < length state.old.machine.setup.users }
-    ensures { Performs (transition_refusal state.old.machine caller.0 issue.now transition.now set.now)
-        (transition_answer state.old.machine caller.0 issue.now transition.now set.now)
-        (transitioned state.old.machine caller.0 issue.now transition.now set.now)
-        state.old.machine result state.new.machine }
+    ensures same { state.new.machine ≡ state.old.machine }
+    ensures prepared { IsPrepared (transition_meaning state.old.machine caller.0 issue.now transition.now set.now) state.new result }
 {
     match check_transition(alloc, state, caller, issue, transition, set) {
-        Ok((place, net)) => change(alloc, state, caller, place, issue, &net),
-        Err(refusal) => Reply::Refused(refusal),
+        Ok((place, net)) => grouped(
+            alloc,
+            state,
+            caller,
+            GroupCall::Transition,
+            place,
+            issue,
+            &net,
+        ),
+        Err(refusal) => Err(refusal),
     }
 }
 
@@ -114,7 +119,7 @@ fn plan_of(
     transition: &Transition,
     set: &[GivenField],
 ) -> Result<Changes, Refusal>
-    requires sound { IsSound state.now.machine.setup transition.now }
+    requires sound { IsSoundTransition state.now.machine.setup transition.now }
     requires user { caller.0 < length state.now.machine.setup.users }
     requires reporter { Holds (names_in state.now.machine.setup) reporter (present issue.now.history reporter) }
     ensures check { Checks (plan_refusal state.now.machine caller.0 set.now (Some issue.now.history) (Some transition.now)) result }
@@ -184,7 +189,7 @@ fn news_of(
     transition: &Transition,
     inputs: &[Change],
 ) -> Result<Changes, Memory>
-    requires sound { IsSound (parts setup.now) transition.now }
+    requires sound { IsSoundTransition (parts setup.now) transition.now }
     requires user { caller.0 < length setup.now.users }
     requires reporter { Holds (names_in (parts setup.now)) reporter (present issue.now.history reporter) }
     requires inputs { AllFit (names_in (parts setup.now)) inputs.now }
@@ -193,36 +198,4 @@ fn news_of(
     ensures fitting { IfOk result (AllFit (names_in (parts setup.now))) }
 {
     planned(alloc, setup, issue, caller, transition, inputs)
-}
-
-// Makes these changes of the issue at a place, as far as they are any.
-fn change(
-    alloc: Global,
-    state: &mut State,
-    caller: UserNo,
-    place: usize,
-    name: &str,
-    net: &Changes,
-) -> Reply
-    requires there { place < length state.old.machine.histories }
-    requires user { caller.0 < length state.old.machine.setup.users }
-    requires few { entries_kept state.old.machine.histories ≤ 1_999_957 }
-    requires light { bytes_kept state.old.machine.histories ≤ 499_800_000 }
-    requires news { IfSome (slice_get state.old.machine.histories place) (λ h. AreNews (present h) 0 net.now) }
-    requires fitting { AllFit (names_in state.old.machine.setup) net.now }
-    ensures { IfSome (slice_get state.old.machine.histories place) (λ h.
-        IsMade (Answer.Transition (group_number state.old.machine net.now) name.now)
-        (with_group state.old.machine caller.0 place h net.now)
-        state.old.machine result state.new.machine) }
-{
-    let Ok(told) = Text::copy_of(alloc, name) else {
-        return Reply::Refused(Refusal::Memory);
-    };
-    match put_group(alloc, state, caller, place, net) {
-        Ok(change) => Reply::Ok(Answer::Transition {
-            change,
-            issue: told,
-        }),
-        Err(_) => Reply::Refused(Refusal::Memory),
-    }
 }

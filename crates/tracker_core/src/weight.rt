@@ -1,9 +1,11 @@
 // The text bytes that the limit counts.
-ghost use Rattle.std.specs.Prelude.{◌≡◌, ◌≤◌, ◌+◌, ◌*◌, sum_by, length, IfSome};
+ghost use Rattle.std.specs.Prelude.{◌≡◌, ◌≤◌, ◌+◌, ◌*◌, sum_by, length, true, IfSome};
 ghost use Rattle.tracker_machine.specs.Checks.{text_bytes, entry_bytes};
+ghost use Rattle.tracker_machine.specs.Tracker.{AreSmall, AllSmall};
+ghost use Rattle.tracker_keeper.specs.Forms.{is_small};
 
 use change_history::{Change, Entry};
-use fields::{Text, Value};
+use fields::{SprintNo, Text, Value};
 
 /// What one call adds at most. A value that fits has at most 31,000, and all 43 of an issue's fields together at most 77,080.
 pub const MOST_BYTES: u64 = 200_000;
@@ -41,8 +43,16 @@ fn version_bytes(count: usize) -> Option<u64>
     62u64.checked_mul(count as u64)
 }
 
+// A sprint's number is in its range.
+fn sprint_is_small(sprint: SprintNo)
+    ensures { is_small (Value.Sprint sprint) ≡ true }
+{
+    let _ = sprint.0;
+}
+
 fn text_bytes(value: &Value) -> Option<u64>
-    ensures { IfSome result (λ n. n ≡ text_bytes value.now) }
+    ensures bytes { IfSome result (λ n. n ≡ text_bytes value.now) }
+    ensures small { is_small value.now ≡ true }
 {
     match value {
         Value::Text(text) => Some(length_of(text)),
@@ -53,12 +63,16 @@ fn text_bytes(value: &Value) -> Option<u64>
         Value::Choice(_) => Some(0),
         Value::User(_) => Some(0),
         Value::Date(_) => Some(0),
-        Value::Sprint(_) => Some(0),
+        Value::Sprint(sprint) => {
+            sprint_is_small(*sprint);
+            Some(0)
+        }
     }
 }
 
 fn entry_bytes(entry: &Entry) -> Option<u64>
-    ensures { IfSome result (λ n. n ≡ entry_bytes entry.now) }
+    ensures bytes { IfSome result (λ n. n ≡ entry_bytes entry.now) }
+    ensures small { IfSome result (λ n. is_small entry.now.to ≡ true) }
 {
     let from = text_bytes(&entry.from)?;
     let to = text_bytes(&entry.to)?;
@@ -69,6 +83,7 @@ fn entry_bytes(entry: &Entry) -> Option<u64>
 pub fn bytes_of_changes(changes: &[Change]) -> Option<u64>
     ensures sum { IfSome result (λ n. n ≡ sum_by (λ c. text_bytes c.to) changes.now) }
     ensures few { IfSome result (λ n. n ≤ 200_000) }
+    ensures small { IfSome result (λ n. AreSmall changes.now) }
 {
     let mut total = 0;
     for change in changes {
@@ -81,6 +96,7 @@ pub fn bytes_of_changes(changes: &[Change]) -> Option<u64>
 pub fn bytes_of_entries(entries: &[Entry]) -> Option<u64>
     ensures sum { IfSome result (λ n. n ≡ sum_by entry_bytes entries.now) }
     ensures few { IfSome result (λ n. n ≤ 200_000) }
+    ensures small { IfSome result (λ n. AllSmall entries.now) }
 {
     let mut total = 0;
     for entry in entries {

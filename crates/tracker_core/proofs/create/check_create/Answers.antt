@@ -1,10 +1,14 @@
-use Rattle.std.proofs.Common.{◌≡◌, sym, subst}
+use Rattle.std.proofs.Common.{◌≡◌, true, sym, subst}
+use Rattle.workflow.specs.Laws.{AllFit}
+use Rattle.tracker_keeper.specs.Forms.{are_opening}
+use Rattle.tracker_machine.proofs.Opening.{created_listed}
 use Rattle.fields.specs.SetupParts.{names_in}
 use Rattle.change_history.specs.History.{opening_value}
 use Rattle.tracker_machine.specs.Wanted.{changes_of}
 use Rattle.tracker_machine.specs.Create.{create_wants, filled}
-use Rattle.tracker_core.specs.State.{AreNamed}
+use Rattle.tracker_machine.specs.Tracker.{AreNamed, AreSmall}
 use Rattle.tracker_core.proofs.Named.{created_named}
+use Rattle.tracker_core.proofs.Ops.{unfilled_small}
 use Rattle.tracker_core.proofs.create.check_create.Goals as goal
 
 pub returns-clause-named : goal.returns-clause-named
@@ -14,3 +18,11 @@ returns-clause-named c =
     let same : c.in_ok-changes.changes ≡ changes_of (names_in setup) wants = c.in_ok-changes.ensures.changes in
     subst (λ cs. AreNamed (opening_value (filled cs))) (sym same)
     (created_named c.args.state.now.machine c.args.caller.0 c.args.issue_type.now c.args.summary.now c.args.set.now c.in_ok-changes.ensures.check)
+
+pub returns-clause-listed : goal.returns-clause-listed
+returns-clause-listed c = λ small.
+    let names = names_in c.args.state.now.machine.setup in
+    let wants = create_wants c.args.state.now.machine.setup c.args.caller.0 c.args.issue_type.now c.args.summary.now c.args.set.now in
+    let same : c.in_ok-changes.changes ≡ changes_of names wants = c.in_ok-changes.ensures.changes in
+    subst (λ cs. are_opening names (filled cs) ≡ true) (sym same)
+    (created_listed names wants (subst (λ cs. AllFit names cs) same c.in_ok-changes.ensures.fitting) (subst (λ cs. AreSmall cs) same (unfilled_small c.in_ok-changes.changes small)))

@@ -1,22 +1,29 @@
-use Rattle.std.proofs.Common.{◌≤◌, ◌+◌, not, sym, subst, refl, arith}
+use Rattle.std.proofs.Common.{◌≡◌, ◌≤◌, ◌+◌, ◌∙◌, not, [], ◌∷◌, ap, ap₂, sym, subst, refl, arith}
 use Rattle.change_history.specs.History.{History}
 use Rattle.workflow.specs.Same.{is_empty}
 use Rattle.fields.specs.SetupParts.{names_in}
-use Rattle.tracker_machine.specs.Machine.{Machine}
 use Rattle.fields.specs.Naming.{name_at}
+use Rattle.tracker_machine.specs.Machine.{Machine}
 use Rattle.tracker_machine.specs.Known.{project_keys}
 use Rattle.tracker_machine.specs.Checks.{bytes_kept, history_bytes}
 use Rattle.tracker_machine.specs.Create.{opened, filled}
-use Rattle.tracker_core.specs.State.{MayOpen}
+use Rattle.tracker_machine.specs.Tracker.{MayOpen}
+use Rattle.tracker_keeper.specs.declared.row.RowOp.TheVariants.{Put}
+use Rattle.tracker_core.specs.Plan.{present_op}
+use Rattle.tracker_core.specs.State.{counts_of, with_key}
 use Rattle.tracker_core.proofs.Fitting.{fits_filter}
+use Rattle.tracker_core.proofs.Means.{issue_ready}
 use Rattle.tracker_core.proofs.create.open.Goals as goal
 
-pub push-requires-clause-may : goal.push-requires-clause-may
-push-requires-clause-may c =
+pub returns-clause-prepared : goal.returns-clause-prepared
+returns-clause-prepared c =
     let m = c.args.state.now.machine in
     let new = c.in-Ok.new in
+    let s = c.reserve_issue.new.self in
+    let project = name_at (project_keys m.setup) c.args.project.0 in
     let changes = c.args.changes.now in
-    let h : History = opened m c.args.caller.0 (name_at (project_keys m.setup) c.args.project.0) (filled changes) in
+    let h : History = opened m c.args.caller.0 project (filled changes) in
+    let same : s.machine ≡ m = c.reserve_issue.ensures.machine in
     let light : bytes_kept m.histories + history_bytes new.issue.history ≤ 500_000_000 = omega (arith, c.in-Ok.ensures.light, c.in-Ok.ensures.bytes, c.requires.light) in
     let may : MayOpen m h = record {
       few = c.requires.few;
@@ -26,8 +33,21 @@ push-requires-clause-may c =
       at = refl;
       author = c.requires.author;
       opened = c.requires.named;
+      listed = c.in-Ok.ensures.listed;
       fitting = fits_filter (names_in m.setup) (λ d. not (is_empty d.to)) changes c.requires.fitting;
       entries = refl;
       light = subst (λ (i : History). bytes_kept m.histories + history_bytes i ≤ 500_000_000) c.in-Ok.ensures.history light;
     } in
-    subst (λ (n : Machine). MayOpen n new.issue.history) (sym c.reserve_issue.ensures.machine) (subst (λ (i : History). MayOpen m i) (sym c.in-Ok.ensures.history) may)
+    let key = ap (λ (i : History). i.key) c.in-Ok.ensures.history in
+    issue_ready m c.args.caller.0 project changes s new _ _ c.in-Ok-row_ops.rows.items same may c.in-Ok.ensures.history
+    (c.next_change-2.ensures ∙ ap (λ (n : Machine). n.change + 1) same)
+    (c.in-Ok-copy_of.ensures ∙ c.as_str.ensures.value ∙ c.in-Ok.ensures.key)
+    (record {
+      room = c.in-Ok-reserve_issue.ensures.room;
+      key = c.in-Ok.ensures.key ∙ sym key;
+      counts = subst (λ (n : Machine). new.counts.items ≡ with_key (counts_of n.setup.project n.histories) n.setup.project new.issue.history.key) (sym same)
+          (subst (λ k. new.counts.items ≡ with_key (counts_of m.setup.project m.histories) m.setup.project k) (sym key) c.in-Ok.ensures.counts);
+      bytes = c.in-Ok.ensures.bytes;
+    })
+    (subst (λ r. c.in-Ok-row_ops.rows.items ≡ present_op (m.change + 1) m.moment ∷ Put r ∷ []) c.in-Ok.ensures.row
+    (c.in-Ok-row_ops.ensures ∙ ap₂ (λ change moment. present_op change moment ∷ Put c.in-Ok.row ∷ []) c.next_change.ensures c.moment.ensures))

@@ -6,7 +6,7 @@ use Rattle.change_history.specs.History.{present, MayAdd}
 use Rattle.workflow.specs.Difference.{entry_of}
 use Rattle.workflow.specs.Net.{with_changes}
 use Rattle.workflow.proofs.Differing.{may_be_added}
-use Rattle.tracker_core.specs.State.{AllEntriesFit}
+use Rattle.tracker_machine.specs.Tracker.{AllEntriesFit}
 use Rattle.tracker_core.proofs.Counting.{few_changes}
 use Rattle.tracker_core.proofs.Fitting.{entries_fit, some_changes}
 use Rattle.tracker_core.proofs.group.net_entries.Goals as goal

@@ -1,7 +1,7 @@
 use Rattle.std.proofs.Common.{◌≡◌, map, take, drop}
 use Rattle.fields.specs.SetupParts.{parts, names_in}
 use Rattle.tracker_machine.specs.Entries.{told_entry}
-use Rattle.tracker_core.specs.State.{AllEntriesHold}
+use Rattle.tracker_machine.specs.Tracker.{AllEntriesHold}
 use Rattle.tracker_core.proofs.history.told_entries.Given as goal
 
 abbrev pub invariant-loop-entry : goal.invariant-loop-entry

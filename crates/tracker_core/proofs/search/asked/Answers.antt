@@ -16,16 +16,16 @@ use Rattle.tracker_core.proofs.search.asked.Goals as goal
 pub returns-in-Ok-clause-query : goal.returns-in-Ok-clause-query
 returns-in-Ok-clause-query c =
     let is = asked_query (parts c.args.setup.now) c.args.caller.0 c.args.jql.now (option_map tree c.in-Ok.query.0) c.in-Ok.query.1 c.in-Ok.ensures.found in
-    subst (λ (due : Result Query Refusal). IfOk c.tied.result (λ bound. due ≡ Ok (query_of bound))) (sym is) c.tied.ensures.query
+    subst (λ (due : Result Query Refusal). IfOk c.bound.result (λ bound. due ≡ Ok (query_of bound))) (sym is) c.bound.ensures.query
 
 pub returns-in-Ok-clause-fault : goal.returns-in-Ok-clause-fault
 returns-in-Ok-clause-fault c =
     let is = asked_query (parts c.args.setup.now) c.args.caller.0 c.args.jql.now (option_map tree c.in-Ok.query.0) c.in-Ok.query.1 c.in-Ok.ensures.found in
-    subst (λ (due : Result Query Refusal). IfErr c.tied.result (Faults due)) (sym is) c.tied.ensures.fault
+    subst (λ (due : Result Query Refusal). IfErr c.bound.result (Faults due)) (sym is) c.bound.ensures.fault
 
 explained : (setup : Parts) (user : ℕ) (text : List ℕ) (f : JqlFault) → Explains text f → Faults (asked setup user text) (text_refusal f)
-explained setup user text (fault.Bad place n) e unless = asked_fault setup user text place e.0 e.2 ∙ ap (λ v. Err (refusal.Query v place)) (sym e.1)
-explained setup user text fault.Memory e unless = absurd (unless refl)
+explained setup user text (fault.Bad place n) e = (λ same. cc, λ other. asked_fault setup user text place e.0 e.2 ∙ ap (λ v. Err (refusal.Query v place)) (sym e.1))
+explained setup user text fault.Memory e = (λ same. cc, λ other. absurd (other refl))
 
 pub returns-in-Err-clause-fault : goal.returns-in-Err-clause-fault
 returns-in-Err-clause-fault c =

@@ -5,7 +5,8 @@ use Rattle.fields.specs.Naming.{name_at}
 use Rattle.tracker_machine.specs.Known.{project_keys, issues_of}
 use Rattle.tracker_core.specs.State.{Held, counts_of}
 use Rattle.tracker_core.specs.contracts.state.State.{the_view}
-use Rattle.tracker_core.proofs.Sound.{few_counted, count_here, number_is, from_found}
+use Rattle.tracker_core.proofs.Sound.{few_counted, count_here, number_is}
+use Rattle.tracker_machine.proofs.Settled.{from_found}
 use Rattle.tracker_core.proofs.state.State.count_in.Goals as goal
 
 pub count_at-requires : goal.count_at-requires

@@ -1,13 +1,15 @@
 use Rattle.std.proofs.Common.{◌≡◌, Some, None, Option, IfSome, subst, sym, ◌∙◌, Bor, refl}
 use Rattle.std.specs.Option.{option_copied}
-use Rattle.change_history.specs.History.{Kept}
+use Rattle.change_history.specs.History.{RoomyHistory}
 use Rattle.fields.specs.SetupParts.{names_in}
-use Rattle.tracker_core.specs.State.{Held, IsSettled}
+use Rattle.tracker_core.specs.State.{Held}
+use Rattle.tracker_machine.specs.Tracker.{IsSettled}
 use Rattle.tracker_core.specs.contracts.state.State.{the_view}
-use Rattle.tracker_core.proofs.Sound.{settled_at, history_at}
+use Rattle.tracker_machine.proofs.Settled.{settled_at}
+use Rattle.tracker_core.proofs.Sound.{history_at}
 use Rattle.tracker_core.proofs.state.State.issue_at.Goals as goal
 
-each_found : (o : Option (Bor Kept)) (P : Kept → Type 0) → ((i : Kept) → option_copied o ≡ Some i → P i) → IfSome o (λ i. P i.now)
+each_found : (o : Option (Bor RoomyHistory)) (P : RoomyHistory → Type 0) → ((i : RoomyHistory) → option_copied o ≡ Some i → P i) → IfSome o (λ i. P i.now)
 each_found None P f = tt
 each_found (Some i) P f = f i.now refl
 

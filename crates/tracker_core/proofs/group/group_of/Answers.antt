@@ -2,7 +2,7 @@ use Rattle.std.proofs.Common.{◌≤◌, length, subst, sym}
 use Rattle.field_values.specs.Parts.{Parts}
 use Rattle.fields.specs.SetupParts.{names_in}
 use Rattle.workflow.specs.Laws.{AllFit}
-use Rattle.tracker_core.proofs.group.prepare.Goals as goal
+use Rattle.tracker_core.proofs.group.group_of.Goals as goal
 
 pub returns-clause-few : goal.returns-clause-few
 returns-clause-few c =
