@@ -1,7 +1,9 @@
+use field_values::Text;
 use std::alloc::{AllocError, Global};
 use std::test::Fail;
 use tracker_calls::{MemorySink, MemorySource};
 use tracker_cli::run;
+use tracker_keeper::{Keeper, MemoryKeeper, Row, RowOp};
 
 const TICKS: &[u8] =
     b"{\"user\":\"anna\",\"call\":\"tick\",\"to\":5}\n \t\n{\"user\":\"bo\",\"call\":\"tick\",\"to\":4}\n{}\n{\"user\":\"zed\",\"call\":\"tick\",\"to\":9}";
@@ -18,6 +20,26 @@ fn words(alloc: Global, word: &str) -> Result<Vec<String>, AllocError> {
     Ok(words)
 }
 
+fn text(alloc: Global, text: &str) -> Result<Text, AllocError> {
+    match Text::copy_of(alloc, text) {
+        Ok(text) => Ok(text),
+        Err(_) => Err(AllocError),
+    }
+}
+
+// A keeper in memory that has no row and never fails.
+fn keeper(alloc: Global) -> Result<MemoryKeeper, AllocError> {
+    failing_keeper(alloc, Vec::new(alloc))
+}
+
+// One that fails at these calls, counted from 1.
+fn failing_keeper(alloc: Global, failing: Vec<u64>) -> Result<MemoryKeeper, AllocError> {
+    match MemoryKeeper::new(alloc, &[], failing) {
+        Ok(keeper) => Ok(keeper),
+        Err(_) => Err(AllocError),
+    }
+}
+
 // The status and the output of a run over the ticks, read in pieces of that length.
 fn played(
     alloc: Global,
@@ -32,7 +54,13 @@ fn played(
     }
     let mut source = MemorySource::new(TICKS.to_vec(alloc)?, pieces, bad_reads);
     let mut sink = MemorySink::new(alloc, room, bad_writes)?;
-    let status = run(alloc, &words(alloc, "exec")?, &mut source, &mut sink);
+    let (status, _) = run(
+        alloc,
+        &words(alloc, "exec")?,
+        &mut source,
+        &mut sink,
+        keeper(alloc)?,
+    );
     Ok((status, sink.taken().to_vec(alloc)?))
 }
 
@@ -86,7 +114,13 @@ fn words_that_are_no_command_are_a_usage_error(rt: HostRuntime) -> Result<(), Fa
     for word in ["", "Exec", "exec ", "Check", "help", "-h"] {
         let mut source = MemorySource::new(Vec::new(alloc), Vec::new(alloc), Vec::new(alloc));
         let mut sink = MemorySink::new(alloc, 100, Vec::new(alloc))?;
-        let status = run(alloc, &words(alloc, word)?, &mut source, &mut sink);
+        let (status, _) = run(
+            alloc,
+            &words(alloc, word)?,
+            &mut source,
+            &mut sink,
+            keeper(alloc)?,
+        );
         assert_eq!(rt; status, 1);
         assert_eq!(rt; sink.taken(), b"usage: exec, check\n".as_slice());
     }
@@ -101,7 +135,13 @@ fn long_line(alloc: Global, len: usize) -> Result<(u8, Vec<u8>), AllocError> {
     }
     let mut source = MemorySource::new(bytes, Vec::new(alloc), Vec::new(alloc));
     let mut sink = MemorySink::new(alloc, 100, Vec::new(alloc))?;
-    let status = run(alloc, &words(alloc, "exec")?, &mut source, &mut sink);
+    let (status, _) = run(
+        alloc,
+        &words(alloc, "exec")?,
+        &mut source,
+        &mut sink,
+        keeper(alloc)?,
+    );
     Ok((status, sink.taken().to_vec(alloc)?))
 }
 
@@ -131,7 +171,13 @@ fn many_lines(alloc: Global, count: usize) -> Result<(u8, Vec<u8>), AllocError> 
     }
     let mut source = MemorySource::new(bytes, Vec::new(alloc), Vec::new(alloc));
     let mut sink = MemorySink::new(alloc, 100, Vec::new(alloc))?;
-    let status = run(alloc, &words(alloc, "exec")?, &mut source, &mut sink);
+    let (status, _) = run(
+        alloc,
+        &words(alloc, "exec")?,
+        &mut source,
+        &mut sink,
+        keeper(alloc)?,
+    );
     Ok((status, sink.taken().to_vec(alloc)?))
 }
 
@@ -160,7 +206,13 @@ fn checked(
     }
     let mut source = MemorySource::new(bytes.to_vec(alloc)?, pieces, bad_reads);
     let mut sink = MemorySink::new(alloc, 1_000, Vec::new(alloc))?;
-    let status = run(alloc, &words(alloc, "check")?, &mut source, &mut sink);
+    let (status, _) = run(
+        alloc,
+        &words(alloc, "check")?,
+        &mut source,
+        &mut sink,
+        keeper(alloc)?,
+    );
     Ok((status, sink.taken().to_vec(alloc)?))
 }
 
@@ -190,5 +242,83 @@ fn each_line_is_checked(rt: HostRuntime) -> Result<(), Fail> {
         out.as_slice(),
         b"ok a = \"b\"\nok\nfault 4 1\nfault 8 3\nlimit line\n".as_slice()
     );
+    Ok(())
+}
+
+const CREATE: &[u8] =
+    b"{\"user\":\"anna\",\"call\":\"create\",\"project\":\"OPS\",\"type\":\"Task\",\"summary\":\"Fix login\"}\n";
+
+// The status and the output of a run over three creates, and the kinds of the rows that are kept then.
+fn three_creates(
+    alloc: Global,
+    keeper: MemoryKeeper,
+) -> Result<(u8, Vec<u8>, Vec<u8>), AllocError> {
+    let mut bytes = Vec::new(alloc);
+    for _ in 0..3 {
+        bytes.extend_from_slice(CREATE)?;
+    }
+    let mut source = MemorySource::new(bytes, Vec::new(alloc), Vec::new(alloc));
+    let mut sink = MemorySink::new(alloc, 1_000, Vec::new(alloc))?;
+    let (status, mut keeper) = run(
+        alloc,
+        &words(alloc, "exec")?,
+        &mut source,
+        &mut sink,
+        keeper,
+    );
+    let mut kinds = Vec::new(alloc);
+    if let Ok(rows) = keeper.rows() {
+        for row in &rows {
+            kinds.push(row.kind)?;
+        }
+    }
+    Ok((status, sink.taken().to_vec(alloc)?, kinds))
+}
+
+#[test]
+fn a_keeper_that_fails_once_refuses_one_call(rt: HostRuntime) -> Result<(), Fail> {
+    let alloc = rt.alloc();
+    // Its calls: to ask for rows, to keep the opening rows, and one a create.
+    let (status, out, kinds) = three_creates(alloc, failing_keeper(alloc, [4].to_vec(alloc)?)?)?;
+    assert_eq!(rt; status, 0);
+    assert_eq!(rt;
+        out.as_slice(),
+        b"{\"ok\":{\"already\":false,\"change\":1,\"issue\":\"OPS-1\"}}\n{\"refused\":{\"no\":14}}\n{\"ok\":{\"already\":false,\"change\":2,\"issue\":\"OPS-2\"}}\n".as_slice()
+    );
+    assert_eq!(rt; kinds.as_slice(), b"\x01\x02\x03\x03".as_slice());
+    Ok(())
+}
+
+#[test]
+fn a_keeper_that_fails_at_first_leaves_nothing(rt: HostRuntime) -> Result<(), Fail> {
+    let alloc = rt.alloc();
+    for call in [1, 2] {
+        let (status, out, kinds) = three_creates(
+            alloc,
+            failing_keeper(alloc, [call].to_vec(alloc)?)?,
+        )?;
+        assert_eq!(rt; status, 4);
+        assert!(rt; out.is_empty());
+        assert!(rt; kinds.is_empty());
+    }
+    Ok(())
+}
+
+#[test]
+fn rows_that_are_there_are_left(rt: HostRuntime) -> Result<(), Fail> {
+    let alloc = rt.alloc();
+    let mut keeper = keeper(alloc)?;
+    let mut ops = Vec::new(alloc);
+    let body = text(alloc, "OPS-1")?;
+    ops.push(RowOp::Put(Row {
+        kind: 6,
+        no: 1,
+        body,
+    }))?;
+    let _ = keeper.commit(&ops);
+    let (status, out, kinds) = three_creates(alloc, keeper)?;
+    assert_eq!(rt; status, 9);
+    assert_eq!(rt; out.as_slice(), b"held\n".as_slice());
+    assert_eq!(rt; kinds.as_slice(), b"\x06".as_slice());
     Ok(())
 }

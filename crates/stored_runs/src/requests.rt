@@ -5,11 +5,12 @@ use std::str;
 use std::sync::ledger::Ledger;
 use tracker_calls::{Call, Reply, UserName, read_line, reply_text};
 use tracker_core::Desk;
+use tracker_keeper::NeverFails;
 
 /// The desk's reply to a request line.
 pub fn reply_to_line<L: Ledger>(
     alloc: Global,
-    desk: &mut Desk,
+    desk: &mut Desk<NeverFails>,
     line: &[u8],
     steps: &mut Steps<L>,
 ) -> Option<String> {
@@ -34,7 +35,7 @@ struct Request {
 /// The text of the last reply to a line's requests, made so many times.
 pub fn last_reply<L: Ledger>(
     alloc: Global,
-    desk: &mut Desk,
+    desk: &mut Desk<NeverFails>,
     line: &[u8],
     steps: &mut Steps<L>,
 ) -> Option<String> {

@@ -10,6 +10,7 @@ use std::alloc::Global;
 use std::sync::ledger::Ledger;
 use std::{fs, str};
 use tracker_core::Desk;
+use tracker_keeper::NeverFails;
 
 /// What the lines of a section are asked of.
 #[derive(Drop)]
@@ -17,8 +18,8 @@ pub enum Section {
     /// Before the first section.
     Before,
     Check,
-    Lines(Box<Desk>),
-    Times(Box<Desk>),
+    Lines(Box<Desk<NeverFails>>),
+    Times(Box<Desk<NeverFails>>),
     Rows(Box<Setting>),
     Lists(Box<Setting>),
     Setup,
@@ -76,8 +77,10 @@ impl Section {
     }
 }
 
-fn desk_by(rt: &HostRuntime, alloc: Global, file: &str) -> Option<Box<Desk>> {
-    let desk = Desk::fresh(alloc, Box::into_inner(setup_in(rt, alloc, file)?)).ok()?;
+fn desk_by(rt: &HostRuntime, alloc: Global, file: &str) -> Option<Box<Desk<NeverFails>>> {
+    let setup = setup_in(rt, alloc, file)?;
+    let keeper = NeverFails::new(alloc, &[]).ok()?;
+    let desk = Desk::create(alloc, keeper, Box::into_inner(setup)).ok()?;
     Box::new(alloc, desk).ok()
 }
 

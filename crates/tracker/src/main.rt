@@ -5,6 +5,7 @@
 use std::process::ExitCode;
 use std::{env, io};
 use tracker_cli::{Reading, Writing, run};
+use tracker_keeper::MemoryKeeper;
 
 /// The store could not be opened.
 const NO_STORE: u8 = 4;
@@ -30,9 +31,13 @@ fn main(rt: HostRuntime) -> ExitCode {
             return no_store(&rt);
         }
     }
+    let Ok(keeper) = MemoryKeeper::new(alloc, &[], Vec::new(alloc)) else {
+        return ExitCode::from(NO_MEMORY);
+    };
     let mut input = Reading::new(rt.reader());
     let mut out = Writing::new(io::writer(&rt));
-    ExitCode::from(run(alloc, &words, &mut input, &mut out))
+    let (status, _keeper) = run(alloc, &words, &mut input, &mut out, keeper);
+    ExitCode::from(status)
 }
 
 // Only a store in memory can be opened today.

@@ -1,5 +1,5 @@
 -- From how the loop over lines ends to what the top call says.
-use Rattle.std.proofs.Common.{◌≡◌, ℕ, List, [], ◌∷◌, ◌++◌, refl, Option, Some, None, IfSome, inl, inr}
+use Rattle.std.proofs.Common.{◌≡◌, ℕ, List, [], ◌∷◌, ◌++◌, refl, ap, sym, subst, Option, Some, None, IfSome, inl, inr}
 use Rattle.std.specs.Prelude.{◌⊎◌}
 use Rattle.std.specs.Io.KnownBytes.{Appends}
 use Rattle.std.proofs.lemmas.Option.{IfSome_then}
@@ -13,7 +13,11 @@ use Rattle.jql_check.specs.Check.{IsReply}
 use Rattle.tracker_machine.specs.Machine.{Machine}
 use Rattle.tracker_machine.specs.Run.{AnswersLine}
 use Rattle.tracker_machine.proofs.Runs.{run_of_lines, front_of_reply}
-use Rattle.tracker_cli.specs.Outcome.{IsExec, IsCheck, IsStart, AreReplies, AreCutReplies, AreChecked, AreCutChecks, IsFrontOfCheck, AreRepliesOf, AreCutRepliesOf, GrewBy, IsLimitText, IsCutLimitText, EndsRun, limit_line, limit_lines}
+use Rattle.tracker_cli.specs.Outcome.{HasRowsOf, IsExec, IsCheck, IsStart, AreReplies, AreCutReplies, AreChecked, AreCutChecks, IsFrontOfCheck, AreRepliesOf, AreCutRepliesOf, GrewBy, IsLimitText, IsCutLimitText, EndsRun, limit_line, limit_lines}
+use Rattle.tracker_keeper.specs.Rows.{Rows, no_rows}
+use Rattle.tracker_core.specs.Desk.{DeskParts}
+use Rattle.tracker_machine.specs.Kept.{rows_of}
+use Rattle.tracker_cli.specs.Answering.{AnswersKept}
 
 -- which texts are the replies to lines, and which are those to an input where it is cut short
 abbrev Whole : Type 1
@@ -36,18 +40,18 @@ retold R Q C D f g bytes left t u LongLine (done, stops, one) = (done, stops, gr
 retold R Q C D f g bytes left t u ManyLines (done, stops, one) = (done, stops, grew t u _ _ (f done) one)
 
 -- the command is exec
-pub exec_ends : (setup : List ℕ) (words : List (List ℕ)) (old left t u : Option (List ℕ)) (end : End) → IsExec words →
-    IfSome old (λ bytes. EndsRun (AreReplies setup) (AreCutReplies setup) bytes left t u end) →
-    IfSome old (λ bytes. EndsRun (AreRepliesOf setup words) (AreCutRepliesOf setup words) bytes left t u end)
-exec_ends setup words old left t u end is ends = IfSome_then old ends (λ bytes p.
-    retold (AreReplies setup) (AreRepliesOf setup words) (AreCutReplies setup) (AreCutRepliesOf setup words) (λ all text r. inl (is, r)) (λ b text r. inl (is, r)) bytes left t u end p)
+pub exec_ends : (Kept : Machine → Type 0) (Unopened : Type 0) (setup : List ℕ) (words : List (List ℕ)) (old left t u : Option (List ℕ)) (end : End) → IsExec words →
+    IfSome old (λ bytes. EndsRun (AreReplies Kept setup) (AreCutReplies Kept Unopened setup) bytes left t u end) →
+    IfSome old (λ bytes. EndsRun (AreRepliesOf Kept setup words) (AreCutRepliesOf Kept Unopened setup words) bytes left t u end)
+exec_ends Kept Unopened setup words old left t u end is ends = IfSome_then old ends (λ bytes p.
+    retold (AreReplies Kept setup) (AreRepliesOf Kept setup words) (AreCutReplies Kept Unopened setup) (AreCutRepliesOf Kept Unopened setup words) (λ all text r. inl (is, r)) (λ b text r. inl (is, r)) bytes left t u end p)
 
 -- the command is check
-pub check_ends : (setup : List ℕ) (words : List (List ℕ)) (old left t u : Option (List ℕ)) (end : End) → IsCheck words →
+pub check_ends : (Kept : Machine → Type 0) (Unopened : Type 0) (setup : List ℕ) (words : List (List ℕ)) (old left t u : Option (List ℕ)) (end : End) → IsCheck words →
     IfSome old (λ bytes. EndsRun AreChecked AreCutChecks bytes left t u end) →
-    IfSome old (λ bytes. EndsRun (AreRepliesOf setup words) (AreCutRepliesOf setup words) bytes left t u end)
-check_ends setup words old left t u end is ends = IfSome_then old ends (λ bytes p.
-    retold AreChecked (AreRepliesOf setup words) AreCutChecks (AreCutRepliesOf setup words) (λ all text r. inr (is, r)) (λ b text r. inr (is, r)) bytes left t u end p)
+    IfSome old (λ bytes. EndsRun (AreRepliesOf Kept setup words) (AreCutRepliesOf Kept Unopened setup words) bytes left t u end)
+check_ends Kept Unopened setup words old left t u end is ends = IfSome_then old ends (λ bytes p.
+    retold AreChecked (AreRepliesOf Kept setup words) AreCutChecks (AreCutRepliesOf Kept Unopened setup words) (λ all text r. inr (is, r)) (λ b text r. inr (is, r)) bytes left t u end p)
 
 -- from the loop's own words: each line answered, and a part of them
 told : {State : Type 0} (Answers : State → List ℕ → List ℕ → State → Type 0) (start : State) (R : Whole) (C : Part) →
@@ -61,15 +65,45 @@ told Answers start R C f g bytes left t u Memory new one = g bytes t u new one
 told Answers start R C f g bytes left t u LongLine new (done, stops, one) = (done, stops, (one.text, f done one.text new one.answered, one.written))
 told Answers start R C f g bytes left t u ManyLines new (done, stops, one) = (done, stops, (one.text, f done one.text new one.answered, one.written))
 
-replies : (words : List ℕ) (start : Machine) → IsStart words start → (all : List (List ℕ)) (text : List ℕ) (new : Machine) → AreAnswered AnswersLine start all text new → AreReplies words all text
-replies words start is all text new one = (start, new, is, run_of_lines start new all text one)
+-- ---- lines that a desk answers: the tracker's states alone, and then what is kept of the last one
 
-cut : (words : List ℕ) (start : Machine) → IsStart words start → (bytes : List ℕ) (t u : Option (List ℕ)) (new : Machine) → IsCutShort AnswersLine start (lines bytes) t u new → GrewBy t u (AreCutReplies words bytes)
-cut words start is bytes t u new one = (
+-- what each answer leaves kept
+abbrev StaysKept : {P : Type 0} → (P → Rows → Type 0) → DeskParts P → DeskParts P → Type 0
+StaysKept keeps old new = keeps old.keeper (rows_of old.machine) → keeps new.keeper (rows_of new.machine)
+
+machine_of : {P : Type 0} (keeps : P → Rows → Type 0) (old new : DeskParts P) (all : List (List ℕ)) (text : List ℕ)
+    → AreAnswered (AnswersKept keeps) old all text new → AreAnswered AnswersLine old.machine all text new.machine
+machine_of keeps old new [] text (none, same) = (none, ap (λ (d : DeskParts _). d.machine) same)
+machine_of keeps old new (line ∷ more) text (next, first, rest, here, is, later) =
+    (next.machine, first, rest, here.answered, is, machine_of keeps next new more rest later)
+
+kept_of : {P : Type 0} (keeps : P → Rows → Type 0) (old new : DeskParts P) (all : List (List ℕ)) (text : List ℕ)
+    → AreAnswered (AnswersKept keeps) old all text new → StaysKept keeps old new
+kept_of keeps old new [] text (none, same) = λ kept. subst (λ (d : DeskParts _). keeps d.keeper (rows_of d.machine)) (sym same) kept
+kept_of keeps old new (line ∷ more) text (next, first, rest, here, is, later) = λ kept. kept_of keeps next new more rest later (here.rows kept)
+
+front_machine : {P : Type 0} (keeps : P → Rows → Type 0) (middle new : DeskParts P) (done rest : List (List ℕ)) (front : List ℕ)
+    → IsFrontOfNext (AnswersKept keeps) middle done rest front new → IsFrontOfNext AnswersLine middle.machine done rest front new.machine
+front_machine keeps middle new done rest front (inl (none, same)) = inl (none, ap (λ (d : DeskParts _). d.machine) same)
+front_machine keeps middle new done rest front (inr (line, more, text, back, is, within, here, parts)) = inr (line, more, text, back, is, within, here.answered, parts)
+
+front_kept : {P : Type 0} (keeps : P → Rows → Type 0) (middle new : DeskParts P) (done rest : List (List ℕ)) (front : List ℕ)
+    → IsFrontOfNext (AnswersKept keeps) middle done rest front new → StaysKept keeps middle new
+front_kept keeps middle new done rest front (inl (none, same)) = λ kept. subst (λ (d : DeskParts _). keeps d.keeper (rows_of d.machine)) (sym same) kept
+front_kept keeps middle new done rest front (inr (line, more, text, back, is, within, here, parts)) = here.rows
+
+replies : {P : Type 0} (keeps : P → Rows → Type 0) (words : List ℕ) (Kept : Machine → Type 0) (start new : DeskParts P) → IsStart words start.machine → (StaysKept keeps start new → Kept new.machine)
+    → (all : List (List ℕ)) (text : List ℕ) → AreAnswered (AnswersKept keeps) start all text new → AreReplies Kept words all text
+replies keeps words Kept start new is kept all text one =
+    (start.machine, new.machine, is, run_of_lines start.machine new.machine all text (machine_of keeps start new all text one), kept (kept_of keeps start new all text one))
+
+cut : {P : Type 0} (keeps : P → Rows → Type 0) (words : List ℕ) (Kept : Machine → Type 0) (Unopened : Type 0) (start new : DeskParts P) → IsStart words start.machine → (StaysKept keeps start new → Kept new.machine)
+    → (bytes : List ℕ) (t u : Option (List ℕ)) → IsCutShort (AnswersKept keeps) start (lines bytes) t u new → GrewBy t u (AreCutReplies Kept Unopened words bytes)
+cut keeps words Kept Unopened start new is kept bytes t u one = (
   one.text ++ one.front,
   inr (
-    start,
-    new,
+    start.machine,
+    new.machine,
     is,
     record {
       done = one.done;
@@ -77,20 +111,38 @@ cut words start is bytes t u new one = (
       all_is = one.all_is;
       within = one.within;
       whole = one.text;
-      middle = one.middle;
-      run = run_of_lines start one.middle one.done one.text one.answered;
+      middle = one.middle.machine;
+      run = run_of_lines start.machine one.middle.machine one.done one.text (machine_of keeps start one.middle one.done one.text one.answered);
       front = one.front;
-      next = front_of_reply one.middle new one.done one.rest one.front one.next;
+      next = front_of_reply one.middle.machine new.machine one.done one.rest one.front (front_machine keeps one.middle new one.done one.rest one.front one.next);
       text_is = refl;
     },
+    kept (λ k. front_kept keeps one.middle new one.done one.rest one.front one.next (kept_of keeps start one.middle one.done one.text one.answered k)),
   ),
   one.written,
 )
 
-pub EndsRun-of : (words : List ℕ) (old left t u : Option (List ℕ)) (end : End) (m new : Machine) → IsStart words m →
-    IfSome old (λ bytes. Ends AnswersLine m bytes left t u end new) → IfSome old (λ bytes. EndsRun (AreReplies words) (AreCutReplies words) bytes left t u end)
-EndsRun-of words old left t u end m new is ends = IfSome_then old ends (λ bytes p.
-    told AnswersLine m (AreReplies words) (AreCutReplies words) (replies words m is) (cut words m is) bytes left t u end new p)
+-- the last state is the one at which the loop ended
+served : {P : Type 0} (keeps : P → Rows → Type 0) (words : List ℕ) (Kept : Machine → Type 0) (Unopened : Type 0) (start new : DeskParts P) → IsStart words start.machine → (StaysKept keeps start new → Kept new.machine)
+    → (bytes : List ℕ) (left t u : Option (List ℕ)) (end : End) → Ends (AnswersKept keeps) start bytes left t u end new → EndsRun (AreReplies Kept words) (AreCutReplies Kept Unopened words) bytes left t u end
+served keeps words Kept Unopened start new is kept bytes left t u Done (at_end, within, one) =
+    (at_end, within, (one.text, replies keeps words Kept start new is kept _ one.text one.answered, one.written))
+served keeps words Kept Unopened start new is kept bytes left t u ReadFault (read, taken, within, one) =
+    (read, taken, within, (one.text, replies keeps words Kept start new is kept _ one.text one.answered, one.written))
+served keeps words Kept Unopened start new is kept bytes left t u WriteFault one = cut keeps words Kept Unopened start new is kept bytes t u one
+served keeps words Kept Unopened start new is kept bytes left t u Memory one = cut keeps words Kept Unopened start new is kept bytes t u one
+served keeps words Kept Unopened start new is kept bytes left t u LongLine (done, stops, one) =
+    (done, stops, (one.text, replies keeps words Kept start new is kept done one.text one.answered, one.written))
+served keeps words Kept Unopened start new is kept bytes left t u ManyLines (done, stops, one) =
+    (done, stops, (one.text, replies keeps words Kept start new is kept done one.text one.answered, one.written))
+
+-- a run of a desk that was opened over a keeper without rows, and handed it back
+pub EndsRun-of : {P : Type 0} (keeps : P → Rows → Type 0) (words : List ℕ) (Unopened : Type 0) (keeper last : P) (old left t u : Option (List ℕ)) (end : End) (start new : DeskParts P)
+    → IsStart words start.machine → (keeps keeper no_rows → keeps start.keeper (rows_of start.machine)) → last ≡ new.keeper
+    → IfSome old (λ bytes. Ends (AnswersKept keeps) start bytes left t u end new)
+    → IfSome old (λ bytes. EndsRun (AreReplies (HasRowsOf keeps keeper last) words) (AreCutReplies (HasRowsOf keeps keeper last) Unopened words) bytes left t u end)
+EndsRun-of keeps words Unopened keeper last old left t u end start new is opened handed ends = IfSome_then old ends (λ bytes p.
+    served keeps words (HasRowsOf keeps keeper last) Unopened start new is (λ stays empty. subst (λ k. keeps k (rows_of new.machine)) (sym handed) (stays (opened empty))) bytes left t u end p)
 
 -- queries: a reply tells nothing of a state
 abbrev pub AnswersQuery : {State : Type 0} → State → List ℕ → List ℕ → State → Type 0
@@ -127,9 +179,10 @@ checks_end old left t u end start new ends = IfSome_then old ends (λ bytes p.
     told AnswersQuery start AreChecked AreCutChecks (checked start) (check_cut start) bytes left t u end new p)
 
 -- nothing was read or written
-pub nothing_yet : (words : List ℕ) (left after t : Option (List ℕ)) → IfSome left (λ bytes. EndsRun (AreReplies words) (AreCutReplies words) bytes after t t Memory)
-nothing_yet words None after t = tt
-nothing_yet words (Some bytes) after t = ([], inl refl, Appends-nil t)
+pub nothing_yet : (Kept : Machine → Type 0) (Unopened : Type 0) (words : List ℕ) (left after t : Option (List ℕ)) → Unopened
+    → IfSome left (λ bytes. EndsRun (AreReplies Kept words) (AreCutReplies Kept Unopened words) bytes after t t Memory)
+nothing_yet Kept Unopened words None after t same = tt
+nothing_yet Kept Unopened words (Some bytes) after t same = ([], inl (refl, same), Appends-nil t)
 
 abbrev LongAt : Whole → Option (List ℕ) → Option (List ℕ) → List ℕ → Type 0
 LongAt R t s bytes = (done : List (List ℕ)) × StopsAtLong (lines bytes) done × GrewBy t s (R done)
@@ -165,3 +218,7 @@ many_cut R C left t s u ends cut = IfSome_then left ends (λ bytes p.
 
 pub written_cut : (R : Whole) (C : Part) (left t u : Option (List ℕ)) → IfSome left (λ bytes. GrewBy t u (C bytes)) → IfSome left (IsCutOrLimit R C t u)
 written_cut R C left t u ends = IfSome_then left ends (λ bytes p. inl p)
+
+-- how a run ended, where that is told
+pub at_end : (R : Whole) (C : Part) (old left t u : Option (List ℕ)) (one other : End) → one ≡ other → IfSome old (λ bytes. EndsRun R C bytes left t u one) → IfSome old (λ bytes. EndsRun R C bytes left t u other)
+at_end R C old left t u one other is ends = subst (λ e. IfSome old (λ bytes. EndsRun R C bytes left t u e)) is ends

@@ -7,7 +7,9 @@ use Rattle.request_lines.specs.Lines.{lines, whole_lines, AreWithinLimits, Stops
 use Rattle.request_lines.specs.declared.run.End.{End}
 use Rattle.request_lines.specs.declared.run.End.TheVariants.{Done, ReadFault, WriteFault, Memory, LongLine, ManyLines}
 use Rattle.jql_check.specs.Check.{IsReply}
+use Rattle.tracker_keeper.specs.Rows.{Rows, no_rows}
 use Rattle.tracker_machine.specs.Machine.{Machine, opening}
+use Rattle.tracker_machine.specs.Kept.{rows_of}
 use Rattle.tracker_machine.specs.Run.{IsRun, IsCutRun, requests}
 
 abbrev pub IsExec : List (List ℕ) → Type 0
@@ -23,6 +25,9 @@ IsCommand words = IsExec words ⊎ IsCheck words
 abbrev pub usage : List ℕ
 usage = codes "usage: exec, check\n"
 
+abbrev pub held : List ℕ
+held = codes "held\n"
+
 abbrev pub limit_line : List ℕ
 limit_line = codes "limit line\n"
 
@@ -31,17 +36,17 @@ limit_lines = codes "limit lines\n"
 
 -- a run begins in the opening state of the setup that this text is
 abbrev pub IsStart : List ℕ → Machine → Type 0
-IsStart setup_text m = (setup : Parts) × (setup_in setup_text ≡ Ok setup) × (m ≡ opening setup)
+IsStart setup_text m = (setup : Parts) × (setup_in setup_text ≡ Ok setup) × (m ≡ opening setup_text setup)
 
--- this text is the replies to these lines, from where a run begins, under some marks
-abbrev pub AreReplies : List ℕ → List (List ℕ) → List ℕ → Type 0
-AreReplies setup_text all text = (start : Machine) × (last : Machine) × IsStart setup_text start × IsRun start (requests all) text last
+-- this text is the replies to these lines, from where a run begins, under some marks, and the last state is kept
+abbrev pub AreReplies : (Machine → Type 0) → List ℕ → List (List ℕ) → List ℕ → Type 0
+AreReplies Kept setup_text all text = (start : Machine) × (last : Machine) × IsStart setup_text start × IsRun start (requests all) text last × Kept last
 
--- this text is nothing, or the replies to the first lines of an input, and then at most a front of the next one's reply;
--- no other call was made, so that `last` is the state after them
-abbrev pub AreCutReplies : List ℕ → List ℕ → List ℕ → Type 0
-AreCutReplies setup_text bytes text =
-    (text ≡ []) ⊎ ((start : Machine) × (last : Machine) × IsStart setup_text start × IsCutRun start (lines bytes) text last)
+-- this text is the replies to the first lines of an input, and then at most a front of the next one's reply; no other call was
+-- made, so that `last` is the state after them, and it is kept; or no desk was opened, and there is no text
+abbrev pub AreCutReplies : (Machine → Type 0) → Type 0 → List ℕ → List ℕ → List ℕ → Type 0
+AreCutReplies Kept Unopened setup_text bytes text =
+    ((text ≡ []) × Unopened) ⊎ ((start : Machine) × (last : Machine) × IsStart setup_text start × IsCutRun start (lines bytes) text last × Kept last)
 
 -- each line, taken as a query, has its reply, one behind another
 abbrev pub AreChecked : List (List ℕ) → List ℕ → Type 0
@@ -68,12 +73,20 @@ pub record AreCutChecks (bytes text : List ℕ) : Type 0 where
   pub text_is : text ≡ whole ++ front
 
 -- this text is what the words' command replies to these lines
-abbrev pub AreRepliesOf : List ℕ → List (List ℕ) → List (List ℕ) → List ℕ → Type 0
-AreRepliesOf setup_text words all text = (IsExec words × AreReplies setup_text all text) ⊎ (IsCheck words × AreChecked all text)
+abbrev pub AreRepliesOf : (Machine → Type 0) → List ℕ → List (List ℕ) → List (List ℕ) → List ℕ → Type 0
+AreRepliesOf Kept setup_text words all text = (IsExec words × AreReplies Kept setup_text all text) ⊎ (IsCheck words × AreChecked all text)
 
 -- this text is what it has replied to an input when it is cut short
-abbrev pub AreCutRepliesOf : List ℕ → List (List ℕ) → List ℕ → List ℕ → Type 0
-AreCutRepliesOf setup_text words bytes text = (IsExec words × AreCutReplies setup_text bytes text) ⊎ (IsCheck words × AreCutChecks bytes text)
+abbrev pub AreCutRepliesOf : (Machine → Type 0) → Type 0 → List ℕ → List (List ℕ) → List ℕ → List ℕ → Type 0
+AreCutRepliesOf Kept Unopened setup_text words bytes text = (IsExec words × AreCutReplies Kept Unopened setup_text bytes text) ⊎ (IsCheck words × AreCutChecks bytes text)
+
+-- the keeper has the rows of a state, where it began with none
+abbrev pub HasRowsOf : {P : Type 0} → (P → Rows → Type 0) → P → P → Machine → Type 0
+HasRowsOf keeps old new m = keeps old no_rows → keeps new (rows_of m)
+
+-- it has the rows that it had
+abbrev pub HasItsRows : {P : Type 0} → (P → Rows → Type 0) → P → P → Type 0
+HasItsRows keeps old new = (rows : Rows) → keeps old rows → keeps new rows
 
 -- the sink grew by a text that is as wanted
 abbrev pub GrewBy : Option (List ℕ) → Option (List ℕ) → (List ℕ → Type 0) → Type 0

@@ -1,42 +1,58 @@
 // Request lines that a desk answers.
 ghost use Rattle.std.specs.Prelude.{◌≡◌, ◌++◌, ◌∷◌, [], OnOk, OnErr, List, ℕ};
 ghost use Rattle.tracker_calls.specs.Reply.{reply_text};
-ghost use Rattle.tracker_machine.specs.Run.{AnswersLine, RepliesTo, is_blank, is_blank_byte, reply_line};
+ghost use Rattle.tracker_machine.specs.Run.{RepliesTo, is_blank, is_blank_byte, reply_line};
+ghost use Rattle.tracker_machine.specs.Kept.{rows_of};
+ghost use Rattle.tracker_cli.specs.Answering.{AnswersKept};
 
 use fields::{Memory, Steps};
 use request_lines::Responder;
 use std::alloc::{AllocError, Global};
 use std::marker::Model;
 use std::sync::ledger::Ledger;
-use tracker_calls::{MEMORY_TEXT, Refusal, Reply, read_line, reply_text};
+use tracker_calls::{KEEPER_TEXT, MEMORY_TEXT, Refusal, Reply, read_line, reply_text};
 use tracker_core::Desk;
+use tracker_keeper::Keeper;
 
-/// A desk that answers request lines, and counts its steps. Contracts see it as the abstract tracker's state.
+/// A desk that answers request lines, and counts its steps. Contracts see it as the desk.
 #[derive(Drop)]
-pub struct RequestLines<L: Ledger> {
+pub struct RequestLines<L: Ledger, P: Keeper + Drop> {
     alloc: Global,
-    desk: Desk,
+    desk: Desk<P>,
     steps: Steps<L>,
 }
 
-impl<L: Ledger> Model for RequestLines<L> {
-    ghost use Rattle.tracker_machine.specs.Machine.{Machine};
+impl<L: Ledger, P: Keeper + Drop> Model for RequestLines<L, P> {
+    ghost use Rattle.tracker_core.specs.Desk.{DeskParts};
 
-    ghost Value = { Machine };
+    ghost Value = { DeskParts P };
 
     ghost view = { λ r. r.desk };
 }
 
-impl<L: Ledger> RequestLines<L> {
-    pub fn new(alloc: Global, desk: Desk, steps: Steps<L>) -> Self
+impl<L: Ledger, P: Keeper + Drop> RequestLines<L, P> {
+    pub fn new(alloc: Global, desk: Desk<P>, steps: Steps<L>) -> Self
         ensures { result ≡ desk }
     {
         RequestLines { alloc, desk, steps }
     }
 
+    /// Ends it and hands the keeper back, with its rows as they are.
+    pub fn close(self) -> P
+        ensures { result ≡ self.keeper }
+    {
+        let RequestLines {
+            alloc: _,
+            desk,
+            steps: _,
+        } = self;
+        desk.close()
+    }
+
     // Makes a line's call.
     fn reply_to(&mut self, line: &[u8]) -> Reply
-        ensures { RepliesTo self.old line.now result self.new }
+        ensures reply { RepliesTo self.old.machine line.now result self.new.machine }
+        ensures rows { P.keeps self.old.keeper (rows_of self.old.machine) → P.keeps self.new.keeper (rows_of self.new.machine) }
     {
         match read_line(self.alloc, line) {
             Ok((user, call)) => self.desk.call(&user, &call, &mut self.steps),
@@ -45,8 +61,8 @@ impl<L: Ledger> RequestLines<L> {
     }
 }
 
-impl<L: Ledger> Responder for RequestLines<L> {
-    ghost answers = { AnswersLine };
+impl<L: Ledger, P: Keeper + Drop> Responder for RequestLines<L, P> {
+    ghost answers = { AnswersKept P.keeps };
 
     fn respond(&mut self, line: &[u8], answer: &mut Vec<u8>) -> Result<(), AllocError> {
         answer.clear();
@@ -58,14 +74,17 @@ impl<L: Ledger> Responder for RequestLines<L> {
     }
 }
 
-// Puts a reply's text and a line feed into the empty answer. The refusal for want of memory is copied from
-// its constant, so that it finds room where the answer had some before.
+// Puts a reply's text and a line feed into the empty answer. The refusals for want of memory and of a keeper that failed are
+// copied from their constants, so that they find room where the answer had some before.
 fn put_reply(alloc: Global, reply: &Reply, answer: &mut Vec<u8>) -> Result<(), AllocError>
     requires { answer.old.items ≡ [] }
     ensures { OnOk result (answer.new.items ≡ reply_line reply.now) }
 {
     if let Reply::Refused(Refusal::Memory) = reply {
         return put_line(MEMORY_TEXT, answer);
+    }
+    if let Reply::Refused(Refusal::Keeper) = reply {
+        return put_line(KEEPER_TEXT, answer);
     }
     match reply_text(alloc, reply) {
         Ok(text) => put_line(text.as_str(), answer),

@@ -1,6 +1,7 @@
 use Rattle.std.proofs.Common.{ℕ, List, sym, ◌∙◌, refl, Ok, Err}
 use Rattle.std.specs.Prelude.{OnErr, Result}
-use Rattle.tracker_machine.specs.Run.{AnswersLine, reply_line}
+use Rattle.tracker_machine.specs.Run.{reply_line}
+use Rattle.tracker_cli.specs.Answering.{AnswersKept}
 use Rattle.tracker_machine.proofs.Replies.{AnswersLine-reply}
 use Rattle.tracker_cli.proofs.exec.RequestLinesResponder.respond.Goals as goal
 
@@ -10,6 +11,11 @@ always (Err e) P p = p
 
 pub returns-clause-err : goal.returns-clause-err
 returns-clause-err g c =
-    let told : (text : List ℕ) × AnswersLine c.args.self.now c.args.line.now text c.reply_to-reply.new.self =
-    (reply_line c.reply_to-reply.result, AnswersLine-reply _ _ _ _ _ (sym c.is_blank.ensures ∙ c.if-is_blank.false) c.reply_to-reply.ensures refl) in
+    let told : (text : List ℕ) × AnswersKept g.P.Keeper.keeps c.args.self.now c.args.line.now text c.reply_to-reply.new.self = (
+      reply_line c.reply_to-reply.result,
+      record {
+        answered = AnswersLine-reply _ _ _ _ _ (sym c.is_blank.ensures ∙ c.if-is_blank.false) c.reply_to-reply.ensures.reply refl;
+        rows = c.reply_to-reply.ensures.rows;
+      },
+    ) in
     always _ _ told
