@@ -5,7 +5,7 @@ use crate::values::{is_spelled, setup_of};
 use change_history::{Change, Changes, Issue};
 use fields::{BUILT_IN, Moment, Setup, UserNo, Value};
 use std::alloc::{AllocError, Global};
-use workflow::{PlanFault, net_changes, plan, project_of, refused_input};
+use workflow::{PlanFault, net_changes, plan, project_number, refused_input};
 
 /// A transition from Open to Done for each rule that is tested, and a field of the setup's own.
 const RULES: &str = r#"
@@ -245,7 +245,7 @@ fn comes_to_net(alloc: Global, setup: &Setup) -> Option<bool> {
 fn tells_projects(alloc: Global, setup: &Setup) -> Option<bool> {
     let one = issue(alloc, setup, "OPS", OPENING)?;
     let other = issue(alloc, setup, "OPSX", OPENING)?;
-    Some(project_of(setup, &one)?.0 == 0 && project_of(setup, &other).is_none())
+    Some(project_number(setup, &one)?.0 == 0 && project_number(setup, &other).is_none())
 }
 
 fn edits(alloc: Global) -> Option<bool> {
