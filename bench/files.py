@@ -24,7 +24,7 @@ import sys
 import tempfile
 
 TOP = pathlib.Path(__file__).resolve().parent.parent
-CRATES = ['field_values', 'request_lines', 'tracker_keeper', 'keeper_told']
+NEEDED = ['field_values', 'tracker_keeper', 'keeper_told']
 COMMITS = 10_000
 MADE = 'CREATE TABLE kept (kind INTEGER, no INTEGER, body TEXT, PRIMARY KEY (kind, no))'
 
@@ -216,15 +216,30 @@ int main(int argc, char **argv) {
 '''
 
 
+def stood_on(names):
+    """The lines of crates.txt for the crates named and for all below them, in its order."""
+    lines = {}
+    for line in (TOP / 'crates.txt').read_text().splitlines():
+        name, colon, below = line.partition(':')
+        if colon and not name.startswith('#'):
+            lines[name] = below.split()
+    found, wanted = set(), list(names)
+    while wanted:
+        name = wanted.pop()
+        if name in lines and name not in found:
+            found.add(name)
+            wanted.extend(lines[name])
+    return {name: below for name, below in lines.items() if name in found}
+
+
 def built(work):
     """The program, proved and built in a copy of the crates that it stands on."""
     (work / 'crates').mkdir()
     shutil.copy(TOP / 'HANDLES', work / 'HANDLES')
-    lines = (TOP / 'crates.txt').read_text().splitlines()
     with open(work / 'crates.txt', 'w') as it:
-        for name in CRATES:
+        for name, below in stood_on(NEEDED).items():
             shutil.copytree(TOP / 'crates' / name, work / 'crates' / name, symlinks=True)
-            print(*[line for line in lines if line.split(':')[0] == name], file=it)
+            print(f'{name}:', *below, file=it)
         print('rows_bench: field_values tracker_keeper keeper_told sqlite sqlite_store sqlite_std_file sqlite_trees', file=it)
     program = work / 'crates' / 'rows_bench'
     (program / 'src').mkdir(parents=True)
