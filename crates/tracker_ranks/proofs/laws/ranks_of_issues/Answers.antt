@@ -1,0 +1,9 @@
+use Rattle.tracker_ranks.proofs.Given.{ranks_differ}
+use Rattle.tracker_ranks.proofs.Keeping.{numbers_are_ranked}
+use Rattle.tracker_ranks.proofs.laws.ranks_of_issues.Goals as goal
+
+pub returns-clause-there : goal.returns-clause-there
+returns-clause-there c = numbers_are_ranked
+
+pub returns-clause-differ : goal.returns-clause-differ
+returns-clause-differ c = ranks_differ

@@ -1,0 +1,3 @@
+pub mod Ranked
+pub mod Laws
+pub mod Rows

@@ -1,0 +1,21 @@
+//! What is proved of all ranked issues. These functions do nothing: each clause is a law.
+ghost use Rattle.tracker_ranks.specs.Laws.{NumbersAreRanked, RanksDiffer, NewIssuesGoLast, MovesChangeOneRank, StartsKeepRanks, StepsKeepRanks, PlansArePicks};
+
+/// Each issue has one rank, which no other one has.
+pub fn ranks_of_issues()
+    ensures there { NumbersAreRanked }
+    ensures differ { RanksDiffer }
+{}
+
+/// A new issue goes last, a move changes the rank of its issue alone, and both leave all issues ranked.
+pub fn places_of_issues()
+    ensures new { NewIssuesGoLast }
+    ensures moved { MovesChangeOneRank }
+{}
+
+/// A rebalancing leaves the list of issues as it is, and all of them ranked.
+pub fn rebalancing()
+    ensures start { StartsKeepRanks }
+    ensures step { StepsKeepRanks }
+    ensures planned { PlansArePicks }
+{}
