@@ -1,3 +1,4 @@
 pub mod Ranked
+pub mod Loaded
 pub mod Laws
 pub mod Rows

@@ -2,6 +2,7 @@
 #![tactic(auto)]
 
 pub mod laws;
+mod load;
 mod ranks;
 
 pub use ranks::Ranks;

@@ -48,6 +48,18 @@ impl Ranks {
         }
     }
 
+    /// Those of an order and a balance.
+    pub(crate) fn of(alloc: Global, order: Order, balance: Balance) -> Ranks
+        requires { IsRanked order.pairs balance }
+        ensures { result ≡ record { order = order.pairs; balance = balance; room = order.room } }
+    {
+        Ranks {
+            order,
+            balance,
+            alloc,
+        }
+    }
+
     /// How many issues there are.
     pub fn len(&self) -> usize
         ensures { result ≡ length self.now.order }
@@ -125,12 +137,12 @@ impl Ranks {
     }
 
     /// Puts the next issue behind all others, with the rank that was given for it. It takes no memory.
-    pub fn add(&mut self, issue: IssueNo, rank: Rank)
-        requires next { IsNext self.old.order self.old.balance issue rank }
+    pub fn add(&mut self, next: IssueNo, rank: Rank)
+        requires given { IsNext self.old.order self.old.balance next rank }
         requires room { length self.old.order < self.old.room }
-        ensures { self.new ≡ record self.old { order = with_last self.old.order issue rank } }
+        ensures { self.new ≡ record self.old { order = with_last self.old.order next rank } }
     {
-        self.order.put(issue, rank);
+        self.order.put(next, rank);
     }
 
     /// Moves the issue by a rank that was given to it. It takes no memory.

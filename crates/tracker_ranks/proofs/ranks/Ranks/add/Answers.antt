@@ -9,7 +9,7 @@ put-requires-clause-free c =
     let order = ap (λ (v : OrderedIssues). v.order) c.self.view_is in
     let balance = ap (λ (v : OrderedIssues). v.balance) c.self.view_is in
     let ranked = rw (order, balance) at c.self.invariant in
-    rw order (free_to_add c.args.self.now.order c.args.self.now.balance c.args.issue c.args.rank ranked c.requires.next)
+    rw order (free_to_add c.args.self.now.order c.args.self.now.balance c.args.next c.args.rank ranked c.requires.given)
 
 pub invariant_of-self : goal.invariant_of-self
 invariant_of-self c =
@@ -17,8 +17,8 @@ invariant_of-self c =
     let balance = ap (λ (v : OrderedIssues). v.balance) c.self.view_is in
     let ranked = rw (order, balance) at c.self.invariant in
     let put = ap (λ (r : Ranking). r.pairs) c.put.ensures in
-    let last = added_last c.args.self.now.order c.args.self.now.balance c.args.issue c.args.rank ranked c.requires.next in
-    rw (put, order, balance, last) (goes_last c.args.self.now.order c.args.self.now.balance c.args.issue c.args.rank ranked c.requires.next).ranked
+    let last = added_last c.args.self.now.order c.args.self.now.balance c.args.next c.args.rank ranked c.requires.given in
+    rw (put, order, balance, last) (goes_last c.args.self.now.order c.args.self.now.balance c.args.next c.args.rank ranked c.requires.given).ranked
 
 pub returns : goal.returns
 returns c =
@@ -26,5 +26,5 @@ returns c =
     let balance = ap (λ (v : OrderedIssues). v.balance) c.self.view_is in
     let room = ap (λ (v : OrderedIssues). v.room) c.self.view_is in
     let ranked = rw (order, balance) at c.self.invariant in
-    let last = added_last c.args.self.now.order c.args.self.now.balance c.args.issue c.args.rank ranked c.requires.next in
+    let last = added_last c.args.self.now.order c.args.self.now.balance c.args.next c.args.rank ranked c.requires.given in
     rw (c.put.ensures, order, balance, room, last) refl
