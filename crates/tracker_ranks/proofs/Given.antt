@@ -36,10 +36,10 @@ pub same_in : (ps qs : List Pair) (issue : ℕ) → rank_in ps issue ≡ rank_in
 same_in ps qs issue same there = in_from_rank qs issue (rank_at ps (places_before ps issue)) (sym same ∙ rank_from_in ps issue there)
 
 -- the rank of the first pair's issue, and of another one
-rank_here : (p : Pair) (ps : List Pair) (issue : ℕ) → (p.1.0 == issue) ≡ true → rank_in (p ∷ ps) issue ≡ Some p.0
+pub rank_here : (p : Pair) (ps : List Pair) (issue : ℕ) → (p.1.0 == issue) ≡ true → rank_in (p ∷ ps) issue ≡ Some p.0
 rank_here p ps issue is = rw is refl
 
-rank_behind : (p : Pair) (ps : List Pair) (issue : ℕ) → (p.1.0 == issue) ≡ false → rank_in (p ∷ ps) issue ≡ rank_in ps issue
+pub rank_behind : (p : Pair) (ps : List Pair) (issue : ℕ) → (p.1.0 == issue) ≡ false → rank_in (p ∷ ps) issue ≡ rank_in ps issue
 rank_behind p ps issue is = rw is refl
 
 -- taking out an issue leaves the ranks of the others

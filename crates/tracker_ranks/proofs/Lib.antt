@@ -1,3 +1,4 @@
 pub mod Given
 pub mod Keeping
 pub mod Loading
+pub mod OneOrder

@@ -1,5 +1,5 @@
 -- What holds of all ranked issues.
-use Rattle.std.specs.Prelude.{ℕ, ◌≡◌, ◌≢◌, List, [], ◌∷◌, ◌++◌, length, true, Option, Some, Ok, IfSome}
+use Rattle.std.specs.Prelude.{ℕ, ◌≡◌, ◌≢◌, ◌+◌, slice_get, List, [], ◌∷◌, ◌++◌, length, true, Option, Some, Ok, IfSome}
 use Rattle.field_values.specs.declared.numbers.IssueNo.{IssueNo}
 use Rattle.rank_strings.specs.Rank.{RankParts}
 use Rattle.board.specs.declared.place.Place.{Place}
@@ -10,7 +10,8 @@ use Rattle.rank_balancer.specs.declared.balance.Balance.{Balance}
 use Rattle.rank_balancer.specs.Balance.{IsMoving, after_start, from_of, to_of}
 use Rattle.rank_balancer.specs.Step.{Move, after_move, after_moves, ArePicks}
 use Rattle.rank_balancer.specs.Planned.{planned}
-use Rattle.tracker_ranks.specs.Ranked.{IsRanked, AreNumbered, IsNext, rank_for, with_last, balance_moved}
+use Rattle.tracker_ranks.specs.Loaded.{AreLoaded}
+use Rattle.tracker_ranks.specs.Ranked.{OrderedIssues, IsRanked, AreNumbered, IsNext, rank_for, with_last, balance_moved}
 
 -- the new issue stands behind all others, which is where its rank puts it
 pub record GoesLast (ps : List Pair) (b : Balance) (issue : IssueNo) (rank : RankParts) : Type 0 where
@@ -69,3 +70,14 @@ abbrev pub NumbersAreRanked : Type 0
 NumbersAreRanked =
     (ps : List Pair) (b : Balance) (asked : Option IssueNo) (place : Place) → IsRanked ps b →
     AreNumbered (length ps) asked place → AreNamed ps asked place
+
+-- the ranks of the issues make one order
+abbrev pub RanksMakeOneOrder : Type 0
+RanksMakeOneOrder =
+    (ps qs : List Pair) → IsOrder ps → IsOrder qs → ((issue : ℕ) → rank_in ps issue ≡ rank_in qs issue) → ps ≡ qs
+
+-- after loading, each issue has the rank of its number, and there is no other issue
+abbrev pub LoadedRanksAreThose : Type 0
+LoadedRanksAreThose =
+    (ranks : List RankParts) (b : Balance) (loaded : OrderedIssues) → IsRanked loaded.order loaded.balance →
+    AreLoaded ranks b loaded → (n : ℕ) → rank_in loaded.order (n + 1) ≡ slice_get ranks n

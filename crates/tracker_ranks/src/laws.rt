@@ -1,5 +1,5 @@
 //! What is proved of all ranked issues. These functions do nothing: each clause is a law.
-ghost use Rattle.tracker_ranks.specs.Laws.{NumbersAreRanked, RanksDiffer, NewIssuesGoLast, MovesChangeOneRank, StartsKeepRanks, StepsKeepRanks, PlansArePicks};
+ghost use Rattle.tracker_ranks.specs.Laws.{NumbersAreRanked, RanksDiffer, NewIssuesGoLast, MovesChangeOneRank, StartsKeepRanks, StepsKeepRanks, PlansArePicks, RanksMakeOneOrder, LoadedRanksAreThose};
 
 /// Each issue has one rank, which no other one has.
 pub fn ranks_of_issues()
@@ -18,4 +18,10 @@ pub fn rebalancing()
     ensures start { StartsKeepRanks }
     ensures step { StepsKeepRanks }
     ensures planned { PlansArePicks }
+{}
+
+/// The ranks of issues make one order, and after loading each issue has the rank of its number.
+pub fn loaded_ranks()
+    ensures one { RanksMakeOneOrder }
+    ensures those { LoadedRanksAreThose }
 {}
