@@ -1,5 +1,6 @@
 mod balancing;
 mod orders;
 mod placing;
+mod ranked;
 mod ranks;
 mod sprint_states;

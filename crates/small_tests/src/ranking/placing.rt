@@ -29,7 +29,7 @@ fn is_there(order: &Order, issue: Option<IssueNo>) -> bool
     }
 }
 
-fn other_of(place: Place) -> Option<IssueNo>
+pub(crate) fn other_of(place: Place) -> Option<IssueNo>
     ensures { result ≡ named_by place }
 {
     match place {
@@ -38,7 +38,7 @@ fn other_of(place: Place) -> Option<IssueNo>
     }
 }
 
-fn differ(one: Option<IssueNo>, other: Option<IssueNo>) -> bool
+pub(crate) fn differ(one: Option<IssueNo>, other: Option<IssueNo>) -> bool
     ensures { IsTrue result → IfSome one (λ i. IfSome other (λ o. i.0 ≢ o.0)) }
 {
     match (one, other) {
