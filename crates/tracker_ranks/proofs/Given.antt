@@ -16,7 +16,7 @@ use Rattle.board.specs.Search.{rank_at}
 use Rattle.board.proofs.Moves.{number_at-places_before}
 use Rattle.board.proofs.Put as Put
 use Rattle.rank_balancer.specs.Step.{after_move}
-use Rattle.tracker_ranks.specs.Laws.{RanksDiffer}
+use Rattle.tracker_ranks.specs.Laws.{EachMoveGivesOneRank, RanksDiffer}
 
 -- an issue stands in the order exactly where it has a rank
 pub rank_from_in : (ps : List Pair) (issue : ℕ) → IsIn ps issue → rank_in ps issue ≡ Some (rank_at ps (places_before ps issue))
@@ -85,14 +85,12 @@ put_in-own x (p ∷ ps) none = by (cases_Bool (is_lt (rank_cmp x.0 p.0))) (cases
     by (inr is) (inl here) rest = let some = rank_here p ps x.1.0 here in absurd (cc)
     by (inr is) (inr apart) rest = rw is (rank_behind p (put_in x ps) x.1.0 apart ∙ rest (sym (rank_behind p ps x.1.0 apart) ∙ none))
 
--- an issue that is given a rank has it
-pub own_rank_given : (ps : List Pair) (issue : IssueNo) (rank : RankParts) → rank_in (after_move ps (issue, rank)) issue.0 ≡ Some rank
-own_rank_given ps issue rank = put_in-own (rank, issue) (without issue.0 ps) (without-own issue.0 ps)
-
--- and all others keep theirs
-pub other_ranks_stay : (ps : List Pair) (issue : IssueNo) (rank : RankParts) (other : ℕ) → issue.0 ≢ other →
-    rank_in (after_move ps (issue, rank)) other ≡ rank_in ps other
-other_ranks_stay ps issue rank other differ = put_in-others (rank, issue) (without issue.0 ps) other differ ∙ without-others issue.0 ps other differ
+-- an issue that is given a rank has it, and all others keep theirs
+pub gives_one_rank : EachMoveGivesOneRank
+gives_one_rank ps m = record {
+  own = put_in-own (m.1, m.0) (without m.0.0 ps) (without-own m.0.0 ps);
+  others = λ other differ. put_in-others (m.1, m.0) (without m.0.0 ps) other differ ∙ without-others m.0.0 ps other differ;
+}
 
 length-put_in : (x : Pair) (ps : List Pair) → length (put_in x ps) ≡ length ps + 1
 length-put_in x [] = refl

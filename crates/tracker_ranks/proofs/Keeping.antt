@@ -25,7 +25,7 @@ use Rattle.rank_balancer.proofs.Keeps.{picks_keep_all}
 use Rattle.rank_balancer.proofs.Planned.{step_is_computed_law}
 use Rattle.tracker_ranks.specs.Ranked.{IsOneOf, IsRanked, AreNumbered, IsNext, rank_for, with_last}
 use Rattle.tracker_ranks.specs.Laws.{GoesLast, NewIssuesGoLast, MovesAlone, MovesChangeOneRank, StartsKeepRanks, StepsKeepRanks, PlansArePicks, NumbersAreRanked}
-use Rattle.tracker_ranks.proofs.Given.{same_in, in_from_rank, own_rank_given, other_ranks_stay, length-moved}
+use Rattle.tracker_ranks.proofs.Given.{same_in, in_from_rank, gives_one_rank, length-moved}
 
 -- issues of these numbers stand in the order
 numbered_in : (ps : List Pair) (b : Balance) (o : Option IssueNo) → IsRanked ps b → IfSome o (λ i. IsOneOf (length ps) i.0) → IfSome o (λ i. IsIn ps i.0)
@@ -72,10 +72,10 @@ module _ (ps : List Pair) (b : Balance) (issue : IssueNo) (place : Place) (rank 
       by : (issue.0 ≡ n) ⊎ (issue.0 ≡ n → ⊥) → IsIn moved n ↔ IsOneOf (length moved) n
       by (inl same) = (
         λ there. subst (IsOneOf (length moved)) same (subst (λ count. IsOneOf count issue.0) (sym same_length) numbered.issue),
-        λ one. subst (IsIn moved) same (in_from_rank moved issue.0 rank (own_rank_given ps issue rank)),
+        λ one. subst (IsIn moved) same (in_from_rank moved issue.0 rank ((gives_one_rank ps (issue, rank)).own)),
       )
       by (inr differ) =
-          let stays = other_ranks_stay ps issue rank n differ in (
+          let stays = (gives_one_rank ps (issue, rank)).others n differ in (
             λ there. subst (λ count. IsOneOf count n) (sym same_length) ((ranked.numbered n).0 (same_in moved ps n stays there)),
             λ one. same_in ps moved n (sym stays) ((ranked.numbered n).1 (subst (λ count. IsOneOf count n) same_length one)),
           )
@@ -83,8 +83,7 @@ module _ (ps : List Pair) (b : Balance) (issue : IssueNo) (place : Place) (rank 
   pub moves_alone : MovesAlone ps b issue place rank
   moves_alone = record {
     issues = issues_are_moved ps issue (Some issue) place (to_of b) rank ranked.order is.0 named refl is.1;
-    own = own_rank_given ps issue rank;
-    others = other_ranks_stay ps issue rank;
+    ranks = gives_one_rank ps (issue, rank);
     stays = puts.stays;
     ranked = record {
       order = puts.in_order;
@@ -131,10 +130,10 @@ module _ (ps : List Pair) (b : Balance) (issue : IssueNo) (rank : RankParts) (ra
   one_more = length-append ps ((rank, issue) ∷ [])
 
   own_last : rank_in added issue.0 ≡ Some rank
-  own_last = ap (λ xs. rank_in xs issue.0) (sym added_last) ∙ own_rank_given ps issue rank
+  own_last = ap (λ xs. rank_in xs issue.0) (sym added_last) ∙ (gives_one_rank ps (issue, rank)).own
 
   others_last : (n : ℕ) → issue.0 ≢ n → rank_in added n ≡ rank_in ps n
-  others_last n differ = ap (λ xs. rank_in xs n) (sym added_last) ∙ other_ranks_stay ps issue rank n differ
+  others_last n differ = ap (λ xs. rank_in xs n) (sym added_last) ∙ (gives_one_rank ps (issue, rank)).others n differ
 
   numbered_added : (n : ℕ) → IsIn added n ↔ IsOneOf (length added) n
   numbered_added n = by (cases_eq issue.0 n)

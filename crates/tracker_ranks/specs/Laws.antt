@@ -24,12 +24,19 @@ NewIssuesGoLast =
     (ps : List Pair) (b : Balance) (issue : IssueNo) (rank : RankParts) → IsRanked ps b → IsNext ps b issue rank →
     GoesLast ps b issue rank
 
+-- a rank that is given to an issue is its own, and all others keep theirs
+pub record GivesOneRank (ps : List Pair) (m : Move) : Type 0 where
+  pub own : rank_in (after_move ps m) m.0.0 ≡ Some m.1
+  pub others : (other : ℕ) → m.0.0 ≢ other → rank_in (after_move ps m) other ≡ rank_in ps other
+
+abbrev pub EachMoveGivesOneRank : Type 0
+EachMoveGivesOneRank = (ps : List Pair) (m : Move) → GivesOneRank ps m
+
 -- the issue is taken out of the list of issues and put in again at the place, and no other rank changes; where it stands there,
 -- nothing does
 pub record MovesAlone (ps : List Pair) (b : Balance) (issue : IssueNo) (place : Place) (rank : RankParts) : Type 0 where
   pub issues : issues_in (after_move ps (issue, rank)) ≡ issues_moved issue place (issues_in ps)
-  pub own : rank_in (after_move ps (issue, rank)) issue.0 ≡ Some rank
-  pub others : (other : ℕ) → issue.0 ≢ other → rank_in (after_move ps (issue, rank)) other ≡ rank_in ps other
+  pub ranks : GivesOneRank ps (issue, rank)
   pub stays : stands_at ps (Some issue) place ≡ true → after_move ps (issue, rank) ≡ ps
   pub ranked : IsRanked (after_move ps (issue, rank)) b
 

@@ -1,10 +1,11 @@
 //! What is proved of all ranked issues. These functions do nothing: each clause is a law.
-ghost use Rattle.tracker_ranks.specs.Laws.{NumbersAreRanked, RanksDiffer, NewIssuesGoLast, MovesChangeOneRank, StartsKeepRanks, StepsKeepRanks, PlansArePicks, RanksMakeOneOrder, LoadedRanksAreThose};
+ghost use Rattle.tracker_ranks.specs.Laws.{NumbersAreRanked, RanksDiffer, EachMoveGivesOneRank, NewIssuesGoLast, MovesChangeOneRank, StartsKeepRanks, StepsKeepRanks, PlansArePicks, RanksMakeOneOrder, LoadedRanksAreThose};
 
-/// Each issue has one rank, which no other one has.
+/// Each issue has one rank, which no other one has; a rank that is given to an issue changes no other one's.
 pub fn ranks_of_issues()
     ensures there { NumbersAreRanked }
     ensures differ { RanksDiffer }
+    ensures given { EachMoveGivesOneRank }
 {}
 
 /// A new issue goes last, a move changes the rank of its issue alone, and both leave all issues ranked.

@@ -111,25 +111,40 @@ fn create_three(alloc: Global, ranks: &mut Ranks) -> Option<bool> {
     Some(are_ranked(alloc, ranks, &want))
 }
 
-/// A move in the middle of a rebalancing.
-fn moves_between_steps(alloc: Global) -> Option<bool> {
-    let mut ranks = Ranks::new(alloc);
-    is(create_three(alloc, &mut ranks)?)?;
+/// Starts a rebalancing, which can't be started twice.
+fn begins(ranks: &mut Ranks) -> Option<()> {
     is(ranks.balance() == Balance::Idle(0))?;
     is(ranks.start().is_ok())?;
-    is(ranks.start() == Err(BalanceIs(FIRST)))?;
-    is(step(&mut ranks, 1)? == 1 && ranks.left() == 2)?;
-    move_to(&mut ranks, IssueNo(1), Place::After(IssueNo(2)))?;
-    is(has_rank(alloc, &ranks, 1, "1|qzztog:"))?;
-    is(step(&mut ranks, 16)? == 1 && ranks.left() == 0)?;
+    is(ranks.start() == Err(BalanceIs(FIRST)))
+}
+
+/// A step of one pick, and a move behind it.
+fn moves_after_a_step(alloc: Global, ranks: &mut Ranks) -> Option<bool> {
+    is(step(ranks, 1)? == 1 && ranks.left() == 2)?;
+    move_to(ranks, IssueNo(1), Place::After(IssueNo(2)))?;
+    Some(has_rank(alloc, ranks, 1, "1|qzztog:"))
+}
+
+/// The step that picks the only issue that is left.
+fn comes_to_rest(alloc: Global, ranks: &mut Ranks) -> Option<bool> {
+    is(step(ranks, 16)? == 1 && ranks.left() == 0)?;
     is(ranks.balance() == Balance::Idle(1))?;
     let want = [(2, "1|qzzncw:"), (1, "1|qzztog:"), (3, "1|r00000:")];
-    Some(are_ranked(alloc, &ranks, &want))
+    Some(are_ranked(alloc, ranks, &want))
+}
+
+/// A move in the middle of a rebalancing.
+fn moves_between_steps(alloc: Global, ranks: &mut Ranks) -> Option<bool> {
+    is(create_three(alloc, ranks)?)?;
+    begins(ranks)?;
+    is(moves_after_a_step(alloc, ranks)?)?;
+    comes_to_rest(alloc, ranks)
 }
 
 #[test]
 fn moves_in_the_middle_of_a_rebalancing(rt: HostRuntime) {
-    let passes = moves_between_steps(rt.alloc()) == Some(true);
+    let mut ranks = Ranks::new(rt.alloc());
+    let passes = moves_between_steps(rt.alloc(), &mut ranks) == Some(true);
     assert!(rt; passes);
 }
 
@@ -151,19 +166,32 @@ fn loaded(alloc: Global, texts: &[&str], balance: Balance) -> Option<Ranks> {
     Ranks::load(alloc, ranks, balance).ok()?
 }
 
-/// The longest rank right behind that of issue 1, so that issue 3 finds no place there.
-fn has_no_room(alloc: Global) -> Option<bool> {
-    let longest = behind_zeros(alloc, MOST_ZEROS).ok()?;
-    let texts = ["0|i00000:", longest.as_str(), "0|i006bk:"];
-    let ranks = loaded(alloc, &texts, Balance::Idle(0))?;
+/// Whether issue 3 finds no place right behind issue 1.
+fn has_no_room(alloc: Global, ranks: &Ranks, longest: &str) -> Option<bool> {
     is(ranks.longest() == 254)?;
-    let answer = offer(&ranks, IssueNo(3), Place::After(IssueNo(1)))?;
-    Some(is_exhausted(alloc, &answer, "0|i00000:", longest.as_str()))
+    let answer = offer(ranks, IssueNo(3), Place::After(IssueNo(1)))?;
+    Some(is_exhausted(alloc, &answer, "0|i00000:", longest))
+}
+
+/// The same where the longest rank stands there.
+fn finds_no_room(alloc: Global, longest: &str) -> bool {
+    match loaded(
+        alloc,
+        &["0|i00000:", longest, "0|i006bk:"],
+        Balance::Idle(0),
+    ) {
+        Some(ranks) => has_no_room(alloc, &ranks, longest) == Some(true),
+        None => false,
+    }
 }
 
 #[test]
 fn finds_no_room_beside_the_longest_rank(rt: HostRuntime) {
-    let passes = has_no_room(rt.alloc()) == Some(true);
+    let alloc = rt.alloc();
+    let passes = match behind_zeros(alloc, MOST_ZEROS) {
+        Ok(longest) => finds_no_room(alloc, longest.as_str()),
+        Err(_) => false,
+    };
     assert!(rt; passes);
 }
 

@@ -1,4 +1,4 @@
-use Rattle.tracker_ranks.proofs.Given.{ranks_differ}
+use Rattle.tracker_ranks.proofs.Given.{gives_one_rank, ranks_differ}
 use Rattle.tracker_ranks.proofs.Keeping.{numbers_are_ranked}
 use Rattle.tracker_ranks.proofs.laws.ranks_of_issues.Goals as goal
 
@@ -7,3 +7,6 @@ returns-clause-there c = numbers_are_ranked
 
 pub returns-clause-differ : goal.returns-clause-differ
 returns-clause-differ c = ranks_differ
+
+pub returns-clause-given : goal.returns-clause-given
+returns-clause-given c = gives_one_rank
