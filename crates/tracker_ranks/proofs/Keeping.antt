@@ -24,8 +24,16 @@ use Rattle.rank_balancer.proofs.Agreeing.{empty_in_circle, places_keep_the_balan
 use Rattle.rank_balancer.proofs.Keeps.{picks_keep_all}
 use Rattle.rank_balancer.proofs.Planned.{step_is_computed_law}
 use Rattle.tracker_ranks.specs.Ranked.{IsOneOf, IsRanked, AreNumbered, IsNext, rank_for, with_last}
-use Rattle.tracker_ranks.specs.Laws.{GoesLast, NewIssuesGoLast, MovesAlone, MovesChangeOneRank, StartsKeepRanks, StepsKeepRanks, PlansArePicks, NumbersAreRanked}
+use Rattle.tracker_ranks.specs.Laws.{GoesLast, NewIssuesGoLast, MovesAlone, MovesChangeOneRank, StartsKeepRanks, StepsKeepRanks, PlansArePicks, NoIssueIsRanked, NumbersAreRanked}
 use Rattle.tracker_ranks.proofs.Given.{same_in, in_from_rank, gives_one_rank, length-moved}
+
+-- no issue
+pub no_issue_is_ranked : NoIssueIsRanked
+no_issue_is_ranked bucket lt = record {
+  order = record { ranks = λ k d lt. absurd (omega arith); rising = λ i j d less lt. absurd (omega arith); once = λ i j d less lt. absurd (omega arith) };
+  numbered = λ issue. (λ there. absurd (omega (arith, there)), λ one. absurd (omega (arith, one)));
+  agrees = (lt, λ k d lt. absurd (omega arith));
+}
 
 -- issues of these numbers stand in the order
 numbered_in : (ps : List Pair) (b : Balance) (o : Option IssueNo) → IsRanked ps b → IfSome o (λ i. IsOneOf (length ps) i.0) → IfSome o (λ i. IsIn ps i.0)

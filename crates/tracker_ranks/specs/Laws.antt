@@ -1,5 +1,5 @@
 -- What holds of all ranked issues.
-use Rattle.std.specs.Prelude.{ℕ, ◌≡◌, ◌≢◌, ◌+◌, slice_get, List, [], ◌∷◌, ◌++◌, length, true, Option, Some, Ok, IfSome}
+use Rattle.std.specs.Prelude.{ℕ, ◌≡◌, ◌≢◌, ◌<◌, ◌+◌, slice_get, List, [], ◌∷◌, ◌++◌, length, true, Option, Some, Ok, IfSome}
 use Rattle.field_values.specs.declared.numbers.IssueNo.{IssueNo}
 use Rattle.rank_strings.specs.Rank.{RankParts}
 use Rattle.board.specs.declared.place.Place.{Place}
@@ -7,11 +7,16 @@ use Rattle.board.specs.Order.{Pair, IsOrder, rank_in}
 use Rattle.board.specs.Place.{stands_at, AreNamed}
 use Rattle.board.specs.Issues.{issues_in, issues_moved}
 use Rattle.rank_balancer.specs.declared.balance.Balance.{Balance}
+use Rattle.rank_balancer.specs.declared.balance.Balance.TheVariants.{Idle}
 use Rattle.rank_balancer.specs.Balance.{IsMoving, after_start, from_of, to_of}
 use Rattle.rank_balancer.specs.Step.{Move, after_move, after_moves, ArePicks}
 use Rattle.rank_balancer.specs.Planned.{planned}
 use Rattle.tracker_ranks.specs.Loaded.{AreLoaded}
 use Rattle.tracker_ranks.specs.Ranked.{OrderedIssues, IsRanked, AreNumbered, IsNext, rank_for, with_last, balance_moved}
+
+-- where there is no issue, all are ranked, and the balance may be at rest in any bucket
+abbrev pub NoIssueIsRanked : Type 0
+NoIssueIsRanked = (bucket : ℕ) → bucket < 3 → IsRanked [] (Idle bucket)
 
 -- the new issue stands behind all others, which is where its rank puts it
 pub record GoesLast (ps : List Pair) (b : Balance) (issue : IssueNo) (rank : RankParts) : Type 0 where

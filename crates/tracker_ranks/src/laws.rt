@@ -1,8 +1,9 @@
 //! What is proved of all ranked issues. These functions do nothing: each clause is a law.
-ghost use Rattle.tracker_ranks.specs.Laws.{NumbersAreRanked, RanksDiffer, EachMoveGivesOneRank, NewIssuesGoLast, MovesChangeOneRank, StartsKeepRanks, StepsKeepRanks, PlansArePicks, RanksMakeOneOrder, LoadedRanksAreThose};
+ghost use Rattle.tracker_ranks.specs.Laws.{NoIssueIsRanked, NumbersAreRanked, RanksDiffer, EachMoveGivesOneRank, NewIssuesGoLast, MovesChangeOneRank, StartsKeepRanks, StepsKeepRanks, PlansArePicks, RanksMakeOneOrder, LoadedRanksAreThose};
 
 /// Each issue has one rank, which no other one has; a rank that is given to an issue changes no other one's.
 pub fn ranks_of_issues()
+    ensures none { NoIssueIsRanked }
     ensures there { NumbersAreRanked }
     ensures differ { RanksDiffer }
     ensures given { EachMoveGivesOneRank }

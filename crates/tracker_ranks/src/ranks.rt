@@ -1,5 +1,5 @@
 //! All issues of a tracker by rank.
-ghost use Rattle.std.specs.Prelude.{◌≡◌, ◌≤◌, ◌<◌, ◌+◌, [], None, Some, Ok, length, option_map, IfOk, IfSome, IfNone, OnOk, MatchResult};
+ghost use Rattle.std.specs.Prelude.{◌≡◌, ◌≤◌, ◌<◌, ◌+◌, [], None, Some, Ok, length, IfOk, OnOk, OnErr, MatchResult};
 ghost use Rattle.std.specs.Option.{option_copied};
 ghost use Rattle.board.specs.Order.{place_in, rank_in, longest_in};
 ghost use Rattle.board.specs.Moved.{IsRefusalOf};
@@ -117,6 +117,7 @@ impl Ranks {
     pub fn reserve(&mut self) -> Result<(), Memory>
         ensures room { OnOk result (length self.old.order < self.new.room) }
         ensures more { self.old.room ≤ self.new.room }
+        ensures err { OnErr result (self.new ≡ self.old) }
         ensures same { self.new ≡ record self.old { room = self.new.room } }
     {
         self.order.reserve(1)
