@@ -28,10 +28,10 @@ abbrev pub AllowsBucket : Balance → ℕ → Type 0
 AllowsBucket (Idle own) bucket = bucket ≡ own
 AllowsBucket (Moving from to) bucket = (bucket ≡ from) ⊎ (bucket ≡ to)
 
--- the balance is of the circle 0, 1, 2, 0
-abbrev pub IsOfCircle : Balance → Type 0
-IsOfCircle (Idle own) = own < 3
-IsOfCircle (Moving from to) = (from < 3) × (to ≡ next_bucket from)
+-- the buckets are 0, 1 and 2, and a moving balance goes to the next one
+abbrev pub IsBalance : Balance → Type 0
+IsBalance (Idle own) = own < 3
+IsBalance (Moving from to) = (from < 3) × (to ≡ next_bucket from)
 
 -- no issue has two of the pairs, and their numbers are at most this one
 pub record AreApart (ps : List Pair) (most : ℕ) : Type 0 where
