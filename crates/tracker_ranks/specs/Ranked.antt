@@ -44,7 +44,7 @@ pub record IsGiven (ps : List Pair) (b : Balance) (issue : IssueNo) (rank : Rank
   pub named : AreNumbered (length ps) (Some issue) place
   pub given : rank_for ps b (Some issue) place ≡ Ok rank
 
--- the next issue with its rank, which is above all others
+-- the issue is the next one, and the rank puts it behind all others
 pub record IsNext (ps : List Pair) (b : Balance) (issue : IssueNo) (rank : RankParts) : Type 0 where
   pub number : issue.0 ≡ length ps + 1
   pub given : rank_for ps b None Last ≡ Ok rank
