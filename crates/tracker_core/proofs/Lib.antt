@@ -11,5 +11,4 @@ pub mod Ops
 pub mod Sound
 pub mod States
 pub mod Steps
-pub mod Surrounding
 pub mod Weights

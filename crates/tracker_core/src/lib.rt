@@ -16,7 +16,6 @@ mod prepare;
 mod project_key;
 mod rows;
 mod search;
-mod setting;
 mod show;
 mod state;
 mod tick;

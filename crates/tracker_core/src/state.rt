@@ -18,12 +18,12 @@ ghost use Rattle.tracker_machine.specs.Tracker.{IsSettled, IsTracker};
 use crate::issues::Issues;
 use crate::plan::{GroupPlan, IssuePlan, Plan};
 use crate::project_key::count_key;
-use crate::setting::Setting;
 use change_history::Issue;
 use fields::{Memory, Moment, Permission, Project, ProjectNo, Setup, UserNo};
 use jql_bound::Context;
 use std::alloc::Global;
 use std::marker::Model;
+use tracker_setting::Setting;
 
 /// The tracker's state. Contracts see it as the abstract tracker's, and beside it what there is room for.
 pub struct State {
