@@ -1,23 +1,28 @@
-// The issues, found by place and by key, with running totals of their entries and text bytes.
-ghost use Rattle.std.specs.Prelude.{◌≡◌, ◌≤◌, ◌<◌, ◌+◌, ◌-◌, ◌^◌, ◌∷◌, ◌++◌, [], length, map, slice_get, slice_set, option_copied, string_bytes, OnOk, OnErr, IfSome, vec_len, vec_capacity, List, ℕ, Some, None, if◌then◌else◌, sum_by};
+// The issues, found by place and by key, with running totals of their entries and text bytes, and with how many each project has.
+ghost use Rattle.std.specs.Prelude.{◌≡◌, ◌≤◌, ◌<◌, ◌+◌, ◌-◌, ◌^◌, ◌∷◌, ◌++◌, [], length, slice_get, slice_set, option_copied, string_bytes, IfOk, OnOk, OnErr, IfSome, vec_len, vec_capacity, List, ℕ, Some, None, if◌then◌else◌, sum_by};
 ghost use Rattle.std.specs.Option.{option_or};
 ghost use Rattle.std.specs.Str.{bytes_eq};
 ghost use Rattle.std.specs.HashMap.{spare, get_by_text};
 ghost use Rattle.change_history.specs.History.{MayAdd};
-ghost use Rattle.tracker_machine.specs.Checks.{entry_bytes, history_bytes};
-ghost use Rattle.tracker_core.specs.Issues.{place_of, total_entries, total_bytes, with_entries};
+ghost use Rattle.tracker_machine.specs.Known.{place_of_issue};
+ghost use Rattle.tracker_machine.specs.Checks.{entries_kept, bytes_kept, entry_bytes, history_bytes};
+ghost use Rattle.tracker_issues.specs.Counts.{counts_of};
+ghost use Rattle.tracker_issues.specs.Issues.{histories_of, with_entries};
 
 use change_history::{Group, Issue};
-use fields::Memory;
+use fields::{Memory, Project, ProjectNo};
 use std::alloc::Global;
 use std::collections::HashMap;
 use std::marker::Model;
 
-/// The issues by place from 0. Contracts see them as a list, and beside it how many more there is room for.
+/// The issues by place from 0. Contracts see them as a list, and beside it how many more there is room for, and how many each
+/// project has.
 #[derive(Drop)]
 pub struct Issues {
     list: Vec<Issue>,
     by_key: HashMap<String, usize>,
+    // By the projects' places.
+    counts: Vec<u32>,
     entries: usize,
     bytes: u64,
     room: usize,
@@ -25,27 +30,29 @@ pub struct Issues {
 
 impl Model for Issues {
     ghost use Rattle.std.specs.Prelude.{vec_len, vec_capacity};
-    ghost use Rattle.tracker_core.specs.Issues.{Shelf, AreIndexed};
+    ghost use Rattle.tracker_issues.specs.Issues.{Shelf, AreIndexed, histories_of};
 
     ghost Value = { Shelf };
 
-    ghost view = { λ i. record { kept = i.list.items; room = i.room } };
+    ghost view = { λ i. record { kept = i.list.items; room = i.room; counts = i.counts.items } };
 
-    ghost invariant = { λ i. AreIndexed i.list.items i.by_key i.entries i.bytes i.room (vec_len i.list) (vec_capacity i.list) };
+    ghost invariant = { λ i. AreIndexed (histories_of i.list.items) i.by_key i.entries i.bytes i.room (vec_len i.list) (vec_capacity i.list) };
 }
 
 impl Issues {
-    /// No issue.
-    pub fn new(alloc: Global) -> Issues
-        ensures { result ≡ record { kept = []; room = 0 } }
+    /// No issue of these projects.
+    pub fn new(alloc: Global, projects: &[Project]) -> Result<Issues, Memory>
+        ensures { IfOk result (λ issues. issues ≡ record { kept = []; room = 0; counts = counts_of projects.now [] }) }
     {
-        Issues {
+        let counts = no_counts(alloc, projects)?;
+        Ok(Issues {
             list: Vec::new(alloc),
             by_key: HashMap::new(alloc),
+            counts,
             entries: 0,
             bytes: 0,
             room: 0,
-        }
+        })
     }
 
     /// How many issues there are.
@@ -55,16 +62,24 @@ impl Issues {
         self.list.len()
     }
 
+    /// How many issues the project at a place has.
+    pub fn count_in(&self, project: ProjectNo) -> u32
+        requires { project.0 < length self.now.counts }
+        ensures { Some result ≡ slice_get self.now.counts project.0 }
+    {
+        self.counts[usize::from(project.0)]
+    }
+
     /// How many entries all of them have.
     pub fn entries(&self) -> usize
-        ensures { result ≡ total_entries self.now.kept }
+        ensures { result ≡ entries_kept (histories_of self.now.kept) }
     {
         self.entries
     }
 
     /// How many text bytes all of them have.
     pub fn bytes(&self) -> u64
-        ensures { result ≡ total_bytes self.now.kept }
+        ensures { result ≡ bytes_kept (histories_of self.now.kept) }
     {
         self.bytes
     }
@@ -85,7 +100,8 @@ impl Issues {
 
     /// The place of the issue of that key, in exact letters.
     pub fn place_of(&self, key: &str) -> Option<usize>
-        ensures { result ≡ place_of key.now self.now.kept }
+        ensures place { result ≡ place_of_issue key.now (histories_of self.now.kept) }
+        ensures there { IfSome result (λ place. place < length self.now.kept) }
     {
         self.by_key.get(key).copied()
     }
@@ -93,6 +109,7 @@ impl Issues {
     /// Makes room for one more issue, or leaves all as it is.
     pub fn reserve(&mut self) -> Result<(), Memory>
         ensures kept { self.new.kept ≡ self.old.kept }
+        ensures counts { self.new.counts ≡ self.old.counts }
         ensures ok { OnOk result (self.new ≡ record self.old { room = 1 }) }
         ensures err { OnErr result (self.new ≡ self.old) }
     {
@@ -102,18 +119,23 @@ impl Issues {
         Ok(())
     }
 
-    /// Puts an issue at the end, whose key's text and text bytes are given too. It takes no memory.
-    pub fn push(&mut self, key: String, issue: Issue, bytes: u64)
+    /// Puts an issue of a project at the end, whose key's text and text bytes are given too. It takes no memory.
+    pub fn push(&mut self, project: ProjectNo, key: String, issue: Issue, bytes: u64)
         requires room { 1 ≤ self.old.room }
+        requires there { project.0 < length self.old.counts }
+        requires countable { IfSome (slice_get self.old.counts project.0) (λ n. n + 1 < 2 ^ 32) }
         requires key { string_bytes key ≡ issue.history.key }
         requires bytes { bytes ≡ history_bytes issue.history }
-        requires few { total_entries self.old.kept + length issue.history.entries < 2 ^ 64 }
-        requires light { total_bytes self.old.kept + bytes < 2 ^ 64 }
+        requires few { entries_kept (histories_of self.old.kept) + length issue.history.entries < 2 ^ 64 }
+        requires light { bytes_kept (histories_of self.old.kept) + bytes < 2 ^ 64 }
         ensures kept { self.new.kept ≡ self.old.kept ++ issue ∷ [] }
+        ensures counts { IfSome (slice_get self.old.counts project.0) (λ n.
+            self.new.counts ≡ slice_set self.old.counts project.0 (n + 1)) }
         ensures room { self.new.room ≡ self.old.room - 1 }
     {
         let place = self.list.len();
         index_key(&mut self.by_key, key, place);
+        count_one(&mut self.counts, project);
         self.room -= 1;
         self.entries += issue.entries();
         self.bytes += bytes;
@@ -127,7 +149,8 @@ impl Issues {
             self.new ≡ record self.old { kept = slice_set self.old.kept place (record i { room = n }) })) }
         ensures err { OnErr result (self.new ≡ self.old) }
         ensures room { self.new.room ≡ self.old.room }
-        ensures histories { map (λ i. i.history) self.new.kept ≡ map (λ i. i.history) self.old.kept }
+        ensures counts { self.new.counts ≡ self.old.counts }
+        ensures histories { histories_of self.new.kept ≡ histories_of self.old.kept }
     {
         self.list[place].reserve(n)
     }
@@ -135,19 +158,40 @@ impl Issues {
     /// Adds a group, whose text bytes are given too, to the issue at a place. It takes no memory.
     pub fn add(&mut self, place: usize, group: Group, bytes: u64)
         requires there { place < length self.old.kept }
-        requires few { total_entries self.old.kept + length group.entries < 2 ^ 64 }
+        requires few { entries_kept (histories_of self.old.kept) + length group.entries < 2 ^ 64 }
         requires bytes { bytes ≡ sum_by entry_bytes group.entries }
-        requires light { total_bytes self.old.kept + bytes < 2 ^ 64 }
+        requires light { bytes_kept (histories_of self.old.kept) + bytes < 2 ^ 64 }
         requires group { IfSome (slice_get self.old.kept place) (λ i.
             (length group.entries ≤ i.room) × MayAdd i.history group.change group.at group.author group.entries) }
         ensures kept { IfSome (slice_get self.old.kept place) (λ i.
             self.new.kept ≡ slice_set self.old.kept place (with_entries i group.entries)) }
         ensures room { self.new.room ≡ self.old.room }
+        ensures counts { self.new.counts ≡ self.old.counts }
     {
         self.entries += group.entries.as_slice().len();
         self.bytes += bytes;
         self.list[place].add(group);
     }
+}
+
+// How many issues each project has at first.
+fn no_counts(alloc: Global, projects: &[Project]) -> Result<Vec<u32>, Memory>
+    ensures { IfOk result (λ counts. counts.items ≡ counts_of projects.now []) }
+{
+    let mut counts = Vec::new(alloc);
+    for _ in projects {
+        counts.push(0)?;
+    }
+    Ok(counts)
+}
+
+// One issue more of the project at a place.
+fn count_one(counts: &mut [u32], project: ProjectNo)
+    requires there { project.0 < length counts.old }
+    requires countable { IfSome (slice_get counts.old project.0) (λ n. n + 1 < 2 ^ 32) }
+    ensures { IfSome (slice_get counts.old project.0) (λ n. counts.new ≡ slice_set counts.old project.0 (n + 1)) }
+{
+    counts[usize::from(project.0)] += 1;
 }
 
 // Has the key lead to a place, unless it leads to one before.

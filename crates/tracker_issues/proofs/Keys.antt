@@ -1,13 +1,13 @@
 -- How issues are found by key.
-use Rattle.std.proofs.Common.{◌≡◌, ℕ, zero, suc, List, [], ◌∷◌, ◌++◌, length, slice_get, set, map, Bool, true, false, Option, Some, None, option_map, String, Global, string_bytes, string_eq, bytes_eq, unwrap_or, IfSome, refl, sym, ap, ap₂, ◌∙◌, cond, ◌<◌, arith}
+use Rattle.std.proofs.Common.{◌≡◌, ℕ, zero, suc, List, [], ◌∷◌, ◌++◌, length, slice_get, set, Bool, true, false, Option, Some, None, option_map, String, Global, string_bytes, string_eq, bytes_eq, IfSome, refl, sym, ap, ◌∙◌, cond, ◌<◌, arith}
 use Rattle.std.specs.Prelude.{if◌then◌else◌}
 use Rattle.std.specs.Option.{option_or, is_some}
 use Rattle.std.specs.HashMap.{HashMap, get, get_by_text}
 use Rattle.std.specs.Map.{lookup, update}
 use Rattle.std.proofs.lemmas.Slice.Eq.{bytes_eq-Decides}
 use Rattle.change_history.specs.History.{RoomyHistory, History}
-use Rattle.tracker_core.specs.Issues.{place_of}
 use Rattle.tracker_machine.specs.Known.{place_of_issue}
+use Rattle.tracker_issues.specs.Issues.{histories_of}
 
 -- a key that is found stands in the table
 found_at : (bytes : List ℕ) (x : String Global × ℕ) (rest : Option ℕ) (v : ℕ) (b : Bool) → bytes_eq bytes (string_bytes x.0) ≡ b → cond b (Some x.1) rest ≡ Some v
@@ -77,36 +77,19 @@ append_at true c o more n is = refl
 append_at false c o more n is = ap (λ p. option_map suc p) is ∙ shift o c n
 
 -- an issue at the end is found where no other has its key
-pub place_of-append : (name : List ℕ) (is : List RoomyHistory) (i : RoomyHistory) → place_of name (is ++ i ∷ []) ≡ option_or (place_of name is) (if bytes_eq i.history.key name then Some (length is) else None)
-place_of-append name [] i = refl
-place_of-append name (j ∷ is) i = append_at (bytes_eq j.history.key name) (bytes_eq i.history.key name) (place_of name is) (place_of name (is ++ i ∷ [])) (length is) (place_of-append name is i)
+pub place_of_issue-append : (name : List ℕ) (hs : List History) (h : History) → place_of_issue name (hs ++ h ∷ []) ≡ option_or (place_of_issue name hs) (if bytes_eq h.key name then Some (length hs) else None)
+place_of_issue-append name [] h = refl
+place_of_issue-append name (g ∷ hs) h = append_at (bytes_eq g.key name) (bytes_eq h.key name) (place_of_issue name hs) (place_of_issue name (hs ++ h ∷ [])) (length hs) (place_of_issue-append name hs h)
 
-abbrev key_of : Option RoomyHistory → List ℕ
+abbrev key_of : Option History → List ℕ
 key_of None = []
-key_of (Some i) = i.history.key
+key_of (Some h) = h.key
 
 -- an issue in place of one of the same key
-pub place_of-set : (name : List ℕ) (is : List RoomyHistory) (k : ℕ) (i j : RoomyHistory) → slice_get is k ≡ Some i → j.history.key ≡ i.history.key → place_of name (set is k j) ≡ place_of name is
-place_of-set name [] k i j at same = cc
-place_of-set name (x ∷ is) zero i j at same = ap (λ key. if bytes_eq key name then Some 0 else option_map suc (place_of name is)) (same ∙ sym (ap key_of at))
-place_of-set name (x ∷ is) (suc k) i j at same = ap (λ o. if bytes_eq x.history.key name then Some 0 else option_map suc o) (place_of-set name is k i j at same)
-
--- the issues' histories are found alike
-pub place_of-histories : (name : List ℕ) (is : List RoomyHistory) → place_of name is ≡ place_of_issue name (map (λ i. i.history) is)
-place_of-histories name [] = refl
-place_of-histories name (i ∷ is) = ap (λ o. if bytes_eq i.history.key name then Some 0 else option_map suc o) (place_of-histories name is)
-
--- ---- an issue at a place
-
-pub some_is : (a b : RoomyHistory) → Some a ≡ Some b → a ≡ b
-some_is a b e = ap (λ o. unwrap_or o a) e
-
-pub if_found : (o : Option RoomyHistory) (P : RoomyHistory → Type 0) → ((i : RoomyHistory) → o ≡ Some i → P i) → IfSome o P
-if_found None P f = tt
-if_found (Some i) P f = f i refl
-
-pub kept_is : (a : RoomyHistory) (h : History) (n : ℕ) → a.history ≡ h → a.room ≡ n → a ≡ record { history = h; room = n }
-kept_is a h n e f = ap₂ (λ h n. record { history = h; room = n }) e f
+pub place_of_issue-set : (name : List ℕ) (hs : List History) (k : ℕ) (old new : History) → slice_get hs k ≡ Some old → new.key ≡ old.key → place_of_issue name (set hs k new) ≡ place_of_issue name hs
+place_of_issue-set name [] k old new at same = cc
+place_of_issue-set name (h ∷ hs) zero old new at same = ap (λ key. if bytes_eq key name then Some 0 else option_map suc (place_of_issue name hs)) (same ∙ sym (ap key_of at))
+place_of_issue-set name (h ∷ hs) (suc k) old new at same = ap (λ o. if bytes_eq h.key name then Some 0 else option_map suc o) (place_of_issue-set name hs k old new at same)
 
 within_at : (b : Bool) (o : Option ℕ) (n : ℕ) → IfSome o (λ place. place < n) → IfSome (if b then Some 0 else option_map suc o) (λ place. place < suc n)
 within_at true o n more = omega arith
@@ -114,6 +97,6 @@ within_at false None n more = tt
 within_at false (Some k) n more = omega (arith, more)
 
 -- an issue that is found is there
-pub place_within : (name : List ℕ) (hs : List History) → IfSome (place_of_issue name hs) (λ place. place < length hs)
+pub place_within : (name : List ℕ) (is : List RoomyHistory) → IfSome (place_of_issue name (histories_of is)) (λ place. place < length is)
 place_within name [] = tt
-place_within name (h ∷ hs) = within_at (bytes_eq h.key name) (place_of_issue name hs) (length hs) (place_within name hs)
+place_within name (i ∷ is) = within_at (bytes_eq i.history.key name) (place_of_issue name (histories_of is)) (length is) (place_within name is)

@@ -1,6 +1,6 @@
 use Rattle.std.proofs.Common.{◌∙◌, arith, rules}
-use Rattle.tracker_core.proofs.Keys.{same_found}
-use Rattle.tracker_core.proofs.issues.Issues.reserve.Goals as goal
+use Rattle.tracker_issues.proofs.Keys.{same_found}
+use Rattle.tracker_issues.proofs.issues.Issues.reserve.Goals as goal
 
 pub invariant_of-self-2 : goal.invariant_of-self-2
 invariant_of-self-2 c = record {

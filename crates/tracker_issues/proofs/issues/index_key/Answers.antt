@@ -2,8 +2,8 @@ use Rattle.std.proofs.Common.{◌≡◌, ◌∙◌, string_bytes, rules, Some, f
 use Rattle.std.specs.Option.{is_some}
 use Rattle.std.specs.HashMap.{get_by_text}
 use Rattle.std.proofs.lemmas.Map.Text.{hash_map_updates_text}
-use Rattle.tracker_core.proofs.Keys.{put_found}
-use Rattle.tracker_core.proofs.issues.index_key.Goals as goal
+use Rattle.tracker_issues.proofs.Keys.{put_found}
+use Rattle.tracker_issues.proofs.issues.index_key.Goals as goal
 
 pub returns-clause-found : goal.returns-clause-found
 returns-clause-found c = λ name.
