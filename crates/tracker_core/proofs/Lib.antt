@@ -2,14 +2,9 @@ pub mod Counting
 pub mod Desks
 pub mod Fitting
 pub mod Grouping
-pub mod Histories
 pub mod Holding
-pub mod Keys
 pub mod Means
 pub mod Named
 pub mod Ops
-pub mod Sound
 pub mod States
 pub mod Steps
-pub mod Surrounding
-pub mod Weights

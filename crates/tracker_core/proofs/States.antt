@@ -1,31 +1,39 @@
 -- What the state keeps true of itself, after each change.
-use Rattle.std.proofs.Common.{◌≡◌, ℕ, zero, suc, ◌+◌, ◌<◌, ◌≤◌, List, [], ◌∷◌, ◌++◌, length, slice_get, set, map, bytes_eq, Option, Some, None, refl, sym, ap, ◌∙◌, subst, arith, inl}
-use Rattle.std.specs.Prelude.{if◌then◌else◌, sum_by}
-use Rattle.std.proofs.lemmas.List.{length-append, length-set}
-use Rattle.std.proofs.lemmas.List.Sums.{sum_by_push}
-use Rattle.std.proofs.lemmas.List.Elements.{All-push, All-set}
-use Rattle.std.proofs.lemmas.Option.{get_or_from_slice_get}
-use Rattle.std.proofs.Math.Seq.{map-set_same}
+use Rattle.std.proofs.Common.{◌≡◌, ℕ, ◌+◌, ◌<◌, ◌≤◌, List, [], ◌∷◌, ◌++◌, length, slice_get, set, bytes_eq, Some, IfSome, refl, sym, ap, ◌∙◌, arith}
+use Rattle.std.specs.Prelude.{sum_by}
 use Rattle.field_values.specs.declared.numbers.UserNo.{UserNo}
-use Rattle.field_values.specs.Parts.{Parts}
 use Rattle.change_history.specs.declared.entry.Entry.{Entry}
 use Rattle.change_history.specs.History.{History, MayAdd}
+use Rattle.fields.specs.Sound.{IsSound}
 use Rattle.fields.specs.SetupParts.{names_in}
 use Rattle.tracker_machine.specs.Machine.{Machine}
 use Rattle.tracker_machine.specs.Effect.{with_issue}
-use Rattle.fields.specs.Naming.{name_at, key_of}
+use Rattle.fields.specs.Naming.{name_at}
 use Rattle.tracker_machine.specs.Checks.{entries_kept, bytes_kept, entry_bytes}
-use Rattle.tracker_core.specs.State.{counts_of, with_key, IsState}
+use Rattle.tracker_machine.specs.Known.{project_keys, project_of, issues_of, next_key}
+use Rattle.tracker_core.specs.State.{IsState}
 use Rattle.tracker_machine.specs.Tracker.{AllEntriesFit, AllSmall, MayOpen}
 use Rattle.tracker_machine.proofs.Chronicle.{few_groups}
-use Rattle.tracker_core.proofs.Sound.{counts_of-push, counts_of-set}
+use Rattle.tracker_machine.proofs.Settled.{from_found}
 use Rattle.tracker_machine.proofs.Tracker.{tracker_push, tracker_add}
+use Rattle.tracker_issues.specs.Counts.{counts_of}
+use Rattle.tracker_issues.proofs.Counts.{counts_of-push, counts_of-set, count_here}
+use Rattle.tracker_issues.proofs.Projects.{only_project}
 
-pub state_push : (m : Machine) (counts new : List ℕ) (h : History) → IsState m counts → MayOpen m h → new ≡ with_key (counts_of m.setup.project m.histories) m.setup.project h.key → IsState (with_issue m h) new
-state_push m counts new h is may counted =
+-- an issue comes, of the project at a place
+pub state_push : (m : Machine) (counts new : List ℕ) (h : History) (place : ℕ) → IsSound m.setup → IsState m counts → MayOpen m h → place < length m.setup.project
+    → h.key ≡ next_key m (name_at (project_keys m.setup) place) → IfSome (slice_get counts place) (λ n. new ≡ set counts place (n + 1)) → IsState (with_issue m h) new
+state_push m counts new h place sound is may there key count =
     let tracker = tracker_push m h is.tracker may in
+    let ps = m.setup.project in
+    let hs = m.histories in
+    let number = issues_of (name_at (project_keys m.setup) place) hs in
+    let here : slice_get (counts_of ps hs) place ≡ Some number = count_here ps hs place there in
+    let more : new ≡ set counts place (number + 1) =
+    from_found (slice_get counts place) number (λ n. new ≡ set counts place (n + 1)) (ap (λ (ns : List ℕ). slice_get ns place) is.counted ∙ here) count in
     record {
-      counted = counted ∙ counts_of-push m.setup.project m.histories h;
+      counted = more ∙ ap (λ (ns : List ℕ). set ns place (number + 1)) is.counted
+          ∙ counts_of-push ps hs h place number (λ j p at. ap (λ k. bytes_eq (project_of k) p.key) key ∙ only_project m.setup sound place (number + 1) there j p at) here;
       few_changes = omega (arith, tracker.numbered, tracker.few_issues, tracker.few_entries, few_groups (m.histories ++ h ∷ []));
       tracker = tracker;
     }

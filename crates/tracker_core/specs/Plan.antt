@@ -1,5 +1,5 @@
 -- What a prepared call has ready.
-use Rattle.std.specs.Prelude.{◌≡◌, ◌≢◌, ◌≤◌, ℕ, List, length, sum_by, string_bytes, slice_get, IfSome, Option, Some, None, Result, Ok, Err}
+use Rattle.std.specs.Prelude.{◌≡◌, ◌≢◌, ◌≤◌, ◌<◌, ℕ, List, length, sum_by, string_bytes, slice_get, IfSome, Option, Some, None, Result, Ok, Err}
 use Rattle.tracker_calls.specs.declared.reply.Answer.{Answer}
 use Rattle.tracker_calls.specs.declared.reply.Refusal.{Refusal}
 use Rattle.tracker_calls.specs.declared.reply.Refusal.TheVariants as refusal
@@ -13,6 +13,8 @@ use Rattle.change_history.specs.declared.entry.Group.{Group}
 use Rattle.change_history.specs.History.{History}
 use Rattle.tracker_keeper.specs.declared.row.RowOp.TheVariants.{Put}
 use Rattle.tracker_keeper.specs.Bodies.{present_data, body_text}
+use Rattle.fields.specs.Naming.{name_at}
+use Rattle.tracker_machine.specs.Known.{project_keys, next_key}
 use Rattle.tracker_machine.specs.Checks.{history_bytes, entry_bytes}
 use Rattle.tracker_machine.specs.Effect.{Effect, IsAllowed}
 use Rattle.tracker_machine.specs.Effect.Effect.{NewMoment, NewIssue, NewGroup}
@@ -29,7 +31,7 @@ use Rattle.tracker_core.specs.declared.plan.Plan.{Plan}
 use Rattle.tracker_core.specs.declared.plan.Plan.TheVariants as plans
 use Rattle.tracker_core.specs.declared.plan.Prepared.{Prepared}
 use Rattle.tracker_core.specs.declared.plan.Prepared.TheVariants.{Tell, Make}
-use Rattle.tracker_core.specs.State.{Held, counts_of, with_key}
+use Rattle.tracker_core.specs.State.{Held}
 
 abbrev pub effect_of : Plan → Effect
 effect_of (plans.Moment to) = NewMoment to
@@ -41,11 +43,12 @@ abbrev pub group_answer : GroupCall → List ℕ → Option ℕ → Answer
 group_answer call.Edit issue number = edit_answer issue number
 group_answer call.Transition issue number = transition_answer issue number
 
--- there is room for the issue, and what is kept beside it is its own
+-- there is room for the issue, its key is the next one of its project, and what is kept beside it is its own
 pub record IssueFits (s : Held) (new : IssuePlan) : Type 0 where
   pub room : 1 ≤ s.room
   pub key : string_bytes new.key ≡ new.issue.history.key
-  pub counts : new.counts.items ≡ with_key (counts_of s.machine.setup.project s.machine.histories) s.machine.setup.project new.issue.history.key
+  pub there : new.project.0 < length s.machine.setup.project
+  pub next : new.issue.history.key ≡ next_key s.machine (name_at (project_keys s.machine.setup) new.project.0)
   pub bytes : new.bytes ≡ history_bytes new.issue.history
 
 -- the same of a group

@@ -12,7 +12,6 @@ ghost use Rattle.tracker_core.specs.Check.{Checks};
 ghost use Rattle.tracker_core.specs.Plan.{IsPrepared, issue_row};
 ghost use Rattle.change_history.specs.History.{opening_value};
 ghost use Rattle.tracker_keeper.specs.Forms.{are_opening};
-ghost use Rattle.tracker_core.specs.State.{with_key, counts_of};
 ghost use Rattle.tracker_machine.specs.Tracker.{AreNamed, AreSmall};
 
 use crate::check::{
@@ -141,8 +140,7 @@ fn new_issue(
     requires listed { AreSmall (filled changes.now) → are_opening (names_in state.now.machine.setup) (filled changes.now) ≡ true }
     ensures history { IfOk result (λ r. r.0.issue.history ≡ opened state.now.machine caller.0 (name_at (project_keys state.now.machine.setup) project.0) (filled changes.now)) }
     ensures key { IfOk result (λ r. string_bytes r.0.key ≡ next_key state.now.machine (name_at (project_keys state.now.machine.setup) project.0)) }
-    ensures counts { IfOk result (λ r. r.0.counts.items ≡ with_key (counts_of state.now.machine.setup.project state.now.machine.histories) state.now.machine.setup.project
-        (next_key state.now.machine (name_at (project_keys state.now.machine.setup) project.0))) }
+    ensures project { IfOk result (λ r. r.0.project ≡ project) }
     ensures bytes { IfOk result (λ r. r.0.bytes ≡ history_bytes r.0.issue.history) }
     ensures light { IfOk result (λ r. r.0.bytes ≤ 200_000) }
     ensures listed { IfOk result (λ r. are_opening (names_in state.now.machine.setup) (filled changes.now) ≡ true) }
@@ -154,12 +152,12 @@ fn new_issue(
     };
     let key = next_key(alloc, state, project)?;
     let row = row_of(alloc, state, caller, &key, opening.as_slice())?;
-    let (text, counts) = counted(alloc, state, key.as_str())?;
+    let text = String::from_str(alloc, key.as_str())?;
     let issue = opened(alloc, state, caller, key, opening)?;
     let new = IssuePlan {
         issue,
+        project,
         key: text,
-        counts,
         bytes,
     };
     Ok((new, row))
@@ -216,16 +214,6 @@ fn opened(
     let no = next_no(state);
     let change = state.next_change();
     Issue::open(alloc, no, key, change, state.moment(), caller, opening)
-}
-
-// The text of an issue's key, and how many issues each project has with it.
-fn counted(alloc: Global, state: &State, key: &str) -> Result<(String, Vec<u32>), Memory>
-    ensures key { IfOk result (λ r. string_bytes r.0 ≡ key.now) }
-    ensures counts { IfOk result (λ r. r.1.items ≡ with_key (counts_of state.now.machine.setup.project state.now.machine.histories) state.now.machine.setup.project key.now) }
-{
-    let counts = state.counts_with(alloc, key)?;
-    let key = String::from_str(alloc, key)?;
-    Ok((key, counts))
 }
 
 // The key of the project's next issue.

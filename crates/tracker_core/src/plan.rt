@@ -1,7 +1,7 @@
 // What is made ready before anything is kept.
 
 use change_history::{Group, Issue};
-use fields::Moment;
+use fields::{Moment, ProjectNo};
 use tracker_calls::Answer;
 use tracker_keeper::RowOp;
 
@@ -9,10 +9,10 @@ use tracker_keeper::RowOp;
 #[derive(Drop)]
 pub struct IssuePlan {
     pub issue: Issue,
+    /// Its project.
+    pub project: ProjectNo,
     /// The text of its key.
     pub key: String,
-    /// How many issues each project has with it.
-    pub counts: Vec<u32>,
     /// Its text bytes.
     pub bytes: u64,
 }

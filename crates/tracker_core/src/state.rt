@@ -1,4 +1,4 @@
-ghost use Rattle.std.specs.Prelude.{◌≡◌, ◌≤◌, ◌<◌, ◌+◌, [], ◌∷◌, ◌++◌, true, length, map, slice_get, slice_set, option_map, string_bytes, IfOk, IfSome, OnOk, OnErr, Some, sum_by};
+ghost use Rattle.std.specs.Prelude.{◌≡◌, ◌≤◌, ◌<◌, ◌+◌, length, map, slice_get, slice_set, option_map, IfOk, IfSome, OnOk, OnErr, Some};
 ghost use Rattle.field_forms.specs.Names.{place_named};
 ghost use Rattle.tracker_machine.specs.Effect.{applied, IsAllowed};
 ghost use Rattle.tracker_machine.specs.Effect.Effect.{NewMoment, NewIssue, NewGroup};
@@ -12,18 +12,16 @@ ghost use Rattle.tracker_machine.specs.Transition.{transition_names};
 ghost use Rattle.fields.specs.Naming.{name_at};
 ghost use Rattle.tracker_machine.specs.Known.{project_keys, issues_of, place_of_issue};
 ghost use Rattle.tracker_machine.specs.Checks.{entries_kept, bytes_kept, entry_bytes, history_bytes};
-ghost use Rattle.tracker_core.specs.State.{counts_of, with_key};
 ghost use Rattle.tracker_machine.specs.Tracker.{IsSettled, IsTracker};
 
-use crate::issues::Issues;
 use crate::plan::{GroupPlan, IssuePlan, Plan};
-use crate::project_key::count_key;
-use crate::setting::Setting;
 use change_history::Issue;
-use fields::{Memory, Moment, Permission, Project, ProjectNo, Setup, UserNo};
+use fields::{Memory, Moment, Permission, ProjectNo, Setup, UserNo};
 use jql_bound::Context;
 use std::alloc::Global;
 use std::marker::Model;
+use tracker_issues::Issues;
+use tracker_setting::Setting;
 
 /// The tracker's state. Contracts see it as the abstract tracker's, and beside it what there is room for.
 pub struct State {
@@ -31,8 +29,6 @@ pub struct State {
     moment: Moment,
     change: u64,
     issues: Issues,
-    // How many issues each project has.
-    counts: Vec<u32>,
 }
 
 // Written by hand, so that whoever lets one go makes one call, and its proof takes one step there.
@@ -43,7 +39,6 @@ impl Drop for State {
             moment: _,
             change: _,
             issues: _,
-            counts: _,
         } = self;
     }
 }
@@ -57,7 +52,7 @@ impl Model for State {
 
     ghost view = { λ s. record { machine = record { text = s.setting.setup.text; setup = parts s.setting.setup; moment = s.moment; change = s.change; histories = map (λ i. i.history) s.issues.kept }; room = s.issues.room; rooms = map (λ i. i.room) s.issues.kept } };
 
-    ghost invariant = { λ s. IsState (record { text = s.setting.setup.text; setup = parts s.setting.setup; moment = s.moment; change = s.change; histories = map (λ i. i.history) s.issues.kept }) s.counts.items };
+    ghost invariant = { λ s. IsState (record { text = s.setting.setup.text; setup = parts s.setting.setup; moment = s.moment; change = s.change; histories = map (λ i. i.history) s.issues.kept }) s.issues.counts };
 }
 
 impl State {
@@ -65,14 +60,13 @@ impl State {
     pub fn opening(alloc: Global, setup: Setup) -> Result<State, Memory>
         ensures { IfOk result (λ state. state.machine ≡ opening setup.text (parts setup)) }
     {
-        let counts = no_counts(alloc, setup.project.as_slice())?;
+        let issues = Issues::new(alloc, setup.project.as_slice())?;
         let setting = Setting::of(alloc, setup)?;
         Ok(State {
             setting,
             moment: Moment::first(),
             change: 0,
-            issues: Issues::new(alloc),
-            counts,
+            issues,
         })
     }
 
@@ -200,7 +194,7 @@ impl State {
         ensures count { result ≡ issues_of (name_at (project_keys self.now.machine.setup) project.0) self.now.machine.histories }
         ensures few { result ≤ 50_000 }
     {
-        count_at(&self.counts, project)
+        self.issues.count_in(project)
     }
 
     /// The key of the project at a place, or nothing where there is none.
@@ -217,19 +211,6 @@ impl State {
             Some(project) => project.key.as_str(),
             None => "",
         }
-    }
-
-    /// How many issues each project has, with one more of that key.
-    pub fn counts_with(&self, alloc: Global, key: &str) -> Result<Vec<u32>, Memory>
-        ensures { IfOk result (λ counts. counts.items
-            ≡ with_key (counts_of self.now.machine.setup.project self.now.machine.histories) self.now.machine.setup.project key.now) }
-    {
-        count_key(
-            alloc,
-            &self.counts,
-            self.setting.setup.project.as_slice(),
-            key,
-        )
     }
 
     /// Makes room for one more issue, or leaves all as it is. There is room for as many entries as before.
@@ -285,8 +266,7 @@ impl State {
         ensures { self.new.machine ≡ applied (NewIssue new.issue.history) self.old.machine }
     {
         self.change += 1;
-        self.counts = new.counts;
-        self.issues.push(new.key, new.issue, new.bytes);
+        self.issues.push(new.project, new.key, new.issue, new.bytes);
     }
 
     // Adds a group to the issue at its place.
@@ -299,22 +279,4 @@ impl State {
         self.change += 1;
         self.issues.add(new.place, new.group, new.bytes);
     }
-}
-
-// How many issues each project has at first.
-fn no_counts(alloc: Global, projects: &[Project]) -> Result<Vec<u32>, Memory>
-    ensures { IfOk result (λ counts. counts.items ≡ counts_of projects.now []) }
-{
-    let mut counts = Vec::new(alloc);
-    for _ in projects {
-        counts.push(0)?;
-    }
-    Ok(counts)
-}
-
-fn count_at(counts: &[u32], project: ProjectNo) -> u32
-    requires { project.0 < length counts.now }
-    ensures { Some result ≡ slice_get counts.now project.0 }
-{
-    counts[usize::from(project.0)]
 }

@@ -1,16 +1,16 @@
-use Rattle.std.proofs.Common.{◌≡◌, ◌≤◌, ◌+◌, ◌∙◌, not, [], ◌∷◌, ap, ap₂, sym, subst, refl, arith}
+use Rattle.std.proofs.Common.{◌≡◌, ◌≤◌, ◌<◌, ◌+◌, length, ◌∙◌, not, [], ◌∷◌, ap, ap₂, sym, subst, refl, arith}
+use Rattle.field_values.specs.declared.numbers.ProjectNo.{ProjectNo}
 use Rattle.change_history.specs.History.{History}
 use Rattle.workflow.specs.Same.{is_empty}
 use Rattle.fields.specs.SetupParts.{names_in}
 use Rattle.fields.specs.Naming.{name_at}
 use Rattle.tracker_machine.specs.Machine.{Machine}
-use Rattle.tracker_machine.specs.Known.{project_keys}
+use Rattle.tracker_machine.specs.Known.{project_keys, next_key}
 use Rattle.tracker_machine.specs.Checks.{bytes_kept, history_bytes}
 use Rattle.tracker_machine.specs.Create.{opened, filled}
 use Rattle.tracker_machine.specs.Tracker.{MayOpen}
 use Rattle.tracker_keeper.specs.declared.row.RowOp.TheVariants.{Put}
 use Rattle.tracker_core.specs.Plan.{present_op}
-use Rattle.tracker_core.specs.State.{counts_of, with_key}
 use Rattle.tracker_core.proofs.Fitting.{fits_filter}
 use Rattle.tracker_core.proofs.Means.{issue_ready}
 use Rattle.tracker_core.proofs.create.open.Goals as goal
@@ -45,8 +45,10 @@ returns-clause-prepared c =
     (record {
       room = c.in-Ok-reserve_issue.ensures.room;
       key = c.in-Ok.ensures.key ∙ sym key;
-      counts = subst (λ (n : Machine). new.counts.items ≡ with_key (counts_of n.setup.project n.histories) n.setup.project new.issue.history.key) (sym same)
-          (subst (λ k. new.counts.items ≡ with_key (counts_of m.setup.project m.histories) m.setup.project k) (sym key) c.in-Ok.ensures.counts);
+      there = subst (λ (p : ProjectNo). p.0 < length s.machine.setup.project) (sym c.in-Ok.ensures.project)
+          (subst (λ (n : Machine). c.args.project.0 < length n.setup.project) (sym same) c.requires.there);
+      next = subst (λ (p : ProjectNo). new.issue.history.key ≡ next_key s.machine (name_at (project_keys s.machine.setup) p.0)) (sym c.in-Ok.ensures.project)
+          (subst (λ (n : Machine). new.issue.history.key ≡ next_key n (name_at (project_keys n.setup) c.args.project.0)) (sym same) key);
       bytes = c.in-Ok.ensures.bytes;
     })
     (subst (λ r. c.in-Ok-row_ops.rows.items ≡ present_op (m.change + 1) m.moment ∷ Put r ∷ []) c.in-Ok.ensures.row

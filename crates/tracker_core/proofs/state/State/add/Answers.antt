@@ -1,4 +1,4 @@
-use Rattle.std.proofs.Common.{◌≡◌, ◌++◌, ◌+◌, ◌<◌, List, length, map, slice_get, set, Some, ap, sym, subst, ◌∙◌}
+use Rattle.std.proofs.Common.{◌≡◌, ◌++◌, ◌+◌, ◌<◌, List, slice_get, set, Some, ap, sym, subst, ◌∙◌}
 use Rattle.std.proofs.lemmas.List.{length-map}
 use Rattle.std.specs.Option.{option_map_or}
 use Rattle.change_history.specs.History.{RoomyHistory, History, MayAdd}
@@ -6,10 +6,10 @@ use Rattle.tracker_machine.specs.Machine.{Machine}
 use Rattle.tracker_machine.specs.Effect.{applied, IsAllowed, longer, with_group}
 use Rattle.tracker_machine.specs.Tracker.{MayGroup}
 use Rattle.tracker_machine.proofs.Settled.{at_place, from_found}
-use Rattle.tracker_core.specs.Issues.{with_entries}
+use Rattle.tracker_issues.specs.Issues.{histories_of, with_entries}
+use Rattle.tracker_issues.proofs.Histories.{histories_set, history_at}
 use Rattle.tracker_core.specs.State.{Held, IsState}
 use Rattle.tracker_core.specs.contracts.state.State.{the_view}
-use Rattle.tracker_core.proofs.Sound.{histories_set, history_at}
 use Rattle.tracker_core.proofs.States.{state_add}
 use Rattle.tracker_core.proofs.state.State.add.Goals as goal
 
@@ -27,10 +27,11 @@ invariant_of-self c =
     let at : slice_get m.histories place ≡ Some i.history = history_at kept place i found.1 in
     let may : MayAdd i.history group.change group.at group.author es = from_found (slice_get m.histories place) i.history (λ h. MayAdd h group.change group.at group.author es) at allowed.group in
     let may_now = subst (λ n. MayAdd i.history n m.moment group.author es) allowed.change (subst (λ n. MayAdd i.history group.change n group.author es) allowed.at may) in
-    let histories : map (λ (i : RoomyHistory). i.history) c.add.new.self.kept ≡ set m.histories place (record i.history { entries = i.history.entries ++ es }) =
-    ap (map (λ (i : RoomyHistory). i.history)) (from_found (slice_get kept place) i (λ (i : RoomyHistory). c.add.new.self.kept ≡ set kept place (with_entries i es)) found.1 c.add.ensures.kept) ∙ histories_set kept place i es in
-    subst (λ (hs : List History). IsState (record m { change = m.change + 1; histories = hs }) c.self.inside.counts.items) (sym histories)
-    (state_add m c.self.inside.counts.items place i.history group.author es c.self.invariant at may_now allowed.fitting allowed.small allowed.author allowed.few allowed.light)
+    let histories : histories_of c.add.new.self.kept ≡ set m.histories place (record i.history { entries = i.history.entries ++ es }) =
+    ap histories_of (from_found (slice_get kept place) i (λ (i : RoomyHistory). c.add.new.self.kept ≡ set kept place (with_entries i es)) found.1 c.add.ensures.kept) ∙ histories_set kept place (with_entries i es) in
+    subst (λ (hs : List History). IsState (record m { change = m.change + 1; histories = hs }) c.add.new.self.counts) (sym histories)
+    (subst (IsState (record m { change = m.change + 1; histories = set m.histories place (record i.history { entries = i.history.entries ++ es }) })) (sym c.add.ensures.counts)
+    (state_add m c.self.inside.issues.counts place i.history group.author es c.self.invariant at may_now allowed.fitting allowed.small allowed.author allowed.few allowed.light))
 
 pub returns : goal.returns
 unfolding applied IsAllowed
@@ -44,9 +45,9 @@ returns c =
     let found = at_place kept place (subst (λ n. place < n) (length-map kept (λ (i : RoomyHistory). i.history)) allowed.there) in
     let i = found.0 in
     let at : slice_get m.histories place ≡ Some i.history = history_at kept place i found.1 in
-    let new = map (λ (i : RoomyHistory). i.history) c.add.new.self.kept in
+    let new = histories_of c.add.new.self.kept in
     let histories : new ≡ set m.histories place (longer i.history es) =
-    ap (map (λ (i : RoomyHistory). i.history)) (from_found (slice_get kept place) i (λ (i : RoomyHistory). c.add.new.self.kept ≡ set kept place (with_entries i es)) found.1 c.add.ensures.kept) ∙ histories_set kept place i es in
+    ap histories_of (from_found (slice_get kept place) i (λ (i : RoomyHistory). c.add.new.self.kept ≡ set kept place (with_entries i es)) found.1 c.add.ensures.kept) ∙ histories_set kept place (with_entries i es) in
     subst (λ (s : Held). record m { change = m.change + 1; histories = new } ≡ with_group s.machine place group) c.self.view_is
     (subst (λ o. record m { change = m.change + 1; histories = new } ≡ record m { change = m.change + 1; histories = option_map_or (λ (h : History). set m.histories place (longer h es)) o m.histories }) (sym at)
     (ap (λ (hs : List History). record m { change = m.change + 1; histories = hs }) histories))

@@ -6,7 +6,7 @@ use Rattle.tracker_core.specs.State.{Held}
 use Rattle.tracker_machine.specs.Tracker.{IsSettled}
 use Rattle.tracker_core.specs.contracts.state.State.{the_view}
 use Rattle.tracker_machine.proofs.Settled.{settled_at}
-use Rattle.tracker_core.proofs.Sound.{history_at}
+use Rattle.tracker_issues.proofs.Histories.{history_at}
 use Rattle.tracker_core.proofs.state.State.issue_at.Goals as goal
 
 each_found : (o : Option (Bor RoomyHistory)) (P : RoomyHistory → Type 0) → ((i : RoomyHistory) → option_copied o ≡ Some i → P i) → IfSome o (λ i. P i.now)

@@ -1,22 +1,41 @@
-use Rattle.std.proofs.Common.{◌≡◌, ◌++◌, ◌∷◌, [], ◌+◌, List, map, ap, sym, subst, ◌∙◌}
-use Rattle.change_history.specs.History.{RoomyHistory, History}
+use Rattle.std.proofs.Common.{◌≡◌, ◌++◌, ◌∷◌, [], ◌+◌, ◌<◌, ℕ, List, length, slice_get, IfSome, ap, sym, subst, ◌∙◌, arith}
+use Rattle.change_history.specs.History.{History}
+use Rattle.fields.specs.Naming.{name_at}
 use Rattle.tracker_machine.specs.Machine.{Machine}
 use Rattle.tracker_machine.specs.Effect.{IsAllowed}
-use Rattle.tracker_core.specs.State.{Held, IsState, counts_of, with_key}
+use Rattle.tracker_machine.specs.Known.{project_keys, next_key}
 use Rattle.tracker_machine.specs.Tracker.{MayOpen}
+use Rattle.tracker_issues.specs.Issues.{histories_of}
+use Rattle.tracker_issues.proofs.Counts.{counted_at, few_counted}
+use Rattle.tracker_issues.proofs.Histories.{histories_push}
+use Rattle.tracker_core.specs.State.{Held, IsState}
 use Rattle.tracker_core.specs.contracts.state.State.{the_view}
-use Rattle.tracker_core.proofs.Histories.{histories_push}
 use Rattle.tracker_core.proofs.States.{state_push}
 use Rattle.tracker_core.proofs.state.State.push.Goals as goal
+
+pub push-requires-clause-there : goal.push-requires-clause-there
+push-requires-clause-there c =
+    let m : Machine = (the_view c.self.inside).machine in
+    counted_at m.setup.project m.histories c.self.inside.issues.counts c.args.new.project.0 c.self.invariant.counted
+    (subst (λ (s : Held). c.args.new.project.0 < length s.machine.setup.project) (sym c.self.view_is) c.requires.fits.there)
+
+pub push-requires-clause-countable : goal.push-requires-clause-countable
+push-requires-clause-countable c =
+    let m : Machine = (the_view c.self.inside).machine in
+    subst (λ (ns : List ℕ). IfSome (slice_get ns c.args.new.project.0) (λ n. n + 1 < 4294967296)) (sym c.self.invariant.counted)
+    (few_counted m.setup.project m.histories c.args.new.project.0 (λ n. n + 1 < 4294967296) (λ n le. omega (arith, le, c.self.invariant.tracker.few_issues)))
 
 pub invariant_of-self : goal.invariant_of-self
 unfolding IsAllowed
 invariant_of-self c =
     let m : Machine = (the_view c.self.inside).machine in
     let h = c.args.new.issue.history in
+    let place = c.args.new.project.0 in
     let back = sym c.self.view_is in
-    let histories : map (λ (i : RoomyHistory). i.history) c.push.new.self.kept ≡ m.histories ++ h ∷ [] = ap (map (λ (i : RoomyHistory). i.history)) c.push.ensures.kept ∙ histories_push c.self.inside.issues.kept c.args.new.issue in
-    subst (λ (hs : List History). IsState (record m { change = m.change + 1; histories = hs }) c.args.new.counts.items) (sym histories)
-    (state_push m c.self.inside.counts.items c.args.new.counts.items h c.self.invariant
+    let histories : histories_of c.push.new.self.kept ≡ m.histories ++ h ∷ [] = ap histories_of c.push.ensures.kept ∙ histories_push c.self.inside.issues.kept c.args.new.issue in
+    subst (λ (hs : List History). IsState (record m { change = m.change + 1; histories = hs }) c.push.new.self.counts) (sym histories)
+    (state_push m c.self.inside.issues.counts c.push.new.self.counts h place c.self.inside.setting.setup.sound c.self.invariant
     (subst (λ (s : Held). MayOpen s.machine h) back c.requires.allowed)
-    (subst (λ (s : Held). c.args.new.counts.items ≡ with_key (counts_of s.machine.setup.project s.machine.histories) s.machine.setup.project h.key) back c.requires.fits.counts))
+    (subst (λ (s : Held). place < length s.machine.setup.project) back c.requires.fits.there)
+    (subst (λ (s : Held). h.key ≡ next_key s.machine (name_at (project_keys s.machine.setup) place)) back c.requires.fits.next)
+    c.push.ensures.counts)

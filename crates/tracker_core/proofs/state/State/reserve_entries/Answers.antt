@@ -2,10 +2,10 @@ use Rattle.std.proofs.Common.{◌≡◌, ◌<◌, length, map, slice_get, set, a
 use Rattle.std.proofs.lemmas.List.{length-map, map-set}
 use Rattle.std.proofs.lemmas.Result.{on_ok_weaker}
 use Rattle.change_history.specs.History.{RoomyHistory}
-use Rattle.tracker_core.specs.Issues.{Shelf}
+use Rattle.tracker_issues.specs.Issues.{Shelf}
 use Rattle.tracker_core.specs.State.{Held}
 use Rattle.tracker_machine.proofs.Settled.{at_place, from_found}
-use Rattle.tracker_core.proofs.Sound.{set_here, room_at}
+use Rattle.tracker_issues.proofs.Histories.{set_here, room_at}
 use Rattle.tracker_core.proofs.state.State.reserve_entries.Goals as goal
 
 pub returns-clause-room : goal.returns-clause-room
