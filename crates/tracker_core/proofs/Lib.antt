@@ -8,6 +8,7 @@ pub mod Keys
 pub mod Means
 pub mod Named
 pub mod Ops
+pub mod Resolving
 pub mod Sound
 pub mod States
 pub mod Steps

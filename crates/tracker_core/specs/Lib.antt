@@ -3,5 +3,6 @@ pub mod Desk
 pub mod Found
 pub mod Issues
 pub mod Plan
+pub mod Resolved
 pub mod State
 pub mod Wants

@@ -14,6 +14,7 @@ mod part;
 mod plan;
 mod prepare;
 mod project_key;
+mod resolved;
 mod rows;
 mod search;
 mod setting;
