@@ -61,8 +61,8 @@ fn value_of(alloc: Global, setup: &Setup, name: &str, text: &str) -> Option<Chan
     }
 }
 
-fn changes(alloc: Global, setup: &Setup, named: Named) -> Option<Changes> {
-    let mut changes = Changes::new(alloc);
+fn changes(alloc: Global, setup: &Setup, named: Named) -> Option<Vec<Change>> {
+    let mut changes = Vec::new(alloc);
     for &(name, text) in named {
         let change = value_of(alloc, setup, name, text)?;
         changes.push(change).ok()?;
@@ -72,7 +72,10 @@ fn changes(alloc: Global, setup: &Setup, named: Named) -> Option<Changes> {
 
 /// An issue of the project which anna opened with these values.
 fn issue(alloc: Global, setup: &Setup, project: &str, opening: Named) -> Option<Issue> {
-    let values = changes(alloc, setup, opening)?;
+    let mut values = Changes::new(alloc);
+    for change in changes(alloc, setup, opening)? {
+        values.push(change).ok()?;
+    }
     opened(alloc, project, values).ok()
 }
 
@@ -102,7 +105,7 @@ fn are_changes(alloc: Global, setup: &Setup, changes: &[Change], wanted: Numbere
 fn is_answer(
     alloc: Global,
     setup: &Setup,
-    answer: &Result<Changes, PlanFault>,
+    answer: &Result<Vec<Change>, PlanFault>,
     wanted: Plan,
 ) -> bool {
     match (answer, wanted) {
@@ -120,7 +123,7 @@ fn is_planned(
     setup: &Setup,
     issue: &Issue,
     transition: &str,
-    inputs: &[Change],
+    inputs: Vec<Change>,
     wanted: Plan,
 ) -> Option<bool> {
     let place = setup.transition_named(transition)?;
@@ -201,7 +204,7 @@ fn is_as_in_row(alloc: Global, setup: &Setup, row: &Row) -> Option<bool> {
     let (project, opening, transition, inputs, wanted) = *row;
     let issue = issue(alloc, setup, project, opening)?;
     let inputs = changes(alloc, setup, inputs)?;
-    is_planned(alloc, setup, &issue, transition, inputs.as_slice(), wanted)
+    is_planned(alloc, setup, &issue, transition, inputs, wanted)
 }
 
 fn are_planned(alloc: Global) -> Option<bool> {
@@ -234,11 +237,9 @@ const NET: Numbered = &[(11, "2024-04-01"), (12, "")];
 fn comes_to_net(alloc: Global, setup: &Setup) -> Option<bool> {
     let issue = issue(alloc, setup, "OPS", OPENING)?;
     let inputs = changes(alloc, setup, EDIT)?;
-    let net = net_changes(alloc, &issue, inputs.as_slice()).ok()?;
-    Some(
-        refused_input(setup, inputs.as_slice()).is_none()
-            && are_changes(alloc, setup, net.as_slice(), NET),
-    )
+    let fits = refused_input(setup, inputs.as_slice()).is_none();
+    let net = net_changes(alloc, &issue, inputs).ok()?;
+    Some(fits && are_changes(alloc, setup, net.as_slice(), NET))
 }
 
 /// The place of an issue's project, and that of an issue of no project.

@@ -2,3 +2,4 @@ pub mod Given
 pub mod Part
 pub mod Asked
 pub mod Reply
+pub mod Seen

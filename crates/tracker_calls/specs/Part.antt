@@ -1,5 +1,5 @@
 -- The part of a list that a call asks for.
-use Rattle.std.specs.Prelude.{ℕ, Bool, not, ◌&&◌, List, Option, Some, None, codes, option_and_then, if◌then◌else◌, nat_le, take, drop}
+use Rattle.std.specs.Prelude.{ℕ, not, ◌&&◌, List, Option, Some, None, codes, option_and_then, if◌then◌else◌, nat_le, take, drop}
 use Rattle.serde_json.specs.Data.{Data}
 use Rattle.serde_json.specs.Find.{get, as_number, as_u64}
 use Rattle.tracker_calls.specs.declared.call.Part.{Part}

@@ -1,12 +1,14 @@
 // What a call gives for fields, as it stands in the JSON of its member `set`.
-ghost use Rattle.std.specs.Prelude.{◌≡◌, ◌∷◌, ◌++◌, [], IfOk, OnOk, OnErr};
-ghost use Rattle.std.specs.List.{list_any};
+ghost use Rattle.std.specs.Prelude.{◌≡◌, ◌∷◌, ◌++◌, ℕ, List, [], Some, option_map, IfOk, OnOk, OnErr, if◌then◌else◌};
+ghost use Rattle.std.specs.Str.{str_eq_ignore_ascii_case};
 ghost use Rattle.serde_json.specs.View.{view, members_view, items_view};
-ghost use Rattle.tracker_calls.specs.Given.{given_of, fields_of, texts_of, is_twin, has_twins, given_set, set_at, set_if_there};
+ghost use Rattle.tracker_calls.specs.Given.{given_of, fields_of, texts_of, has_twins, given_set, set_at, set_if_there};
+ghost use Rattle.tracker_calls.specs.Seen.{seen_by, is_other};
 
 use field_values::{Memory, Names, Text};
 use serde_json::{Map, Value};
 use std::alloc::Global;
+use std::collections::BTreeMap;
 use std::marker::Model;
 
 /// A value as JSON gives it.
@@ -71,32 +73,43 @@ impl GivenFields {
     }
 }
 
-// Whether the names differ in the case of ASCII letters alone.
-fn is_twin(name: &str, other: &str) -> bool
-    ensures { result ≡ is_twin name.now other.now }
+// Puts a name among those that were seen, by its small letters. The one of the same letters that it takes the place of.
+fn put_seen<'a>(
+    alloc: Global,
+    seen: &mut BTreeMap<String, &'a str>,
+    name: &'a str,
+) -> Result<Option<&'a str>, Memory>
+    ensures before { IfOk result (λ before. option_map (λ n. n.now) before ≡ seen_by seen.old name.now) }
+    ensures seen { OnOk result ((other : List ℕ) → seen_by seen.new other
+        ≡ (if str_eq_ignore_ascii_case name.now other then Some name.now else seen_by seen.old other)) }
 {
-    name.eq_ignore_ascii_case(other) && name != other
+    let letters = name.to_ascii_lowercase(alloc)?;
+    Ok(seen.insert(letters, name)?)
 }
 
-fn has_twin(name: &str, fields: &[GivenField]) -> bool
-    ensures { result ≡ list_any (λ other. is_twin name.now other.name) fields.now }
+// Whether there is one, and it isn't the name.
+fn is_other(before: Option<&str>, name: &str) -> bool
+    ensures { result ≡ is_other (option_map (λ n. n.now) before.entry) name.now }
 {
-    fields
-        .iter()
-        .any(|other| is_twin(name, other.name.as_str()))
+    match before {
+        Some(before) => name != before,
+        None => false,
+    }
 }
 
-/// Whether two of the names differ in the case of ASCII letters alone.
-pub fn has_twins(fields: &[GivenField]) -> bool
-    ensures { result ≡ has_twins fields.now }
+/// Whether two of the names differ in the case of ASCII letters alone. It takes logarithmic time a name.
+pub fn has_twins(alloc: Global, fields: &[GivenField]) -> Result<bool, Memory>
+    ensures { IfOk result (λ has. has ≡ has_twins fields.now) }
 {
-    for (place, field) in fields.iter().enumerate() {
-        let (_, later) = fields.split_at(place + 1);
-        if has_twin(field.name.as_str(), later) {
-            return true;
+    let mut seen = BTreeMap::new(alloc);
+    for place in (0..fields.len()).rev() {
+        let name = fields[place].name.as_str();
+        let before = put_seen(alloc, &mut seen, name)?;
+        if is_other(before, name) {
+            return Ok(true);
         }
     }
-    false
+    Ok(false)
 }
 
 /// What the member `set` gives; `None` where it isn't there, is no object, or has two names that differ in case alone.
@@ -126,7 +139,7 @@ fn given_set(alloc: Global, value: &Value) -> Result<Option<GivenFields>, Memory
         return Ok(None);
     };
     let fields = fields_of(alloc, members)?;
-    if has_twins(fields.as_slice()) {
+    if has_twins(alloc, fields.as_slice())? {
         return Ok(None);
     }
     Ok(Some(fields))

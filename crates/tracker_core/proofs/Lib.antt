@@ -6,5 +6,6 @@ pub mod Holding
 pub mod Means
 pub mod Named
 pub mod Ops
+pub mod Resolving
 pub mod States
 pub mod Steps

@@ -6,19 +6,20 @@ ghost use Rattle.workflow.specs.Laws.{AllFit};
 ghost use Rattle.fields.specs.Naming.{name_at, field_name};
 ghost use Rattle.tracker_machine.specs.Known.{project_keys, place_of_issue};
 ghost use Rattle.tracker_machine.specs.Wanted.{changes_of};
-ghost use Rattle.tracker_machine.specs.Checks.{unless_known, set_refusal, permission_refusal, issues_refusal, entries_refusal, bytes_refusal, values_refusal, entries_kept, bytes_kept};
+ghost use Rattle.tracker_machine.specs.Checks.{unless_known, names_refusal, permission_refusal, issues_refusal, entries_refusal, bytes_refusal, values_refusal, entries_kept, bytes_kept};
 ghost use Rattle.tracker_machine.specs.Access.{access_refusal};
 ghost use Rattle.tracker_machine.specs.Transition.{transition_names};
 ghost use Rattle.tracker_core.specs.Check.{Checks, IsRefusal};
 ghost use Rattle.tracker_core.specs.Wants.{wants_of, unknown_name_refusal};
 
 use crate::names::{UnknownName, first_unknown_name};
+use crate::resolved::ResolvedSet;
 use crate::state::State;
-use crate::wants::{Outcome, Wants, outcome_of_all};
-use change_history::Changes;
+use crate::wants::{Opening, Outcome, outcome_of_all};
+use change_history::Change;
 use fields::{FieldNo, Permission, ProjectNo, Text, UserNo};
 use std::alloc::Global;
-use tracker_calls::{GivenField, Limit, Refusal, Thing};
+use tracker_calls::{Limit, Refusal, Thing};
 use workflow::project_number;
 
 /// The refusal of a member that is not of its form.
@@ -94,10 +95,10 @@ fn unknown_named(alloc: Global, name: UnknownName<'_>) -> Refusal
 }
 
 /// Each name in `set` stands for something.
-pub fn check_set(alloc: Global, state: &State, set: &[GivenField]) -> Result<(), Refusal>
-    ensures { Checks (set_refusal state.now.machine set.now) result }
+pub fn check_set(alloc: Global, set: &ResolvedSet<'_>) -> Result<(), Refusal>
+    ensures { Checks (names_refusal set.now.setup.field set.now.set) result }
 {
-    match first_unknown_name(state.setup(), set) {
+    match first_unknown_name(set) {
         Some(name) => Err(unknown_named(alloc, name)),
         None => Ok(()),
     }
@@ -215,14 +216,21 @@ fn unfit(alloc: Global, state: &State, field: FieldNo) -> Refusal
     }
 }
 
-/// What the fields become, each value of which fits.
+/// What the fields become, each value of which fits: by what `set` gives, and by what stands beside it in a create.
 #[tactic(auto, using(crate::proofs::Fitting::wanted_fit))]
-pub fn known_values(alloc: Global, state: &State, wants: &Wants<'_>) -> Result<Changes, Refusal>
-    ensures changes { IfOk result (λ changes. changes ≡ changes_of (names_in state.now.machine.setup) (wants_of state.now.machine.setup wants.now)) }
-    ensures fitting { IfOk result (AllFit (names_in state.now.machine.setup)) }
-    ensures check { Checks (values_refusal state.now.machine (wants_of state.now.machine.setup wants.now)) result }
+pub fn known_values(
+    alloc: Global,
+    state: &State,
+    set: &ResolvedSet<'_>,
+    opening: Option<Opening<'_>>,
+) -> Result<Vec<Change>, Refusal>
+    requires { set.now.setup ≡ state.now.machine.setup }
+    ensures changes { IfOk result (λ changes. changes.items
+        ≡ changes_of (names_in state.now.machine.setup) (wants_of state.now.machine.setup set.now.set opening.entry)) }
+    ensures fitting { IfOk result (λ changes. AllFit (names_in state.now.machine.setup) changes.items) }
+    ensures check { Checks (values_refusal state.now.machine (wants_of state.now.machine.setup set.now.set opening.entry)) result }
 {
-    let Ok(outcome) = outcome_of_all(alloc, state.setup(), wants) else {
+    let Ok(outcome) = outcome_of_all(alloc, set, opening) else {
         return Err(Refusal::Memory);
     };
     let Outcome { changes, fault } = outcome;

@@ -19,9 +19,10 @@ use crate::check::{
 };
 use crate::empty::is_empty;
 use crate::plan::{IssuePlan, Plan, Prepared};
+use crate::resolved::ResolvedSet;
 use crate::rows::row_ops;
 use crate::state::State;
-use crate::wants::Wants;
+use crate::wants::Opening;
 use crate::weight::bytes_of_changes;
 use change_history::{Change, Changes, Issue, Key};
 use fields::{IssueNo, Memory, Permission, ProjectNo, Text, UserNo};
@@ -43,8 +44,18 @@ pub fn create(
     ensures same { state.new.machine ≡ state.old.machine }
     ensures prepared { IsPrepared (create_meaning state.old.machine caller.0 project.now issue_type.now summary.now set.now) state.new result }
 {
-    match check_create(alloc, state, caller, project, issue_type, summary, set) {
-        Ok((place, changes)) => open(alloc, state, caller, place, &changes),
+    let Ok(given) = ResolvedSet::of(alloc, state.setup(), set) else {
+        return Err(Refusal::Memory);
+    };
+    let opening = Opening {
+        caller,
+        issue_type,
+        summary,
+    };
+    let checked = check_create(alloc, state, project, opening, &given);
+    drop(given);
+    match checked {
+        Ok((place, changes)) => open(alloc, state, caller, place, changes),
         Err(refusal) => Err(refusal),
     }
 }
@@ -53,35 +64,41 @@ pub fn create(
 fn check_create(
     alloc: Global,
     state: &State,
-    caller: UserNo,
     project: &str,
-    issue_type: &str,
-    summary: &str,
-    set: &[GivenField],
-) -> Result<(ProjectNo, Changes), Refusal>
-    ensures check { Checks (create_refusal state.now.machine caller.0 project.now issue_type.now summary.now set.now) result }
+    opening: Opening<'_>,
+    set: &ResolvedSet<'_>,
+) -> Result<(ProjectNo, Vec<Change>), Refusal>
+    requires { set.now.setup ≡ state.now.machine.setup }
+    ensures check { Checks (create_refusal state.now.machine opening.entry.caller.0 project.now opening.entry.issue_type.now opening.entry.summary.now set.now.set) result }
     ensures place { IfOk result (λ r. place_named project.now (project_keys state.now.machine.setup) ≡ Some r.0.0) }
     ensures there { IfOk result (λ r. r.0.0 < length state.now.machine.setup.project) }
-    ensures changes { IfOk result (λ r. r.1 ≡ changes_of (names_in state.now.machine.setup) (create_wants state.now.machine.setup caller.0 issue_type.now summary.now set.now)) }
-    ensures fitting { IfOk result (λ r. AllFit (names_in state.now.machine.setup) r.1) }
-    ensures named { IfOk result (λ r. AreNamed (opening_value (filled r.1))) }
-    ensures listed { IfOk result (λ r. AreSmall (filled r.1) → are_opening (names_in state.now.machine.setup) (filled r.1) ≡ true) }
+    ensures changes { IfOk result (λ r. r.1.items ≡ changes_of (names_in state.now.machine.setup)
+        (create_wants state.now.machine.setup opening.entry.caller.0 opening.entry.issue_type.now opening.entry.summary.now set.now.set)) }
+    ensures fitting { IfOk result (λ r. AllFit (names_in state.now.machine.setup) r.1.items) }
+    ensures named { IfOk result (λ r. AreNamed (opening_value (filled r.1.items))) }
+    ensures listed { IfOk result (λ r. AreSmall (filled r.1.items) → are_opening (names_in state.now.machine.setup) (filled r.1.items) ≡ true) }
     ensures few { IfOk result (λ r. length state.now.machine.histories < 50_000) }
     ensures light { IfOk result (λ r. bytes_kept state.now.machine.histories ≤ 499_800_000) }
 {
     let place = known_project(alloc, state, project)?;
-    check_set(alloc, state, set)?;
-    check_permission(alloc, state, caller, Permission::Browse, Some(place))?;
-    check_permission(alloc, state, caller, Permission::Create, Some(place))?;
+    check_set(alloc, set)?;
+    check_permission(
+        alloc,
+        state,
+        opening.caller,
+        Permission::Browse,
+        Some(place),
+    )?;
+    check_permission(
+        alloc,
+        state,
+        opening.caller,
+        Permission::Create,
+        Some(place),
+    )?;
     check_issues(state)?;
     check_bytes(state)?;
-    let wants = Wants::Create {
-        caller,
-        issue_type,
-        summary,
-        set,
-    };
-    let changes = known_values(alloc, state, &wants)?;
+    let changes = known_values(alloc, state, set, Some(opening))?;
     Ok((place, changes))
 }
 
@@ -91,17 +108,17 @@ fn open(
     state: &mut State,
     caller: UserNo,
     project: ProjectNo,
-    changes: &Changes,
+    changes: Vec<Change>,
 ) -> Result<Prepared, Refusal>
     requires few { length state.old.machine.histories < 50_000 }
     requires light { bytes_kept state.old.machine.histories ≤ 499_800_000 }
     requires there { project.0 < length state.old.machine.setup.project }
     requires author { caller.0 < length state.old.machine.setup.users }
-    requires named { AreNamed (opening_value (filled changes.now)) }
-    requires fitting { AllFit (names_in state.old.machine.setup) changes.now }
-    requires listed { AreSmall (filled changes.now) → are_opening (names_in state.old.machine.setup) (filled changes.now) ≡ true }
+    requires named { AreNamed (opening_value (filled changes.items)) }
+    requires fitting { AllFit (names_in state.old.machine.setup) changes.items }
+    requires listed { AreSmall (filled changes.items) → are_opening (names_in state.old.machine.setup) (filled changes.items) ≡ true }
     ensures same { state.new.machine ≡ state.old.machine }
-    ensures prepared { IsPrepared (created state.old.machine caller.0 (name_at (project_keys state.old.machine.setup) project.0) changes.now) state.new result }
+    ensures prepared { IsPrepared (created state.old.machine caller.0 (name_at (project_keys state.old.machine.setup) project.0) changes.items) state.new result }
 {
     let Ok((new, row)) = new_issue(alloc, state, caller, project, changes) else {
         return Err(Refusal::Memory);
@@ -133,20 +150,20 @@ fn new_issue(
     state: &State,
     caller: UserNo,
     project: ProjectNo,
-    changes: &Changes,
+    changes: Vec<Change>,
 ) -> Result<(IssuePlan, Row), Memory>
     requires few { length state.now.machine.histories < 50_000 }
     requires there { project.0 < length state.now.machine.setup.project }
-    requires listed { AreSmall (filled changes.now) → are_opening (names_in state.now.machine.setup) (filled changes.now) ≡ true }
-    ensures history { IfOk result (λ r. r.0.issue.history ≡ opened state.now.machine caller.0 (name_at (project_keys state.now.machine.setup) project.0) (filled changes.now)) }
+    requires listed { AreSmall (filled changes.items) → are_opening (names_in state.now.machine.setup) (filled changes.items) ≡ true }
+    ensures history { IfOk result (λ r. r.0.issue.history ≡ opened state.now.machine caller.0 (name_at (project_keys state.now.machine.setup) project.0) (filled changes.items)) }
     ensures key { IfOk result (λ r. string_bytes r.0.key ≡ next_key state.now.machine (name_at (project_keys state.now.machine.setup) project.0)) }
     ensures project { IfOk result (λ r. r.0.project ≡ project) }
     ensures bytes { IfOk result (λ r. r.0.bytes ≡ history_bytes r.0.issue.history) }
     ensures light { IfOk result (λ r. r.0.bytes ≤ 200_000) }
-    ensures listed { IfOk result (λ r. are_opening (names_in state.now.machine.setup) (filled changes.now) ≡ true) }
-    ensures row { IfOk result (λ r. r.1 ≡ issue_row (names_in state.now.machine.setup) (opened state.now.machine caller.0 (name_at (project_keys state.now.machine.setup) project.0) (filled changes.now))) }
+    ensures listed { IfOk result (λ r. are_opening (names_in state.now.machine.setup) (filled changes.items) ≡ true) }
+    ensures row { IfOk result (λ r. r.1 ≡ issue_row (names_in state.now.machine.setup) (opened state.now.machine caller.0 (name_at (project_keys state.now.machine.setup) project.0) (filled changes.items))) }
 {
-    let opening = filled(alloc, changes.as_slice())?;
+    let opening = filled(alloc, changes)?;
     let Some(bytes) = bytes_of_changes(opening.as_slice()) else {
         return Err(Memory);
     };
@@ -226,16 +243,13 @@ fn next_key(alloc: Global, state: &State, project: ProjectNo) -> Result<Key, Mem
 }
 
 // The changes that aren't to nothing.
-fn filled(alloc: Global, changes: &[Change]) -> Result<Changes, Memory>
-    ensures { IfOk result (λ kept. kept ≡ filled changes.now) }
+fn filled(alloc: Global, changes: Vec<Change>) -> Result<Changes, Memory>
+    ensures { IfOk result (λ kept. kept ≡ filled changes.items) }
 {
     let mut kept = Changes::new(alloc);
     for change in changes {
         if !is_empty(&change.to) {
-            kept.push(Change {
-                field: change.field,
-                to: change.to.copy(alloc)?,
-            })?;
+            kept.push(change)?;
         }
     }
     Ok(kept)

@@ -16,7 +16,7 @@ use crate::plan::{GroupPlan, Plan, Prepared};
 use crate::rows::row_ops;
 use crate::state::State;
 use crate::weight::bytes_of_entries;
-use change_history::{Change, Changes, Entries, Entry, Group, Issue};
+use change_history::{Change, Entries, Entry, Group, Issue};
 use fields::{Memory, Moment, Setup, Text, UserNo};
 use std::alloc::Global;
 use tracker_calls::{Answer, Refusal};
@@ -38,22 +38,22 @@ pub fn grouped(
     call: GroupCall,
     place: usize,
     name: &str,
-    net: &Changes,
+    net: Vec<Change>,
 ) -> Result<Prepared, Refusal>
     requires there { place < length state.old.machine.histories }
     requires user { caller.0 < length state.old.machine.setup.users }
     requires few { entries_kept state.old.machine.histories ≤ 1_999_957 }
     requires light { bytes_kept state.old.machine.histories ≤ 499_800_000 }
-    requires news { IfSome (slice_get state.old.machine.histories place) (λ h. AreNews (present h) 0 net.now) }
-    requires fitting { AllFit (names_in state.old.machine.setup) net.now }
+    requires news { IfSome (slice_get state.old.machine.histories place) (λ h. AreNews (present h) 0 net.items) }
+    requires fitting { AllFit (names_in state.old.machine.setup) net.items }
     ensures same { state.new.machine ≡ state.old.machine }
     ensures prepared { IfSome (slice_get state.old.machine.histories place) (λ h.
-        IsPrepared (grouped (group_answer call name.now) state.old.machine caller.0 place h net.now) state.new result) }
+        IsPrepared (grouped (group_answer call name.now) state.old.machine caller.0 place h net.items) state.new result) }
 {
     let Ok(told) = Text::copy_of(alloc, name) else {
         return Err(Refusal::Memory);
     };
-    if net.as_slice().is_empty() {
+    if net.is_empty() {
         return Ok(Prepared::Tell(answer_of(call, told, None)));
     }
     let Ok((new, rows)) = new_group(alloc, state, caller, place, net) else {
@@ -82,19 +82,19 @@ fn new_group(
     state: &mut State,
     caller: UserNo,
     place: usize,
-    net: &Changes,
+    net: Vec<Change>,
 ) -> Result<(GroupPlan, Vec<RowOp>), Memory>
     requires there { place < length state.old.machine.histories }
     requires user { caller.0 < length state.old.machine.setup.users }
     requires few { entries_kept state.old.machine.histories ≤ 1_999_957 }
     requires light { bytes_kept state.old.machine.histories ≤ 499_800_000 }
-    requires news { IfSome (slice_get state.old.machine.histories place) (λ h. AreNews (present h) 0 net.now) }
-    requires some { net.now ≢ [] }
-    requires fitting { AllFit (names_in state.old.machine.setup) net.now }
-    ensures some { net.now ≢ [] }
+    requires news { IfSome (slice_get state.old.machine.histories place) (λ h. AreNews (present h) 0 net.items) }
+    requires some { net.items ≢ [] }
+    requires fitting { AllFit (names_in state.old.machine.setup) net.items }
+    ensures some { net.items ≢ [] }
     ensures same { state.new.machine ≡ state.old.machine }
     ensures place { IfOk result (λ r. r.0.place ≡ place) }
-    ensures group { IfOk result (λ r. IfSome (slice_get state.old.machine.histories place) (λ h. r.0.group ≡ next_group state.old.machine caller.0 h net.now)) }
+    ensures group { IfOk result (λ r. IfSome (slice_get state.old.machine.histories place) (λ h. r.0.group ≡ next_group state.old.machine caller.0 h net.items)) }
     ensures allowed { IfOk result (λ r. MayGroup state.old.machine place r.0.group) }
     ensures fits { IfOk result (λ r. GroupFits state.new r.0) }
     ensures rows { IfOk result (λ r. IfSome (slice_get state.old.machine.histories place) (λ h.
@@ -146,17 +146,17 @@ fn group_of(
     state: &State,
     caller: UserNo,
     place: usize,
-    net: &Changes,
+    net: Vec<Change>,
 ) -> Result<Group, Memory>
     requires there { place < length state.now.machine.histories }
-    requires news { IfSome (slice_get state.now.machine.histories place) (λ h. AreNews (present h) 0 net.now) }
-    requires some { net.now ≢ [] }
-    requires fitting { AllFit (names_in state.now.machine.setup) net.now }
+    requires news { IfSome (slice_get state.now.machine.histories place) (λ h. AreNews (present h) 0 net.items) }
+    requires some { net.items ≢ [] }
+    requires fitting { AllFit (names_in state.now.machine.setup) net.items }
     ensures change { IfOk result (λ group. group.change ≡ state.now.machine.change + 1) }
     ensures at { IfOk result (λ group. group.at ≡ state.now.machine.moment) }
     ensures author { IfOk result (λ group. group.author ≡ caller) }
     ensures entries { IfOk result (λ group. IfSome (slice_get state.now.machine.histories place) (λ h.
-        group.entries ≡ entries_of (present h) (state.now.machine.change + 1) state.now.machine.moment caller net.now)) }
+        group.entries ≡ entries_of (present h) (state.now.machine.change + 1) state.now.machine.moment caller net.items)) }
     ensures few { IfOk result (λ group. length group.entries ≤ 43) }
     ensures fitting { IfOk result (λ group. AllEntriesFit (names_in state.now.machine.setup) group.entries) }
     ensures may { IfOk result (λ group. IfSome (slice_get state.now.machine.histories place) (λ h.
@@ -167,7 +167,7 @@ fn group_of(
     };
     let change = state.next_change();
     let at = state.moment();
-    let entries = net_entries(alloc, issue, change, at, caller, net.as_slice())?;
+    let entries = net_entries(alloc, issue, change, at, caller, net)?;
     let _setup = state.setup();
     Ok(Group {
         change,
@@ -184,15 +184,15 @@ fn net_entries(
     change: u64,
     at: Moment,
     author: UserNo,
-    net: &[Change],
+    net: Vec<Change>,
 ) -> Result<Entries, Memory>
     requires timely { updated issue.now.history ≤ at }
     requires earlier { last_change issue.now.history.change issue.now.history.entries < change }
-    requires news { AreNews (present issue.now.history) 0 net.now }
-    requires some { net.now ≢ [] }
-    ensures entries { IfOk result (λ entries. entries ≡ entries_of (present issue.now.history) change at author net.now) }
-    ensures few { IfOk result (λ entries. (names : Names) → AllFit names net.now → length names.fields ≤ 30 → length entries ≤ 43) }
-    ensures fitting { IfOk result (λ entries. (names : Names) → AllFit names net.now → AllEntriesFit names entries) }
+    requires news { AreNews (present issue.now.history) 0 net.items }
+    requires some { net.items ≢ [] }
+    ensures entries { IfOk result (λ entries. entries ≡ entries_of (present issue.now.history) change at author net.items) }
+    ensures few { IfOk result (λ entries. (names : Names) → AllFit names net.items → length names.fields ≤ 30 → length entries ≤ 43) }
+    ensures fitting { IfOk result (λ entries. (names : Names) → AllFit names net.items → AllEntriesFit names entries) }
     ensures may { IfOk result (λ entries. MayAdd issue.now.history change at author entries) }
 {
     entries_of(alloc, issue, change, at, author, net)
@@ -205,19 +205,19 @@ fn entries_of(
     change: u64,
     at: Moment,
     author: UserNo,
-    changes: &[Change],
+    changes: Vec<Change>,
 ) -> Result<Entries, Memory>
-    ensures { IfOk result (λ entries. entries ≡ entries_of (present issue.now.history) change at author changes.now) }
+    ensures { IfOk result (λ entries. entries ≡ entries_of (present issue.now.history) change at author changes.items) }
 {
     let mut entries = Entries::new(alloc);
     for next in changes {
-        let from = issue.value(next.field).copy(alloc)?;
-        let to = next.to.copy(alloc)?;
+        let Change { field, to } = next;
+        let from = issue.value(field).copy(alloc)?;
         entries.push(Entry {
             change,
             at,
             author,
-            field: next.field,
+            field,
             from,
             to,
         })?;

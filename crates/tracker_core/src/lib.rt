@@ -12,6 +12,7 @@ mod names;
 mod part;
 mod plan;
 mod prepare;
+mod resolved;
 mod rows;
 mod search;
 mod show;

@@ -1,5 +1,5 @@
 // What is done before anything is kept: looks, refusals, and all memory.
-ghost use Rattle.std.specs.Prelude.{◌≡◌, ◌≤◌, ◌<◌, ◌+◌, length, option_map};
+ghost use Rattle.std.specs.Prelude.{◌≡◌, ◌≤◌, ◌<◌, ◌+◌, length, option_map, IfOk};
 ghost use Rattle.tracker_calls.specs.Part.{part_fault};
 ghost use Rattle.tracker_machine.specs.Checks.{twins_refusal};
 ghost use Rattle.tracker_machine.specs.Meaning.{allowance};
@@ -16,7 +16,7 @@ use crate::show::show;
 use crate::state::State;
 use crate::tick::tick;
 use crate::transition::transition;
-use fields::{Steps, UserNo};
+use fields::{Memory, Steps, UserNo};
 use std::alloc::Global;
 use std::sync::ledger::Ledger;
 use tracker_calls::{
@@ -37,8 +37,10 @@ pub fn prepare<L: Ledger>(
     ensures prepared { IsPrepared (meaning state.old.machine caller.now call.now) state.new result }
     ensures steps { steps.new ≤ steps.old + allowance (meaning state.old.machine caller.now call.now) state.old.machine }
 {
-    if let Some(member) = fault_of_form(call) {
-        return Err(malformed(alloc, member));
+    match fault_of_form(alloc, call) {
+        Ok(None) => {}
+        Ok(Some(member)) => return Err(malformed(alloc, member)),
+        Err(_) => return Err(Refusal::Memory),
     }
     let Some(user) = state.user_named(caller.as_str()) else {
         return Err(unknown(alloc, Thing::User, caller.as_str()));
@@ -109,26 +111,26 @@ fn part_fault(part: Part, most: u32) -> Option<&'static str>
 }
 
 // Two names in `set` that differ in case alone, which no line gives.
-fn twins_fault(set: &[GivenField]) -> Option<&'static str>
-    ensures { option_map (λ name. Refusal.Form name.now) result ≡ twins_refusal set.now }
+fn twins_fault(alloc: Global, set: &[GivenField]) -> Result<Option<&'static str>, Memory>
+    ensures { IfOk result (λ fault. option_map (λ name. Refusal.Form name.now) fault ≡ twins_refusal set.now) }
 {
-    if has_twins(set) {
-        return Some("set");
+    if has_twins(alloc, set)? {
+        return Ok(Some("set"));
     }
-    None
+    Ok(None)
 }
 
 // The first member of the call that isn't of its form.
 #[tactic(auto, unfolding(tracker_machine::specs::Step::form_refusal))]
-fn fault_of_form(call: &Call) -> Option<&'static str>
-    ensures { option_map (λ name. Refusal.Form name.now) result ≡ form_refusal call.now }
+fn fault_of_form(alloc: Global, call: &Call) -> Result<Option<&'static str>, Memory>
+    ensures { IfOk result (λ fault. option_map (λ name. Refusal.Form name.now) fault ≡ form_refusal call.now) }
 {
     match call {
-        Call::Create { set, .. } => twins_fault(set.as_slice()),
-        Call::Edit { set, .. } => twins_fault(set.as_slice()),
-        Call::Transition { set, .. } => twins_fault(set.as_slice()),
-        Call::History { part, .. } => part_fault(*part, MOST_ENTRIES),
-        Call::Search { part, .. } => part_fault(*part, MOST_LISTED),
-        Call::Tick { .. } | Call::Show { .. } => None,
+        Call::Create { set, .. } => twins_fault(alloc, set.as_slice()),
+        Call::Edit { set, .. } => twins_fault(alloc, set.as_slice()),
+        Call::Transition { set, .. } => twins_fault(alloc, set.as_slice()),
+        Call::History { part, .. } => Ok(part_fault(*part, MOST_ENTRIES)),
+        Call::Search { part, .. } => Ok(part_fault(*part, MOST_LISTED)),
+        Call::Tick { .. } | Call::Show { .. } => Ok(None),
     }
 }

@@ -19,9 +19,9 @@ use crate::check::{
 };
 use crate::group::{GroupCall, grouped};
 use crate::plan::Prepared;
+use crate::resolved::ResolvedSet;
 use crate::state::State;
-use crate::wants::Wants;
-use change_history::{Change, Changes, Issue};
+use change_history::{Change, Issue};
 use fields::{Memory, Permission, Setup, Transition, UserNo};
 use std::alloc::Global;
 use tracker_calls::{GivenField, Refusal};
@@ -40,7 +40,12 @@ pub fn transition(
     ensures same { state.new.machine ≡ state.old.machine }
     ensures prepared { IsPrepared (transition_meaning state.old.machine caller.0 issue.now transition.now set.now) state.new result }
 {
-    match check_transition(alloc, state, caller, issue, transition, set) {
+    let Ok(given) = ResolvedSet::of(alloc, state.setup(), set) else {
+        return Err(Refusal::Memory);
+    };
+    let checked = check_transition(alloc, state, caller, issue, transition, &given);
+    drop(given);
+    match checked {
         Ok((place, net)) => grouped(
             alloc,
             state,
@@ -48,7 +53,7 @@ pub fn transition(
             GroupCall::Transition,
             place,
             issue,
-            &net,
+            net,
         ),
         Err(refusal) => Err(refusal),
     }
@@ -61,22 +66,23 @@ fn check_transition(
     caller: UserNo,
     issue: &str,
     transition: &str,
-    set: &[GivenField],
-) -> Result<(usize, Changes), Refusal>
-    requires { caller.0 < length state.now.machine.setup.users }
-    ensures check { Checks (transition_refusal state.now.machine caller.0 issue.now transition.now set.now) result }
+    set: &ResolvedSet<'_>,
+) -> Result<(usize, Vec<Change>), Refusal>
+    requires setup { set.now.setup ≡ state.now.machine.setup }
+    requires user { caller.0 < length state.now.machine.setup.users }
+    ensures check { Checks (transition_refusal state.now.machine caller.0 issue.now transition.now set.now.set) result }
     ensures place { IfOk result (λ r. place_of_issue issue.now state.now.machine.histories ≡ Some r.0) }
     ensures there { IfOk result (λ r. r.0 < length state.now.machine.histories) }
-    ensures net { IfOk result (λ r. r.1 ≡ transition_news state.now.machine caller.0 set.now
+    ensures net { IfOk result (λ r. r.1.items ≡ transition_news state.now.machine caller.0 set.now.set
         (slice_get state.now.machine.histories r.0) (transition_named state.now.machine transition.now)) }
-    ensures news { IfOk result (λ r. IfSome (slice_get state.now.machine.histories r.0) (λ h. AreNews (present h) 0 r.1)) }
-    ensures fitting { IfOk result (λ r. AllFit (names_in state.now.machine.setup) r.1) }
+    ensures news { IfOk result (λ r. IfSome (slice_get state.now.machine.histories r.0) (λ h. AreNews (present h) 0 r.1.items)) }
+    ensures fitting { IfOk result (λ r. AllFit (names_in state.now.machine.setup) r.1.items) }
     ensures few { IfOk result (λ r. entries_kept state.now.machine.histories ≤ 1_999_957) }
     ensures light { IfOk result (λ r. bytes_kept state.now.machine.histories ≤ 499_800_000) }
 {
     let place = known_issue(alloc, state, issue)?;
     let number = known_transition(alloc, state, transition)?;
-    check_set(alloc, state, set)?;
+    check_set(alloc, set)?;
     check_access(alloc, state, caller, Permission::Browse, place)?;
     check_access(alloc, state, caller, Permission::Transition, place)?;
     check_entries(state)?;
@@ -92,16 +98,17 @@ fn check_plan(
     caller: UserNo,
     place: usize,
     transition: usize,
-    set: &[GivenField],
-) -> Result<Changes, Refusal>
+    set: &ResolvedSet<'_>,
+) -> Result<Vec<Change>, Refusal>
+    requires setup { set.now.setup ≡ state.now.machine.setup }
     requires user { caller.0 < length state.now.machine.setup.users }
     requires there { place < length state.now.machine.histories }
     requires known { transition < length state.now.machine.setup.transition }
-    ensures check { Checks (plan_refusal state.now.machine caller.0 set.now (slice_get state.now.machine.histories place) (slice_get state.now.machine.setup.transition transition)) result }
-    ensures net { IfOk result (λ net. net ≡ transition_news state.now.machine caller.0 set.now
+    ensures check { Checks (plan_refusal state.now.machine caller.0 set.now.set (slice_get state.now.machine.histories place) (slice_get state.now.machine.setup.transition transition)) result }
+    ensures net { IfOk result (λ net. net.items ≡ transition_news state.now.machine caller.0 set.now.set
         (slice_get state.now.machine.histories place) (slice_get state.now.machine.setup.transition transition)) }
-    ensures news { IfOk result (λ net. IfSome (slice_get state.now.machine.histories place) (λ h. AreNews (present h) 0 net)) }
-    ensures fitting { IfOk result (AllFit (names_in state.now.machine.setup)) }
+    ensures news { IfOk result (λ net. IfSome (slice_get state.now.machine.histories place) (λ h. AreNews (present h) 0 net.items)) }
+    ensures fitting { IfOk result (λ net. AllFit (names_in state.now.machine.setup) net.items) }
 {
     let Some(issue) = state.issue_at(place) else {
         unreachable!()
@@ -117,27 +124,21 @@ fn plan_of(
     caller: UserNo,
     issue: &Issue,
     transition: &Transition,
-    set: &[GivenField],
-) -> Result<Changes, Refusal>
+    set: &ResolvedSet<'_>,
+) -> Result<Vec<Change>, Refusal>
+    requires setup { set.now.setup ≡ state.now.machine.setup }
     requires sound { IsSoundTransition state.now.machine.setup transition.now }
     requires user { caller.0 < length state.now.machine.setup.users }
     requires reporter { Holds (names_in state.now.machine.setup) reporter (present issue.now.history reporter) }
-    ensures check { Checks (plan_refusal state.now.machine caller.0 set.now (Some issue.now.history) (Some transition.now)) result }
-    ensures net { IfOk result (λ net. net ≡ transition_news state.now.machine caller.0 set.now (Some issue.now.history) (Some transition.now)) }
-    ensures news { IfOk result (AreNews (present issue.now.history) 0) }
-    ensures fitting { IfOk result (AllFit (names_in state.now.machine.setup)) }
+    ensures check { Checks (plan_refusal state.now.machine caller.0 set.now.set (Some issue.now.history) (Some transition.now)) result }
+    ensures net { IfOk result (λ net. net.items ≡ transition_news state.now.machine caller.0 set.now.set (Some issue.now.history) (Some transition.now)) }
+    ensures news { IfOk result (λ net. AreNews (present issue.now.history) 0 net.items) }
+    ensures fitting { IfOk result (λ net. AllFit (names_in state.now.machine.setup) net.items) }
 {
     check_conditions(state, caller, issue, transition)?;
-    let inputs = known_values(alloc, state, &Wants::Set { set })?;
+    let inputs = known_values(alloc, state, set, None)?;
     check_validators(state, caller, issue, transition, inputs.as_slice())?;
-    match news_of(
-        alloc,
-        state.setup(),
-        caller,
-        issue,
-        transition,
-        inputs.as_slice(),
-    ) {
+    match news_of(alloc, state.setup(), caller, issue, transition, inputs) {
         Ok(net) => Ok(net),
         Err(_) => Err(Refusal::Memory),
     }
@@ -187,15 +188,15 @@ fn news_of(
     caller: UserNo,
     issue: &Issue,
     transition: &Transition,
-    inputs: &[Change],
-) -> Result<Changes, Memory>
+    inputs: Vec<Change>,
+) -> Result<Vec<Change>, Memory>
     requires sound { IsSoundTransition (parts setup.now) transition.now }
     requires user { caller.0 < length setup.now.users }
     requires reporter { Holds (names_in (parts setup.now)) reporter (present issue.now.history reporter) }
-    requires inputs { AllFit (names_in (parts setup.now)) inputs.now }
-    ensures net { IfOk result (λ net. net ≡ planned (parts setup.now) issue.now.history caller transition.now inputs.now) }
-    ensures news { IfOk result (AreNews (present issue.now.history) 0) }
-    ensures fitting { IfOk result (AllFit (names_in (parts setup.now))) }
+    requires inputs { AllFit (names_in (parts setup.now)) inputs.items }
+    ensures net { IfOk result (λ net. net.items ≡ planned (parts setup.now) issue.now.history caller transition.now inputs.items) }
+    ensures news { IfOk result (λ net. AreNews (present issue.now.history) 0 net.items) }
+    ensures fitting { IfOk result (λ net. AllFit (names_in (parts setup.now)) net.items) }
 {
     planned(alloc, setup, issue, caller, transition, inputs)
 }

@@ -5,43 +5,36 @@ ghost use Rattle.field_forms.specs.Known.{value_of, listed_value_of};
 ghost use Rattle.fields.specs.SetupParts.{parts, names_in};
 ghost use Rattle.workflow.specs.Inputs.{least_with};
 ghost use Rattle.tracker_machine.specs.Wanted.{given_for, wanted_or, wanted_by, wanted_given, wanted_in, takes_text, sprint_wanted, sprint_number, is_fault, faults_in, field_at_fault, change_to, changes_to, changes_of};
-ghost use Rattle.tracker_machine.specs.Create.{member_wanted, status_wanted, reporter_wanted};
+ghost use Rattle.tracker_machine.specs.Create.{member_wanted, status_wanted, reporter_wanted, create_wants};
 ghost use Rattle.tracker_core.specs.Wants.{wants_of};
 
-use crate::names::{given_for, sprint_number};
-use change_history::{Change, Changes};
+use crate::names::sprint_number;
+use crate::resolved::ResolvedSet;
+use change_history::Change;
 use fields::{FieldNo, Memory, Setup, SprintNo, Text, UserNo, Value};
 use std::alloc::Global;
-use tracker_calls::{Given, GivenField};
+use tracker_calls::Given;
 use tracker_machine::Wanted;
 
-/// The call, as far as it speaks of fields.
+/// What a create says of fields beside `set`.
 #[derive(Clone, Copy)]
-pub enum Wants<'a> {
-    /// A create, which has members of its own for two fields.
-    Create {
-        caller: UserNo,
-        issue_type: &'a str,
-        summary: &'a str,
-        set: &'a [GivenField],
-    },
-    /// An edit or a transition.
-    Set {
-        set: &'a [GivenField],
-    },
+pub struct Opening<'a> {
+    pub caller: UserNo,
+    pub issue_type: &'a str,
+    pub summary: &'a str,
 }
 
 /// What comes of all fields: the changes, and the first field at fault by its number.
 #[derive(Drop)]
 pub struct Outcome {
-    pub changes: Changes,
+    pub changes: Vec<Change>,
     pub fault: Option<FieldNo>,
 }
 
-fn is_given(setup: &Setup, field: FieldNo, set: &[GivenField]) -> bool
-    ensures { result ≡ is_some (given_for setup.now.field field.0 set.now) }
+fn is_given(set: &ResolvedSet<'_>, field: FieldNo) -> bool
+    ensures { result ≡ is_some (given_for set.now.setup.field field.0 set.now.set) }
 {
-    given_for(setup, field, set).is_some()
+    set.given_for(field).is_some()
 }
 
 fn wanted_or(value: Option<Value>) -> Wanted
@@ -119,16 +112,11 @@ fn wanted_given(
     wanted_by(alloc, setup, field, given)
 }
 
-fn wanted_in(
-    alloc: Global,
-    setup: &Setup,
-    field: FieldNo,
-    set: &[GivenField],
-) -> Result<Wanted, Memory>
-    ensures { IfOk result (λ wanted. wanted ≡ wanted_in (names_in (parts setup.now)) field.0 set.now) }
+fn wanted_in(alloc: Global, set: &ResolvedSet<'_>, field: FieldNo) -> Result<Wanted, Memory>
+    ensures { IfOk result (λ wanted. wanted ≡ wanted_in (names_in set.now.setup) field.0 set.now.set) }
 {
-    match given_for(setup, field, set) {
-        Some(given) => wanted_given(alloc, setup, field, given),
+    match set.given_for(field) {
+        Some(given) => wanted_given(alloc, set.setup(), field, given),
         None => Ok(Wanted::Nothing),
     }
 }
@@ -136,59 +124,65 @@ fn wanted_in(
 // A field that the call has a member of its own for.
 fn member_wanted(
     alloc: Global,
-    setup: &Setup,
+    set: &ResolvedSet<'_>,
     field: FieldNo,
-    set: &[GivenField],
     text: &str,
 ) -> Result<Wanted, Memory>
-    ensures { IfOk result (λ wanted. wanted ≡ member_wanted (names_in (parts setup.now)) field.0 set.now text.now) }
+    ensures { IfOk result (λ wanted. wanted ≡ member_wanted (names_in set.now.setup) field.0 set.now.set text.now) }
 {
-    if is_given(setup, field, set) {
+    if is_given(set, field) {
         return Ok(Wanted::NoValue);
     }
-    read(alloc, setup, field, text)
+    read(alloc, set.setup(), field, text)
 }
 
-fn status_wanted(setup: &Setup, set: &[GivenField]) -> Wanted
-    ensures { result ≡ status_wanted (parts setup.now) set.now }
+fn status_wanted(set: &ResolvedSet<'_>) -> Wanted
+    ensures { result ≡ status_wanted set.now.setup set.now.set }
 {
-    if is_given(setup, FieldNo::STATUS, set) {
+    if is_given(set, FieldNo::STATUS) {
         return Wanted::NoValue;
     }
-    Wanted::Value(Value::Choice(setup.first_status))
+    Wanted::Value(Value::Choice(set.setup().first_status))
 }
 
-fn reporter_wanted(
-    alloc: Global,
-    setup: &Setup,
-    caller: UserNo,
-    set: &[GivenField],
-) -> Result<Wanted, Memory>
-    ensures { IfOk result (λ wanted. wanted ≡ reporter_wanted (parts setup.now) caller.0 set.now) }
+fn reporter_wanted(alloc: Global, set: &ResolvedSet<'_>, caller: UserNo) -> Result<Wanted, Memory>
+    ensures { IfOk result (λ wanted. wanted ≡ reporter_wanted set.now.setup caller.0 set.now.set) }
 {
-    match given_for(setup, FieldNo::REPORTER, set) {
-        Some(given) => wanted_given(alloc, setup, FieldNo::REPORTER, given),
+    match set.given_for(FieldNo::REPORTER) {
+        Some(given) => wanted_given(alloc, set.setup(), FieldNo::REPORTER, given),
         None => Ok(Wanted::Value(Value::User(caller))),
     }
 }
 
-fn wanted(alloc: Global, setup: &Setup, wants: &Wants<'_>, field: FieldNo) -> Result<Wanted, Memory>
-    ensures { IfOk result (λ wanted. wanted ≡ wants_of (parts setup.now) wants.now field.0) }
+fn wanted_at_opening(
+    alloc: Global,
+    set: &ResolvedSet<'_>,
+    opening: Opening<'_>,
+    field: FieldNo,
+) -> Result<Wanted, Memory>
+    ensures { IfOk result (λ wanted. wanted
+        ≡ create_wants set.now.setup opening.entry.caller.0 opening.entry.issue_type.now opening.entry.summary.now set.now.set field.0) }
 {
-    match wants {
-        Wants::Create {
-            caller,
-            issue_type,
-            summary,
-            set,
-        } => match field {
-            FieldNo::TYPE => member_wanted(alloc, setup, field, set, issue_type),
-            FieldNo::SUMMARY => member_wanted(alloc, setup, field, set, summary),
-            FieldNo::STATUS => Ok(status_wanted(setup, set)),
-            FieldNo::REPORTER => reporter_wanted(alloc, setup, *caller, set),
-            _ => wanted_in(alloc, setup, field, set),
-        },
-        Wants::Set { set } => wanted_in(alloc, setup, field, set),
+    match field {
+        FieldNo::TYPE => member_wanted(alloc, set, field, opening.issue_type),
+        FieldNo::SUMMARY => member_wanted(alloc, set, field, opening.summary),
+        FieldNo::STATUS => Ok(status_wanted(set)),
+        FieldNo::REPORTER => reporter_wanted(alloc, set, opening.caller),
+        _ => wanted_in(alloc, set, field),
+    }
+}
+
+fn wanted(
+    alloc: Global,
+    set: &ResolvedSet<'_>,
+    opening: Option<Opening<'_>>,
+    field: FieldNo,
+) -> Result<Wanted, Memory>
+    ensures { IfOk result (λ wanted. wanted ≡ wants_of set.now.setup set.now.set opening.entry field.0) }
+{
+    match opening {
+        Some(opening) => wanted_at_opening(alloc, set, opening, field),
+        None => wanted_in(alloc, set, field),
     }
 }
 
@@ -229,43 +223,50 @@ fn fault_after(
 }
 
 // Puts the change to what is wanted, if a value is, behind the others.
-fn put_change(changes: &mut Changes, field: FieldNo, wanted: Wanted) -> Result<(), Memory>
-    ensures { OnOk result (changes.new ≡ changes.old ++ change_to field.0 wanted) }
+fn put_change(changes: &mut Vec<Change>, field: FieldNo, wanted: Wanted) -> Result<(), Memory>
+    ensures { OnOk result (changes.new.items ≡ changes.old.items ++ change_to field.0 wanted) }
 {
     match wanted {
-        Wanted::Value(value) => changes.push(Change { field, to: value }),
+        Wanted::Value(value) => Ok(changes.push(Change { field, to: value })?),
         Wanted::Nothing | Wanted::NoValue => Ok(()),
     }
 }
 
-/// What comes of some fields.
+// What comes of some fields.
 fn outcome_of(
     alloc: Global,
-    setup: &Setup,
-    wants: &Wants<'_>,
+    set: &ResolvedSet<'_>,
+    opening: Option<Opening<'_>>,
     numbers: &[FieldNo],
 ) -> Result<Outcome, Memory>
     ensures fault { IfOk result (λ outcome. option_map (λ f. f.0) outcome.fault
-        ≡ least_with None (faults_in (names_in (parts setup.now)) (wants_of (parts setup.now) wants.now) (map (λ f. f.0) numbers.now))) }
-    ensures changes { IfOk result (λ outcome. outcome.changes ≡ changes_to (wants_of (parts setup.now) wants.now) (map (λ f. f.0) numbers.now)) }
+        ≡ least_with None (faults_in (names_in set.now.setup) (wants_of set.now.setup set.now.set opening.entry) (map (λ f. f.0) numbers.now))) }
+    ensures changes { IfOk result (λ outcome. outcome.changes.items
+        ≡ changes_to (wants_of set.now.setup set.now.set opening.entry) (map (λ f. f.0) numbers.now)) }
 {
-    let mut changes = Changes::new(alloc);
+    let mut changes = Vec::new(alloc);
     let mut fault = None;
     for field in numbers {
-        let wanted = wanted(alloc, setup, wants, *field)?;
-        fault = fault_after(setup, fault, *field, &wanted);
+        let wanted = wanted(alloc, set, opening, *field)?;
+        fault = fault_after(set.setup(), fault, *field, &wanted);
         put_change(&mut changes, *field, wanted)?;
     }
     Ok(Outcome { changes, fault })
 }
 
-/// The changes of all fields of which values are wanted, and the first field at fault, if any is.
+/// The changes of all fields of which values are wanted, and the first field at fault, if any is: by what `set` gives, and by
+/// what stands beside it in a create.
 #[tactic(auto, unfolding(tracker_machine::specs::Wanted::changes_of, tracker_machine::specs::Wanted::field_at_fault))]
-pub fn outcome_of_all(alloc: Global, setup: &Setup, wants: &Wants<'_>) -> Result<Outcome, Memory>
+pub fn outcome_of_all(
+    alloc: Global,
+    set: &ResolvedSet<'_>,
+    opening: Option<Opening<'_>>,
+) -> Result<Outcome, Memory>
     ensures fault { IfOk result (λ outcome. option_map (λ f. f.0) outcome.fault
-        ≡ field_at_fault (names_in (parts setup.now)) (wants_of (parts setup.now) wants.now)) }
-    ensures changes { IfOk result (λ outcome. outcome.changes ≡ changes_of (names_in (parts setup.now)) (wants_of (parts setup.now) wants.now)) }
+        ≡ field_at_fault (names_in set.now.setup) (wants_of set.now.setup set.now.set opening.entry)) }
+    ensures changes { IfOk result (λ outcome. outcome.changes.items
+        ≡ changes_of (names_in set.now.setup) (wants_of set.now.setup set.now.set opening.entry)) }
 {
-    let numbers = setup.field_numbers(alloc)?;
-    outcome_of(alloc, setup, wants, &numbers)
+    let numbers = set.setup().field_numbers(alloc)?;
+    outcome_of(alloc, set, opening, &numbers)
 }

@@ -1,6 +1,7 @@
 -- The plan of a transition.
 use Rattle.std.specs.Prelude.{◌≡◌, ◌≢◌, ℕ, List, [], ◌∷◌, ◌++◌, Option, None, Some, option_map, Result, Ok, Err}
 use Rattle.std.specs.Option.{option_or}
+use Rattle.std.specs.Global.{Vec}
 use Rattle.field_values.specs.declared.numbers.UserNo.{UserNo}
 use Rattle.field_values.specs.declared.value.Value.TheVariants.{Choice}
 use Rattle.field_values.specs.declared.parts.Transition.{Transition}
@@ -33,6 +34,6 @@ unfoldable pub planned : Parts → History → UserNo → Transition → List Ch
 planned setup h caller t inputs = net_changes (present h) (all_changes setup h caller t inputs)
 
 -- the answer is the first fault, and where there is none the changes; unless memory ran out
-abbrev pub Answers : Option PlanFault → List Change → Result (List Change) PlanFault → Type 0
-Answers fault changes (Ok answer) = (fault ≡ None) × (answer ≡ changes)
+abbrev pub Answers : Option PlanFault → List Change → Result (Vec Change) PlanFault → Type 0
+Answers fault changes (Ok answer) = (fault ≡ None) × (answer.items ≡ changes)
 Answers fault changes (Err e) = e ≢ Memory → fault ≡ Some e

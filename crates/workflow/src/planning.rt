@@ -5,22 +5,12 @@ ghost use Rattle.workflow.specs.Plan.{first_fault, all_changes, planned, Answers
 use crate::conditions::failing_condition;
 use crate::fault::PlanFault;
 use crate::inputs::refused_input;
-use crate::net::{change_copy, net_changes};
+use crate::net::net_changes;
 use crate::post_functions::put_post;
 use crate::validators::failing_validator;
-use change_history::{Change, Changes, Issue};
+use change_history::{Change, Issue};
 use fields::{FieldNo, Memory, Moment, Setup, Transition, UserNo, Value};
 use std::alloc::Global;
-
-fn copies(alloc: Global, changes: &[Change]) -> Result<Changes, Memory>
-    ensures { IfOk result (λ copies. copies ≡ changes.now) }
-{
-    let mut copies = Changes::new(alloc);
-    for change in changes {
-        copies.push(change_copy(alloc, change)?)?;
-    }
-    Ok(copies)
-}
 
 /// All that a transition changes: the inputs, then the status, then what the post functions set.
 #[tactic(auto, unfolding(crate::specs::Plan::all_changes))]
@@ -30,12 +20,12 @@ fn all_changes(
     issue: &Issue,
     caller: UserNo,
     transition: &Transition,
-    inputs: &[Change],
-) -> Result<Changes, Memory>
-    ensures { IfOk result (λ changes. changes
-        ≡ all_changes (parts setup.now) issue.now.history caller transition.now inputs.now) }
+    inputs: Vec<Change>,
+) -> Result<Vec<Change>, Memory>
+    ensures { IfOk result (λ changes. changes.items
+        ≡ all_changes (parts setup.now) issue.now.history caller transition.now inputs.items) }
 {
-    let mut changes = copies(alloc, inputs)?;
+    let mut changes = inputs;
     changes.push(Change {
         field: FieldNo::STATUS,
         to: Value::Choice(transition.to),
@@ -54,20 +44,20 @@ fn all_changes(
 /// The changes of an issue that a transition makes of its present values, by rising field number and each to another
 /// value: the inputs, the new status and what the post functions set, of which later ones overrule earlier ones. The
 /// first check that fails is told: of the conditions, of the inputs in the order of their fields' numbers, of the
-/// validators, which see the issue after the inputs. `transition` is its place in the setup's list.
+/// validators, which see the issue after the inputs. `transition` is its place in the setup's list. The inputs are moved.
 pub fn plan(
     alloc: Global,
     setup: &Setup,
     issue: &Issue,
     caller: UserNo,
     transition: usize,
-    inputs: &[Change],
+    inputs: Vec<Change>,
     at: Moment,
-) -> Result<Changes, PlanFault>
+) -> Result<Vec<Change>, PlanFault>
     requires { transition < length setup.now.transition }
     ensures { IfSome (slice_get setup.now.transition transition) (λ t.
-        Answers (first_fault (parts setup.now) issue.now.history caller t inputs.now at)
-        (planned (parts setup.now) issue.now.history caller t inputs.now) result) }
+        Answers (first_fault (parts setup.now) issue.now.history caller t inputs.items at)
+        (planned (parts setup.now) issue.now.history caller t inputs.items) result) }
 {
     plan_of(
         alloc,
@@ -111,20 +101,20 @@ fn plan_of(
     issue: &Issue,
     caller: UserNo,
     transition: &Transition,
-    inputs: &[Change],
+    inputs: Vec<Change>,
     at: Moment,
-) -> Result<Changes, PlanFault>
-    ensures { Answers (first_fault (parts setup.now) issue.now.history caller transition.now inputs.now at)
-        (planned (parts setup.now) issue.now.history caller transition.now inputs.now) result }
+) -> Result<Vec<Change>, PlanFault>
+    ensures { Answers (first_fault (parts setup.now) issue.now.history caller transition.now inputs.items at)
+        (planned (parts setup.now) issue.now.history caller transition.now inputs.items) result }
 {
-    if let Some(fault) = first_fault(setup, issue, caller, transition, inputs, at) {
+    if let Some(fault) = first_fault(setup, issue, caller, transition, inputs.as_slice(), at) {
         return Err(fault);
     }
     Ok(planned(alloc, setup, issue, caller, transition, inputs)?)
 }
 
 /// The changes that the transition makes of the issue's present values, whatever its checks say: by rising field number,
-/// and each to another value.
+/// and each to another value. The inputs are moved.
 #[tactic(auto, unfolding(crate::specs::Plan::planned))]
 pub fn planned(
     alloc: Global,
@@ -132,10 +122,11 @@ pub fn planned(
     issue: &Issue,
     caller: UserNo,
     transition: &Transition,
-    inputs: &[Change],
-) -> Result<Changes, Memory>
-    ensures { IfOk result (λ net. net ≡ planned (parts setup.now) issue.now.history caller transition.now inputs.now) }
+    inputs: Vec<Change>,
+) -> Result<Vec<Change>, Memory>
+    ensures { IfOk result (λ net. net.items
+        ≡ planned (parts setup.now) issue.now.history caller transition.now inputs.items) }
 {
     let changes = all_changes(alloc, setup, issue, caller, transition, inputs)?;
-    net_changes(alloc, issue, changes.as_slice())
+    net_changes(alloc, issue, changes)
 }

@@ -7,7 +7,7 @@ ghost use Rattle.workflow.specs.PostFunctions.{lead_of, post_change, with_post};
 
 use crate::net::value_after;
 use crate::project::project_number;
-use change_history::{Change, Changes, Issue};
+use change_history::{Change, Issue};
 use fields::{FieldNo, Memory, PostFunction, Setup, UserNo, Value};
 use std::alloc::Global;
 
@@ -59,10 +59,11 @@ pub(crate) fn put_post(
     setup: &Setup,
     issue: &Issue,
     caller: UserNo,
-    changes: &mut Changes,
+    changes: &mut Vec<Change>,
     posts: &[PostFunction],
 ) -> Result<(), Memory>
-    ensures { OnOk result (changes.new ≡ with_post (parts setup.now) issue.now.history caller changes.old posts.now) }
+    ensures { OnOk result (changes.new.items
+        ≡ with_post (parts setup.now) issue.now.history caller changes.old.items posts.now) }
 {
     for post in posts {
         let change = post_change(alloc, setup, issue, caller, changes.as_slice(), post)?;

@@ -57,23 +57,37 @@ fn open(
     no: u32,
     key: &str,
     step: Step<'_>,
-    values: Changes,
+    values: Vec<Change>,
 ) -> Result<Issue, Fault> {
     let key = key_of(alloc, key)?;
     let at = moment_of(step.at)?;
     let author = user_of(setup, step.user)?;
-    Ok(Issue::open(alloc, IssueNo(no), key, 1, at, author, values)?)
+    let opening = listed(alloc, values)?;
+    Ok(Issue::open(alloc, IssueNo(no), key, 1, at, author, opening)?)
 }
 
-fn changes_of(alloc: Global, setup: &Setup, values: &str) -> Result<Changes, Fault> {
+fn listed(alloc: Global, values: Vec<Change>) -> Result<Changes, Memory> {
     let mut changes = Changes::new(alloc);
+    for change in values {
+        changes.push(change)?;
+    }
+    Ok(changes)
+}
+
+fn changes_of(alloc: Global, setup: &Setup, values: &str) -> Result<Vec<Change>, Fault> {
+    let mut changes = Vec::new(alloc);
     if values.is_empty() {
         return Ok(changes);
     }
     for piece in values.split("; ") {
-        changes.push(change_of(alloc, setup, piece)?)?;
+        put(&mut changes, change_of(alloc, setup, piece)?)?;
     }
     Ok(changes)
+}
+
+fn put(changes: &mut Vec<Change>, change: Change) -> Result<(), Memory> {
+    changes.push(change)?;
+    Ok(())
 }
 
 fn change_of(alloc: Global, setup: &Setup, piece: &str) -> Result<Change, Fault> {
@@ -96,7 +110,7 @@ fn make(alloc: Global, setup: &Setup, issue: &mut Issue, text: &str) -> Result<(
     if at.seconds() < issue.updated().seconds() {
         return Err(Fault::NoRow);
     }
-    add(alloc, issue, at, author, changes.as_slice())
+    add(alloc, issue, at, author, changes)
 }
 
 // Adds what the changes come to as one change group; where they change nothing there is none.
@@ -105,7 +119,7 @@ fn add(
     issue: &mut Issue,
     at: Moment,
     author: UserNo,
-    changes: &[Change],
+    changes: Vec<Change>,
 ) -> Result<(), Fault>
     requires { updated issue.old.history ≤ at }
 {
@@ -119,8 +133,8 @@ fn add(
     Ok(())
 }
 
-fn news_of(alloc: Global, issue: &Issue, changes: &[Change]) -> Result<Changes, Memory>
-    ensures { IfOk result (AreNews (present issue.now.history) 0) }
+fn news_of(alloc: Global, issue: &Issue, changes: Vec<Change>) -> Result<Vec<Change>, Memory>
+    ensures { IfOk result (λ net. AreNews (present issue.now.history) 0 net.items) }
 {
     net_changes(alloc, issue, changes)
 }

@@ -14,15 +14,15 @@ use Rattle.tracker_core.proofs.create.check_create.Goals as goal
 pub returns-clause-named : goal.returns-clause-named
 returns-clause-named c =
     let setup = c.args.state.now.machine.setup in
-    let wants = create_wants setup c.args.caller.0 c.args.issue_type.now c.args.summary.now c.args.set.now in
-    let same : c.in_ok-changes.changes ≡ changes_of (names_in setup) wants = c.in_ok-changes.ensures.changes in
+    let wants = create_wants setup c.args.opening.caller.0 c.args.opening.issue_type.now c.args.opening.summary.now c.args.set.now.set in
+    let same : c.in_ok-changes.changes.items ≡ changes_of (names_in setup) wants = c.in_ok-changes.ensures.changes in
     subst (λ cs. AreNamed (opening_value (filled cs))) (sym same)
-    (created_named c.args.state.now.machine c.args.caller.0 c.args.issue_type.now c.args.summary.now c.args.set.now c.in_ok-changes.ensures.check)
+    (created_named c.args.state.now.machine c.args.opening.caller.0 c.args.opening.issue_type.now c.args.opening.summary.now c.args.set.now.set c.in_ok-changes.ensures.check)
 
 pub returns-clause-listed : goal.returns-clause-listed
 returns-clause-listed c = λ small.
     let names = names_in c.args.state.now.machine.setup in
-    let wants = create_wants c.args.state.now.machine.setup c.args.caller.0 c.args.issue_type.now c.args.summary.now c.args.set.now in
-    let same : c.in_ok-changes.changes ≡ changes_of names wants = c.in_ok-changes.ensures.changes in
+    let wants = create_wants c.args.state.now.machine.setup c.args.opening.caller.0 c.args.opening.issue_type.now c.args.opening.summary.now c.args.set.now.set in
+    let same : c.in_ok-changes.changes.items ≡ changes_of names wants = c.in_ok-changes.ensures.changes in
     subst (λ cs. are_opening names (filled cs) ≡ true) (sym same)
-    (created_listed names wants (subst (λ cs. AllFit names cs) same c.in_ok-changes.ensures.fitting) (subst (λ cs. AreSmall cs) same (unfilled_small c.in_ok-changes.changes small)))
+    (created_listed names wants (subst (λ cs. AllFit names cs) same c.in_ok-changes.ensures.fitting) (subst (λ cs. AreSmall cs) same (unfilled_small c.in_ok-changes.changes.items small)))

@@ -11,9 +11,9 @@ use Rattle.tracker_core.proofs.edit.news_of.Goals as goal
 pub returns-clause-news : goal.returns-clause-news
 returns-clause-news c =
     let before = present c.args.issue.now.history in
-    IfOk-weaker c.net_changes.result _ _ (λ net is. subst (λ (cs : List Change). AreNews before 0 cs) (sym is) (net_is before c.args.changes.now).news) c.net_changes.ensures
+    IfOk-weaker c.net_changes.result _ _ (λ net is. subst (λ (cs : List Change). AreNews before 0 cs) (sym is) (net_is before c.args.changes.items).news) c.net_changes.ensures
 
 pub returns-clause-fitting : goal.returns-clause-fitting
 returns-clause-fitting c =
     let before = present c.args.issue.now.history in
-    IfOk-weaker c.net_changes.result _ _ (λ net is names fit. subst (λ (cs : List Change). AllFit names cs) (sym is) (fits_net names before c.args.changes.now fit)) c.net_changes.ensures
+    IfOk-weaker c.net_changes.result _ _ (λ net is names fit. subst (λ (cs : List Change). AllFit names cs) (sym is) (fits_net names before c.args.changes.items fit)) c.net_changes.ensures

@@ -14,5 +14,5 @@ returns-clause-prepared c =
     let is = c.in-Ok-new_group.ensures in
     let said : c.answer_of-answer.result ≡ group_answer c.args.call c.args.name.now (Some new.group.change) =
     c.answer_of-answer.ensures ∙ ap (λ name. group_answer c.args.call name (Some new.group.change)) c.in-Ok.ensures in
-    subst (λ a. IfSome (slice_get m.histories c.args.place) (λ h. IsReady (grouped (group_answer c.args.call c.args.name.now) m c.args.caller.0 c.args.place h c.args.net.now) s (plans.Group new) a rows.items)) (sym said)
-    (group_made (group_answer c.args.call c.args.name.now) m c.args.caller.0 c.args.place (slice_get m.histories c.args.place) c.args.net.now s new rows.items refl is.some is.same is.place is.group is.allowed is.fits is.rows)
+    subst (λ a. IfSome (slice_get m.histories c.args.place) (λ h. IsReady (grouped (group_answer c.args.call c.args.name.now) m c.args.caller.0 c.args.place h c.args.net.items) s (plans.Group new) a rows.items)) (sym said)
+    (group_made (group_answer c.args.call c.args.name.now) m c.args.caller.0 c.args.place (slice_get m.histories c.args.place) c.args.net.items s new rows.items refl is.some is.same is.place is.group is.allowed is.fits is.rows)

@@ -16,19 +16,19 @@ returns-clause-few c =
     let before = present c.args.issue.now.history in
     IfOk-weaker c.entries_of.result _ _ (λ es is names fit few.
     subst (λ (xs : List Entry). length xs ≤ 43) (sym is)
-    (omega (arith, length-map c.args.net.now (entry_of before c.args.change c.args.at c.args.author), few_changes names before c.args.net.now c.requires.news fit few))) c.entries_of.ensures
+    (omega (arith, length-map c.args.net.items (entry_of before c.args.change c.args.at c.args.author), few_changes names before c.args.net.items c.requires.news fit few))) c.entries_of.ensures
 
 pub returns-clause-fitting : goal.returns-clause-fitting
 returns-clause-fitting c =
     let before = present c.args.issue.now.history in
     IfOk-weaker c.entries_of.result _ _ (λ es is names fit.
     subst (λ (xs : List Entry). AllEntriesFit names xs) (sym is)
-    (entries_fit names before c.args.change c.args.at c.args.author c.args.net.now fit)) c.entries_of.ensures
+    (entries_fit names before c.args.change c.args.at c.args.author c.args.net.items fit)) c.entries_of.ensures
 
 pub returns-clause-may : goal.returns-clause-may
 returns-clause-may c =
     let h = c.args.issue.now.history in
     IfOk-weaker c.entries_of.result _ _ (λ es is.
     subst (λ (xs : List Entry). MayAdd h c.args.change c.args.at c.args.author xs) (sym is)
-    (may_be_added h (with_changes (present h) c.args.net.now) c.args.net.now c.args.change c.args.at c.args.author
-    (record { news = c.requires.news; gives = λ f. refl }) (some_changes c.args.net.now c.requires.some) c.requires.timely c.requires.earlier)) c.entries_of.ensures
+    (may_be_added h (with_changes (present h) c.args.net.items) c.args.net.items c.args.change c.args.at c.args.author
+    (record { news = c.requires.news; gives = λ f. refl }) (some_changes c.args.net.items c.requires.some) c.requires.timely c.requires.earlier)) c.entries_of.ensures

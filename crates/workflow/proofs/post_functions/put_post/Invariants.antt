@@ -5,5 +5,5 @@ use Rattle.workflow.proofs.post_functions.put_post.Given as goal
 
 abbrev pub invariant-loop-post : goal.invariant-loop-post
 invariant-loop-post l =
-    with_post (parts l.setup) l.issue.history l.caller l.fn.changes l.posts
-    ≡ with_post (parts l.setup) l.issue.history l.caller l.changes (drop l.post-index l.posts)
+    with_post (parts l.setup) l.issue.history l.caller l.fn.changes.items l.posts
+    ≡ with_post (parts l.setup) l.issue.history l.caller l.changes.items (drop l.post-index l.posts)
