@@ -3,6 +3,7 @@ ghost use Rattle.std.specs.Prelude.{◌≡◌, ◌++◌, ◌∷◌, [], OnOk, On
 ghost use Rattle.tracker_calls.specs.Reply.{reply_text};
 ghost use Rattle.tracker_machine.specs.Run.{RepliesTo, is_blank, is_blank_byte, reply_line};
 ghost use Rattle.tracker_machine.specs.Kept.{rows_of};
+ghost use Rattle.tracker_core.specs.Desk.{IsOwed};
 ghost use Rattle.tracker_cli.specs.Answering.{AnswersKept};
 
 use fields::{Memory, Steps};
@@ -53,6 +54,7 @@ impl<L: Ledger, P: Keeper + Drop> RequestLines<L, P> {
     fn reply_to(&mut self, line: &[u8]) -> Reply
         ensures reply { RepliesTo self.old.machine line.now result self.new.machine }
         ensures rows { P.keeps self.old.keeper (rows_of self.old.machine) → P.keeps self.new.keeper (rows_of self.new.machine) }
+        ensures cause { IsOwed result (P.faults self.old.keeper) (P.faults self.new.keeper) }
     {
         match read_line(self.alloc, line) {
             Ok((user, call)) => self.desk.call(&user, &call, &mut self.steps),
@@ -62,7 +64,7 @@ impl<L: Ledger, P: Keeper + Drop> RequestLines<L, P> {
 }
 
 impl<L: Ledger, P: Keeper + Drop> Responder for RequestLines<L, P> {
-    ghost answers = { AnswersKept P.keeps };
+    ghost answers = { AnswersKept P.keeps P.faults };
 
     fn respond(&mut self, line: &[u8], answer: &mut Vec<u8>) -> Result<(), AllocError> {
         answer.clear();

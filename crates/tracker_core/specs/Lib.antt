@@ -5,3 +5,4 @@ pub mod Issues
 pub mod Plan
 pub mod State
 pub mod Wants
+pub mod Weight
