@@ -1,5 +1,5 @@
 -- From how the loop over lines ends to what the top call says.
-use Rattle.std.proofs.Common.{◌≡◌, ℕ, List, [], ◌∷◌, ◌++◌, arith, refl, ap, sym, subst, Option, Some, None, IfSome, inl, inr}
+use Rattle.std.proofs.Common.{◌≡◌, ℕ, List, [], ◌∷◌, ◌++◌, refl, ap, sym, subst, Option, Some, None, IfSome, inl, inr}
 use Rattle.std.specs.Prelude.{◌⊎◌, ◌+◌, ◌≤◌}
 use Rattle.std.specs.Io.KnownBytes.{Appends}
 use Rattle.std.proofs.lemmas.Option.{IfSome_then}
@@ -11,16 +11,14 @@ use Rattle.request_lines.proofs.Known.{Appends-trans}
 use Rattle.request_lines.proofs.Progress.{Appends-nil}
 use Rattle.jql_check.specs.Check.{IsReply}
 use Rattle.tracker_machine.specs.Machine.{Machine}
-use Rattle.tracker_machine.specs.Run.{Mark, plain, memory, keeper, marked_reply, failures_at, IsRun, IsFrontOfReply, requests}
+use Rattle.tracker_machine.specs.Run.{IsRun, IsFrontOfReply, requests}
 use Rattle.tracker_machine.proofs.Runs.{IsRun-nil, IsRun-line, front_of_reply}
-use Rattle.tracker_calls.specs.declared.reply.Reply.{Reply}
-use Rattle.tracker_calls.specs.declared.reply.Reply.TheVariants as reply
-use Rattle.tracker_calls.specs.declared.reply.Refusal.TheVariants as refusal
 use Rattle.tracker_cli.specs.Outcome.{HasRowsOf, IsExec, IsCheck, IsStart, AreReplies, AreCutReplies, AreChecked, AreCutChecks, IsFrontOfCheck, AreRepliesOf, AreCutRepliesOf, GrewBy, IsLimitText, IsCutLimitText, EndsRun, limit_line, limit_lines}
 use Rattle.tracker_keeper.specs.Rows.{Rows, no_rows}
-use Rattle.tracker_core.specs.Desk.{DeskParts, IsOwed}
+use Rattle.tracker_core.specs.Desk.{DeskParts}
 use Rattle.tracker_machine.specs.Kept.{rows_of}
 use Rattle.tracker_cli.specs.Answering.{AnswersKept, RoseBy}
+use Rattle.tracker_cli.proofs.Counted.{rose_again, rose_later, rose_none}
 
 -- which texts are the replies to lines, and which are those to an input where it is cut short
 abbrev Whole : Type 1
@@ -76,37 +74,6 @@ StaysKept keeps old new = keeps old.keeper (rows_of old.machine) → keeps new.k
 
 stays_same : {P : Type 0} (keeps : P → Rows → Type 0) (old new : DeskParts P) → new ≡ old → StaysKept keeps old new
 stays_same keeps old new same = λ kept. subst (λ (d : DeskParts _). keeps d.keeper (rows_of d.machine)) (sym same) kept
-
--- a count that rose, and rose again
-rose_again : (a b c n k : ℕ) → RoseBy a b n → RoseBy b c k → RoseBy a c (n + k)
-rose_again a b c n k one other = omega arith
-
-rose_later : (a b c n : ℕ) → a ≤ b → RoseBy b c n → RoseBy a c n
-rose_later a b c n later rose = omega arith
-
--- one that stands has not risen
-rose_none : (a b : ℕ) → b ≡ a → RoseBy a b 0
-rose_none a b same = omega arith
-
--- the refusal of a keeper's fault comes only where its count rose, and no reply where it fell
-rose_at : (r : Reply) (a b : ℕ) → IsOwed r a b → RoseBy a b 0
-rose_at (reply.Ok x) a b owed = omega arith
-rose_at (reply.Refused refusal.Keeper) a b owed = omega arith
-rose_at (reply.Refused refusal.Memory) a b owed = omega arith
-rose_at (reply.Refused (refusal.Form f)) a b owed = omega arith
-rose_at (reply.Refused (refusal.Unknown k f)) a b owed = omega arith
-rose_at (reply.Refused (refusal.Forbidden p q)) a b owed = omega arith
-rose_at (reply.Refused (refusal.Condition k)) a b owed = omega arith
-rose_at (reply.Refused (refusal.Validator k)) a b owed = omega arith
-rose_at (reply.Refused (refusal.Unfit f)) a b owed = omega arith
-rose_at (reply.Refused (refusal.Query k p)) a b owed = omega arith
-rose_at (reply.Refused (refusal.Limit l)) a b owed = omega arith
-rose_at (reply.Refused (refusal.Earlier k)) a b owed = omega arith
-
-pub rose_with : (m : Machine) (line : List ℕ) (mark : Mark) (r : Reply) (a b : ℕ) → r ≡ marked_reply m line mark → IsOwed r a b → RoseBy a b (failures_at mark)
-rose_with m line plain r a b is owed = rose_at r a b owed
-rose_with m line memory r a b is owed = rose_at r a b owed
-rose_with m line keeper r a b is owed = subst (λ q. IsOwed q a b) is owed
 
 -- lines were answered, from one desk to another
 record Served {P : Type 0} (keeps : P → Rows → Type 0) (faults : P → ℕ) (old new : DeskParts P) (all : List (List ℕ)) (text : List ℕ) : Type 0 where

@@ -1,5 +1,5 @@
 use Rattle.fields.specs.SetupParts.{parts}
-use Rattle.std.proofs.Common.{◌≡◌, ◌≤◌, ◌∙◌, ap, sym, subst}
+use Rattle.std.proofs.Common.{◌≤◌, ◌∙◌, ap, sym, subst}
 use Rattle.tracker_core.specs.Desk.{DeskParts}
 use Rattle.tracker_machine.specs.Machine.{Machine, opening}
 use Rattle.tracker_machine.specs.Kept.{rows_of}

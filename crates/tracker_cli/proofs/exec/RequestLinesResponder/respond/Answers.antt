@@ -3,7 +3,6 @@ use Rattle.std.specs.Prelude.{OnErr, Result}
 use Rattle.tracker_machine.specs.Run.{reply_line, failures_at}
 use Rattle.tracker_cli.specs.Answering.{AnswersKept}
 use Rattle.tracker_machine.proofs.Replies.{AnswersLine-reply}
-use Rattle.tracker_cli.proofs.Outcomes.{rose_with}
 use Rattle.tracker_cli.proofs.exec.RequestLinesResponder.respond.Goals as goal
 
 always : {T E : Type 0} (r : Result T E) (P : Type 0) → P → OnErr r P
@@ -15,10 +14,10 @@ returns-clause-err g c =
     let told : (text : List ℕ) × AnswersKept g.P.Keeper.keeps g.P.Keeper.faults c.args.self.now c.args.line.now text c.reply_to-reply.new.self = (
       reply_line c.reply_to-reply.result,
       record {
-        failures = failures_at c.reply_to-reply.ensures.reply.mark;
-        answered = AnswersLine-reply _ _ _ _ _ (sym c.is_blank.ensures ∙ c.if-is_blank.false) c.reply_to-reply.ensures.reply refl;
+        failures = failures_at c.reply_to-reply.ensures.reply.replies.mark;
+        answered = AnswersLine-reply _ _ _ _ _ (sym c.is_blank.ensures ∙ c.if-is_blank.false) c.reply_to-reply.ensures.reply.replies refl;
         rows = c.reply_to-reply.ensures.rows;
-        counted = rose_with _ _ c.reply_to-reply.ensures.reply.mark _ _ _ c.reply_to-reply.ensures.reply.reply_is c.reply_to-reply.ensures.cause;
+        counted = c.reply_to-reply.ensures.reply.counted;
       },
     ) in
     always _ _ told
