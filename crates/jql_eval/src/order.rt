@@ -10,7 +10,6 @@ use fields::Setup;
 use jql_bound::{Direction, OrderBy, SortField};
 use std::cmp::Ordering;
 
-/// The field of the status.
 /// How two issues stand to each other: the first sort key that tells them apart decides, and after all of them the issues' numbers.
 /// `ranks` says how they stand in the order of ranks.
 #[tactic(auto, unfolding(jql_meaning::specs::Order::issue_cmp))]

@@ -1,6 +1,6 @@
 -- From how the loop over lines ends to what the top call says.
 use Rattle.std.proofs.Common.{◌≡◌, ℕ, List, [], ◌∷◌, ◌++◌, refl, ap, sym, subst, Option, Some, None, IfSome, inl, inr}
-use Rattle.std.specs.Prelude.{◌⊎◌}
+use Rattle.std.specs.Prelude.{◌⊎◌, ◌+◌, ◌≤◌}
 use Rattle.std.specs.Io.KnownBytes.{Appends}
 use Rattle.std.proofs.lemmas.Option.{IfSome_then}
 use Rattle.request_lines.specs.Lines.{lines, StopsAtLong, StopsAtMany}
@@ -11,13 +11,14 @@ use Rattle.request_lines.proofs.Known.{Appends-trans}
 use Rattle.request_lines.proofs.Progress.{Appends-nil}
 use Rattle.jql_check.specs.Check.{IsReply}
 use Rattle.tracker_machine.specs.Machine.{Machine}
-use Rattle.tracker_machine.specs.Run.{AnswersLine}
-use Rattle.tracker_machine.proofs.Runs.{run_of_lines, front_of_reply}
+use Rattle.tracker_machine.specs.Run.{IsRun, IsFrontOfReply, requests}
+use Rattle.tracker_machine.proofs.Runs.{IsRun-nil, IsRun-line, front_of_reply}
 use Rattle.tracker_cli.specs.Outcome.{HasRowsOf, IsExec, IsCheck, IsStart, AreReplies, AreCutReplies, AreChecked, AreCutChecks, IsFrontOfCheck, AreRepliesOf, AreCutRepliesOf, GrewBy, IsLimitText, IsCutLimitText, EndsRun, limit_line, limit_lines}
 use Rattle.tracker_keeper.specs.Rows.{Rows, no_rows}
 use Rattle.tracker_core.specs.Desk.{DeskParts}
 use Rattle.tracker_machine.specs.Kept.{rows_of}
-use Rattle.tracker_cli.specs.Answering.{AnswersKept}
+use Rattle.tracker_cli.specs.Answering.{AnswersKept, RoseBy}
+use Rattle.tracker_cli.proofs.Counted.{rose_again, rose_later, rose_none}
 
 -- which texts are the replies to lines, and which are those to an input where it is cut short
 abbrev Whole : Type 1
@@ -40,14 +41,14 @@ retold R Q C D f g bytes left t u LongLine (done, stops, one) = (done, stops, gr
 retold R Q C D f g bytes left t u ManyLines (done, stops, one) = (done, stops, grew t u _ _ (f done) one)
 
 -- the command is exec
-pub exec_ends : (Kept : Machine → Type 0) (Unopened : Type 0) (setup : List ℕ) (words : List (List ℕ)) (old left t u : Option (List ℕ)) (end : End) → IsExec words →
+pub exec_ends : (Kept : Machine → ℕ → Type 0) (Unopened : Type 0) (setup : List ℕ) (words : List (List ℕ)) (old left t u : Option (List ℕ)) (end : End) → IsExec words →
     IfSome old (λ bytes. EndsRun (AreReplies Kept setup) (AreCutReplies Kept Unopened setup) bytes left t u end) →
     IfSome old (λ bytes. EndsRun (AreRepliesOf Kept setup words) (AreCutRepliesOf Kept Unopened setup words) bytes left t u end)
 exec_ends Kept Unopened setup words old left t u end is ends = IfSome_then old ends (λ bytes p.
     retold (AreReplies Kept setup) (AreRepliesOf Kept setup words) (AreCutReplies Kept Unopened setup) (AreCutRepliesOf Kept Unopened setup words) (λ all text r. inl (is, r)) (λ b text r. inl (is, r)) bytes left t u end p)
 
 -- the command is check
-pub check_ends : (Kept : Machine → Type 0) (Unopened : Type 0) (setup : List ℕ) (words : List (List ℕ)) (old left t u : Option (List ℕ)) (end : End) → IsCheck words →
+pub check_ends : (Kept : Machine → ℕ → Type 0) (Unopened : Type 0) (setup : List ℕ) (words : List (List ℕ)) (old left t u : Option (List ℕ)) (end : End) → IsCheck words →
     IfSome old (λ bytes. EndsRun AreChecked AreCutChecks bytes left t u end) →
     IfSome old (λ bytes. EndsRun (AreRepliesOf Kept setup words) (AreCutRepliesOf Kept Unopened setup words) bytes left t u end)
 check_ends Kept Unopened setup words old left t u end is ends = IfSome_then old ends (λ bytes p.
@@ -65,84 +66,131 @@ told Answers start R C f g bytes left t u Memory new one = g bytes t u new one
 told Answers start R C f g bytes left t u LongLine new (done, stops, one) = (done, stops, (one.text, f done one.text new one.answered, one.written))
 told Answers start R C f g bytes left t u ManyLines new (done, stops, one) = (done, stops, (one.text, f done one.text new one.answered, one.written))
 
--- ---- lines that a desk answers: the tracker's states alone, and then what is kept of the last one
+-- ---- lines that a desk answers
 
 -- what each answer leaves kept
 abbrev StaysKept : {P : Type 0} → (P → Rows → Type 0) → DeskParts P → DeskParts P → Type 0
 StaysKept keeps old new = keeps old.keeper (rows_of old.machine) → keeps new.keeper (rows_of new.machine)
 
-machine_of : {P : Type 0} (keeps : P → Rows → Type 0) (old new : DeskParts P) (all : List (List ℕ)) (text : List ℕ)
-    → AreAnswered (AnswersKept keeps) old all text new → AreAnswered AnswersLine old.machine all text new.machine
-machine_of keeps old new [] text (none, same) = (none, ap (λ (d : DeskParts _). d.machine) same)
-machine_of keeps old new (line ∷ more) text (next, first, rest, here, is, later) =
-    (next.machine, first, rest, here.answered, is, machine_of keeps next new more rest later)
+stays_same : {P : Type 0} (keeps : P → Rows → Type 0) (old new : DeskParts P) → new ≡ old → StaysKept keeps old new
+stays_same keeps old new same = λ kept. subst (λ (d : DeskParts _). keeps d.keeper (rows_of d.machine)) (sym same) kept
 
-kept_of : {P : Type 0} (keeps : P → Rows → Type 0) (old new : DeskParts P) (all : List (List ℕ)) (text : List ℕ)
-    → AreAnswered (AnswersKept keeps) old all text new → StaysKept keeps old new
-kept_of keeps old new [] text (none, same) = λ kept. subst (λ (d : DeskParts _). keeps d.keeper (rows_of d.machine)) (sym same) kept
-kept_of keeps old new (line ∷ more) text (next, first, rest, here, is, later) = λ kept. kept_of keeps next new more rest later (here.rows kept)
+-- lines were answered, from one desk to another
+record Served {P : Type 0} (keeps : P → Rows → Type 0) (faults : P → ℕ) (old new : DeskParts P) (all : List (List ℕ)) (text : List ℕ) : Type 0 where
+  failures : ℕ
+  run : IsRun old.machine (requests all) text new.machine failures
+  stays : StaysKept keeps old new
+  counted : RoseBy (faults old.keeper) (faults new.keeper) failures
 
-front_machine : {P : Type 0} (keeps : P → Rows → Type 0) (middle new : DeskParts P) (done rest : List (List ℕ)) (front : List ℕ)
-    → IsFrontOfNext (AnswersKept keeps) middle done rest front new → IsFrontOfNext AnswersLine middle.machine done rest front new.machine
-front_machine keeps middle new done rest front (inl (none, same)) = inl (none, ap (λ (d : DeskParts _). d.machine) same)
-front_machine keeps middle new done rest front (inr (line, more, text, back, is, within, here, parts)) = inr (line, more, text, back, is, within, here.answered, parts)
+none_served : {P : Type 0} (keeps : P → Rows → Type 0) (faults : P → ℕ) (old : DeskParts P) → Served keeps faults old old [] []
+none_served keeps faults old = record { failures = 0; run = IsRun-nil old.machine; stays = λ kept. kept; counted = rose_none _ _ refl }
 
-front_kept : {P : Type 0} (keeps : P → Rows → Type 0) (middle new : DeskParts P) (done rest : List (List ℕ)) (front : List ℕ)
-    → IsFrontOfNext (AnswersKept keeps) middle done rest front new → StaysKept keeps middle new
-front_kept keeps middle new done rest front (inl (none, same)) = λ kept. subst (λ (d : DeskParts _). keeps d.keeper (rows_of d.machine)) (sym same) kept
-front_kept keeps middle new done rest front (inr (line, more, text, back, is, within, here, parts)) = here.rows
-
-replies : {P : Type 0} (keeps : P → Rows → Type 0) (words : List ℕ) (Kept : Machine → Type 0) (start new : DeskParts P) → IsStart words start.machine → (StaysKept keeps start new → Kept new.machine)
-    → (all : List (List ℕ)) (text : List ℕ) → AreAnswered (AnswersKept keeps) start all text new → AreReplies Kept words all text
-replies keeps words Kept start new is kept all text one =
-    (start.machine, new.machine, is, run_of_lines start.machine new.machine all text (machine_of keeps start new all text one), kept (kept_of keeps start new all text one))
-
-cut : {P : Type 0} (keeps : P → Rows → Type 0) (words : List ℕ) (Kept : Machine → Type 0) (Unopened : Type 0) (start new : DeskParts P) → IsStart words start.machine → (StaysKept keeps start new → Kept new.machine)
-    → (bytes : List ℕ) (t u : Option (List ℕ)) → IsCutShort (AnswersKept keeps) start (lines bytes) t u new → GrewBy t u (AreCutReplies Kept Unopened words bytes)
-cut keeps words Kept Unopened start new is kept bytes t u one = (
-  one.text ++ one.front,
-  inr (
-    start.machine,
-    new.machine,
-    is,
+served_lines : {P : Type 0} (keeps : P → Rows → Type 0) (faults : P → ℕ) (old new : DeskParts P) (all : List (List ℕ)) (text : List ℕ)
+    → AreAnswered (AnswersKept keeps faults) old all text new → Served keeps faults old new all text
+served_lines keeps faults old new [] text (none, same) =
+    subst (λ t. Served keeps faults old new [] t) (sym none) (subst (λ d. Served keeps faults old d [] []) (sym same) (none_served keeps faults old))
+served_lines keeps faults old new (line ∷ more) text (next, first, rest, here, is, later) =
+    let after = served_lines keeps faults next new more rest later in
     record {
-      done = one.done;
-      rest = one.rest;
-      all_is = one.all_is;
-      within = one.within;
-      whole = one.text;
-      middle = one.middle.machine;
-      run = run_of_lines start.machine one.middle.machine one.done one.text (machine_of keeps start one.middle one.done one.text one.answered);
-      front = one.front;
-      next = front_of_reply one.middle.machine new.machine one.done one.rest one.front (front_machine keeps one.middle new one.done one.rest one.front one.next);
-      text_is = refl;
-    },
-    kept (λ k. front_kept keeps one.middle new one.done one.rest one.front one.next (kept_of keeps start one.middle one.done one.text one.answered k)),
-  ),
-  one.written,
-)
+      failures = here.failures + after.failures;
+      run = subst (λ t. IsRun old.machine (requests (line ∷ more)) t new.machine (here.failures + after.failures)) (sym is)
+          (IsRun-line old.machine next.machine new.machine line first rest more here.failures after.failures here.answered after.run);
+      stays = λ kept. after.stays (here.rows kept);
+      counted = rose_again _ _ _ here.failures after.failures here.counted after.counted;
+    }
+
+-- and of the next one's answer a front, or nothing
+record ServedFront {P : Type 0} (keeps : P → Rows → Type 0) (faults : P → ℕ) (middle new : DeskParts P) (done rest : List (List ℕ)) (front : List ℕ) : Type 0 where
+  failures : ℕ
+  next : IsFrontOfReply middle.machine done rest front new.machine failures
+  stays : StaysKept keeps middle new
+  counted : RoseBy (faults middle.keeper) (faults new.keeper) failures
+
+served_front : {P : Type 0} (keeps : P → Rows → Type 0) (faults : P → ℕ) (middle new : DeskParts P) (done rest : List (List ℕ)) (front : List ℕ)
+    → IsFrontOfNext (AnswersKept keeps faults) middle done rest front new → ServedFront keeps faults middle new done rest front
+served_front keeps faults middle new done rest front (inl (none, same)) = record {
+  failures = 0;
+  next = inl (none, ap (λ (d : DeskParts _). d.machine) same, refl);
+  stays = stays_same keeps middle new same;
+  counted = rose_none _ _ (ap (λ (d : DeskParts _). faults d.keeper) same);
+}
+served_front keeps faults middle new done rest front (inr (line, more, text, back, is, within, here, parts)) = record {
+  failures = here.failures;
+  next = front_of_reply middle.machine new.machine line text front back done rest more here.failures here.answered is within parts;
+  stays = here.rows;
+  counted = here.counted;
+}
+
+-- what is said of the desk at which the loop ended, by what was kept and counted on the way
+abbrev Leads : {P : Type 0} → (P → Rows → Type 0) → (P → ℕ) → (Machine → ℕ → Type 0) → DeskParts P → DeskParts P → Type 0
+Leads keeps faults Kept start new = (failures : ℕ) → StaysKept keeps start new → RoseBy (faults start.keeper) (faults new.keeper) failures → Kept new.machine failures
+
+replies : {P : Type 0} (keeps : P → Rows → Type 0) (faults : P → ℕ) (words : List ℕ) (Kept : Machine → ℕ → Type 0) (start new : DeskParts P) → IsStart words start.machine
+    → Leads keeps faults Kept start new → (all : List (List ℕ)) (text : List ℕ) → AreAnswered (AnswersKept keeps faults) start all text new → AreReplies Kept words all text
+replies keeps faults words Kept start new is kept all text one =
+    let run = served_lines keeps faults start new all text one in
+    (start.machine, new.machine, run.failures, is, run.run, kept run.failures run.stays run.counted)
+
+cut : {P : Type 0} (keeps : P → Rows → Type 0) (faults : P → ℕ) (words : List ℕ) (Kept : Machine → ℕ → Type 0) (Unopened : Type 0) (start new : DeskParts P) → IsStart words start.machine
+    → Leads keeps faults Kept start new
+    → (bytes : List ℕ) (t u : Option (List ℕ)) → IsCutShort (AnswersKept keeps faults) start (lines bytes) t u new → GrewBy t u (AreCutReplies Kept Unopened words bytes)
+cut keeps faults words Kept Unopened start new is kept bytes t u one =
+    let run = served_lines keeps faults start one.middle one.done one.text one.answered in
+    let end = served_front keeps faults one.middle new one.done one.rest one.front one.next in (
+      one.text ++ one.front,
+      inr (
+        start.machine,
+        new.machine,
+        run.failures + end.failures,
+        is,
+        record {
+          done = one.done;
+          rest = one.rest;
+          all_is = one.all_is;
+          within = one.within;
+          whole = one.text;
+          middle = one.middle.machine;
+          before = run.failures;
+          run = run.run;
+          front = one.front;
+          last = end.failures;
+          next = end.next;
+          text_is = refl;
+          failures_are = refl;
+        },
+        kept (run.failures + end.failures) (λ k. end.stays (run.stays k)) (rose_again _ _ _ run.failures end.failures run.counted end.counted),
+      ),
+      one.written,
+    )
 
 -- the last state is the one at which the loop ended
-served : {P : Type 0} (keeps : P → Rows → Type 0) (words : List ℕ) (Kept : Machine → Type 0) (Unopened : Type 0) (start new : DeskParts P) → IsStart words start.machine → (StaysKept keeps start new → Kept new.machine)
-    → (bytes : List ℕ) (left t u : Option (List ℕ)) (end : End) → Ends (AnswersKept keeps) start bytes left t u end new → EndsRun (AreReplies Kept words) (AreCutReplies Kept Unopened words) bytes left t u end
-served keeps words Kept Unopened start new is kept bytes left t u Done (at_end, within, one) =
-    (at_end, within, (one.text, replies keeps words Kept start new is kept _ one.text one.answered, one.written))
-served keeps words Kept Unopened start new is kept bytes left t u ReadFault (read, taken, within, one) =
-    (read, taken, within, (one.text, replies keeps words Kept start new is kept _ one.text one.answered, one.written))
-served keeps words Kept Unopened start new is kept bytes left t u WriteFault one = cut keeps words Kept Unopened start new is kept bytes t u one
-served keeps words Kept Unopened start new is kept bytes left t u Memory one = cut keeps words Kept Unopened start new is kept bytes t u one
-served keeps words Kept Unopened start new is kept bytes left t u LongLine (done, stops, one) =
-    (done, stops, (one.text, replies keeps words Kept start new is kept done one.text one.answered, one.written))
-served keeps words Kept Unopened start new is kept bytes left t u ManyLines (done, stops, one) =
-    (done, stops, (one.text, replies keeps words Kept start new is kept done one.text one.answered, one.written))
+served : {P : Type 0} (keeps : P → Rows → Type 0) (faults : P → ℕ) (words : List ℕ) (Kept : Machine → ℕ → Type 0) (Unopened : Type 0) (start new : DeskParts P) → IsStart words start.machine
+    → Leads keeps faults Kept start new
+    → (bytes : List ℕ) (left t u : Option (List ℕ)) (end : End) → Ends (AnswersKept keeps faults) start bytes left t u end new
+    → EndsRun (AreReplies Kept words) (AreCutReplies Kept Unopened words) bytes left t u end
+served keeps faults words Kept Unopened start new is kept bytes left t u Done (at_end, within, one) =
+    (at_end, within, (one.text, replies keeps faults words Kept start new is kept _ one.text one.answered, one.written))
+served keeps faults words Kept Unopened start new is kept bytes left t u ReadFault (read, taken, within, one) =
+    (read, taken, within, (one.text, replies keeps faults words Kept start new is kept _ one.text one.answered, one.written))
+served keeps faults words Kept Unopened start new is kept bytes left t u WriteFault one = cut keeps faults words Kept Unopened start new is kept bytes t u one
+served keeps faults words Kept Unopened start new is kept bytes left t u Memory one = cut keeps faults words Kept Unopened start new is kept bytes t u one
+served keeps faults words Kept Unopened start new is kept bytes left t u LongLine (done, stops, one) =
+    (done, stops, (one.text, replies keeps faults words Kept start new is kept done one.text one.answered, one.written))
+served keeps faults words Kept Unopened start new is kept bytes left t u ManyLines (done, stops, one) =
+    (done, stops, (one.text, replies keeps faults words Kept start new is kept done one.text one.answered, one.written))
 
 -- a run of a desk that was opened over a keeper without rows, and handed it back
-pub EndsRun-of : {P : Type 0} (keeps : P → Rows → Type 0) (words : List ℕ) (Unopened : Type 0) (keeper last : P) (old left t u : Option (List ℕ)) (end : End) (start new : DeskParts P)
-    → IsStart words start.machine → (keeps keeper no_rows → keeps start.keeper (rows_of start.machine)) → last ≡ new.keeper
-    → IfSome old (λ bytes. Ends (AnswersKept keeps) start bytes left t u end new)
-    → IfSome old (λ bytes. EndsRun (AreReplies (HasRowsOf keeps keeper last) words) (AreCutReplies (HasRowsOf keeps keeper last) Unopened words) bytes left t u end)
-EndsRun-of keeps words Unopened keeper last old left t u end start new is opened handed ends = IfSome_then old ends (λ bytes p.
-    served keeps words (HasRowsOf keeps keeper last) Unopened start new is (λ stays empty. subst (λ k. keeps k (rows_of new.machine)) (sym handed) (stays (opened empty))) bytes left t u end p)
+pub EndsRun-of : {P : Type 0} (keeps : P → Rows → Type 0) (faults : P → ℕ) (words : List ℕ) (Unopened : Type 0) (keeper last : P) (old left t u : Option (List ℕ)) (end : End) (start new : DeskParts P)
+    → IsStart words start.machine → (keeps keeper no_rows → keeps start.keeper (rows_of start.machine)) → faults keeper ≤ faults start.keeper → last ≡ new.keeper
+    → IfSome old (λ bytes. Ends (AnswersKept keeps faults) start bytes left t u end new)
+    → IfSome old (λ bytes. EndsRun (AreReplies (HasRowsOf keeps faults keeper last) words) (AreCutReplies (HasRowsOf keeps faults keeper last) Unopened words) bytes left t u end)
+EndsRun-of keeps faults words Unopened keeper last old left t u end start new is opened later handed ends = IfSome_then old ends (λ bytes p.
+    served keeps faults words (HasRowsOf keeps faults keeper last) Unopened start new is
+    (λ n stays counted. record {
+      rows = λ empty. subst (λ k. keeps k (rows_of new.machine)) (sym handed) (stays (opened empty));
+      counted = rose_later _ _ _ n later (subst (λ k. RoseBy (faults start.keeper) (faults k) n) (sym handed) counted);
+    })
+    bytes left t u end p)
 
 -- queries: a reply tells nothing of a state
 abbrev pub AnswersQuery : {State : Type 0} → State → List ℕ → List ℕ → State → Type 0
@@ -179,7 +227,7 @@ checks_end old left t u end start new ends = IfSome_then old ends (λ bytes p.
     told AnswersQuery start AreChecked AreCutChecks (checked start) (check_cut start) bytes left t u end new p)
 
 -- nothing was read or written
-pub nothing_yet : (Kept : Machine → Type 0) (Unopened : Type 0) (words : List ℕ) (left after t : Option (List ℕ)) → Unopened
+pub nothing_yet : (Kept : Machine → ℕ → Type 0) (Unopened : Type 0) (words : List ℕ) (left after t : Option (List ℕ)) → Unopened
     → IfSome left (λ bytes. EndsRun (AreReplies Kept words) (AreCutReplies Kept Unopened words) bytes after t t Memory)
 nothing_yet Kept Unopened words None after t same = tt
 nothing_yet Kept Unopened words (Some bytes) after t same = ([], inl (refl, same), Appends-nil t)

@@ -1,11 +1,25 @@
 -- A line that a desk answers, and what it has kept then.
-use Rattle.std.specs.Prelude.{ℕ, List}
+use Rattle.std.specs.Prelude.{ℕ, ◌+◌, ◌-◌, ◌^◌, ◌≤◌, min, List}
 use Rattle.tracker_core.specs.Desk.{DeskParts}
 use Rattle.tracker_keeper.specs.Rows.{Rows}
 use Rattle.tracker_machine.specs.Kept.{rows_of}
-use Rattle.tracker_machine.specs.Run.{AnswersLine}
+use Rattle.tracker_calls.specs.declared.reply.Reply.{Reply}
+use Rattle.tracker_machine.specs.Machine.{Machine}
+use Rattle.tracker_machine.specs.Run.{AnswersLine, RepliesTo, failures_at}
 
--- the line is answered as the abstract tracker answers it, and the keeper has the tracker's rows then, if it had them before
-pub record AnswersKept {P : Type 0} (keeps : P → Rows → Type 0) (old : DeskParts P) (line text : List ℕ) (new : DeskParts P) : Type 0 where
-  pub answered : AnswersLine old.machine line text new.machine
+-- the count rose by so many, or more, or it stands at its last value
+abbrev pub RoseBy : ℕ → ℕ → ℕ → Type 0
+RoseBy before now n = min (before + n) (2 ^ 64 - 1) ≤ now
+
+-- the reply to a line and the state after it, under some mark; and where that is of a keeper that failed, its count rose
+pub record IsReplied (old : Machine) (line : List ℕ) (reply : Reply) (new : Machine) (before now : ℕ) : Type 0 where
+  pub replies : RepliesTo old line reply new
+  pub counted : RoseBy before now (failures_at replies.mark)
+
+-- the line is answered as the abstract tracker answers it; the keeper has the tracker's rows then, if it had them before; and
+-- where the line is answered that the keeper failed, its count rose
+pub record AnswersKept {P : Type 0} (keeps : P → Rows → Type 0) (faults : P → ℕ) (old : DeskParts P) (line text : List ℕ) (new : DeskParts P) : Type 0 where
+  pub failures : ℕ
+  pub answered : AnswersLine old.machine line text new.machine failures
   pub rows : keeps old.keeper (rows_of old.machine) → keeps new.keeper (rows_of new.machine)
+  pub counted : RoseBy (faults old.keeper) (faults new.keeper) failures

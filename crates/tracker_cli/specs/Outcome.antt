@@ -11,6 +11,7 @@ use Rattle.tracker_keeper.specs.Rows.{Rows, no_rows}
 use Rattle.tracker_machine.specs.Machine.{Machine, opening}
 use Rattle.tracker_machine.specs.Kept.{rows_of}
 use Rattle.tracker_machine.specs.Run.{IsRun, IsCutRun, requests}
+use Rattle.tracker_cli.specs.Answering.{RoseBy}
 
 abbrev pub IsExec : List (List ℕ) → Type 0
 IsExec words = words ≡ codes "exec" ∷ []
@@ -38,15 +39,18 @@ limit_lines = codes "limit lines\n"
 abbrev pub IsStart : List ℕ → Machine → Type 0
 IsStart setup_text m = (setup : Parts) × (setup_in setup_text ≡ Ok setup) × (m ≡ opening setup_text setup)
 
--- this text is the replies to these lines, from where a run begins, under some marks, and the last state is kept
-abbrev pub AreReplies : (Machine → Type 0) → List ℕ → List (List ℕ) → List ℕ → Type 0
-AreReplies Kept setup_text all text = (start : Machine) × (last : Machine) × IsStart setup_text start × IsRun start (requests all) text last × Kept last
+-- this text is the replies to these lines, from where a run begins, under some marks, and the last state is kept, where so many
+-- lines were answered that the keeper failed
+abbrev pub AreReplies : (Machine → ℕ → Type 0) → List ℕ → List (List ℕ) → List ℕ → Type 0
+AreReplies Kept setup_text all text =
+    (start : Machine) × (last : Machine) × (failures : ℕ) × IsStart setup_text start × IsRun start (requests all) text last failures × Kept last failures
 
 -- this text is the replies to the first lines of an input, and then at most a front of the next one's reply; no other call was
 -- made, so that `last` is the state after them, and it is kept; or no desk was opened, and there is no text
-abbrev pub AreCutReplies : (Machine → Type 0) → Type 0 → List ℕ → List ℕ → List ℕ → Type 0
+abbrev pub AreCutReplies : (Machine → ℕ → Type 0) → Type 0 → List ℕ → List ℕ → List ℕ → Type 0
 AreCutReplies Kept Unopened setup_text bytes text =
-    ((text ≡ []) × Unopened) ⊎ ((start : Machine) × (last : Machine) × IsStart setup_text start × IsCutRun start (lines bytes) text last × Kept last)
+    ((text ≡ []) × Unopened)
+    ⊎ ((start : Machine) × (last : Machine) × (failures : ℕ) × IsStart setup_text start × IsCutRun start (lines bytes) text last failures × Kept last failures)
 
 -- each line, taken as a query, has its reply, one behind another
 abbrev pub AreChecked : List (List ℕ) → List ℕ → Type 0
@@ -73,16 +77,18 @@ pub record AreCutChecks (bytes text : List ℕ) : Type 0 where
   pub text_is : text ≡ whole ++ front
 
 -- this text is what the words' command replies to these lines
-abbrev pub AreRepliesOf : (Machine → Type 0) → List ℕ → List (List ℕ) → List (List ℕ) → List ℕ → Type 0
+abbrev pub AreRepliesOf : (Machine → ℕ → Type 0) → List ℕ → List (List ℕ) → List (List ℕ) → List ℕ → Type 0
 AreRepliesOf Kept setup_text words all text = (IsExec words × AreReplies Kept setup_text all text) ⊎ (IsCheck words × AreChecked all text)
 
 -- this text is what it has replied to an input when it is cut short
-abbrev pub AreCutRepliesOf : (Machine → Type 0) → Type 0 → List ℕ → List (List ℕ) → List ℕ → List ℕ → Type 0
+abbrev pub AreCutRepliesOf : (Machine → ℕ → Type 0) → Type 0 → List ℕ → List (List ℕ) → List ℕ → List ℕ → Type 0
 AreCutRepliesOf Kept Unopened setup_text words bytes text = (IsExec words × AreCutReplies Kept Unopened setup_text bytes text) ⊎ (IsCheck words × AreCutChecks bytes text)
 
--- the keeper has the rows of a state, where it began with none
-abbrev pub HasRowsOf : {P : Type 0} → (P → Rows → Type 0) → P → P → Machine → Type 0
-HasRowsOf keeps old new m = keeps old no_rows → keeps new (rows_of m)
+-- the keeper has the rows of a state, where it began with none; and at most as many lines were answered that it failed as its
+-- count rose by, or that count stands at its last value
+pub record HasRowsOf {P : Type 0} (keeps : P → Rows → Type 0) (faults : P → ℕ) (old new : P) (m : Machine) (failures : ℕ) : Type 0 where
+  pub rows : keeps old no_rows → keeps new (rows_of m)
+  pub counted : RoseBy (faults old) (faults new) failures
 
 -- it has the rows that it had
 abbrev pub HasItsRows : {P : Type 0} → (P → Rows → Type 0) → P → P → Type 0

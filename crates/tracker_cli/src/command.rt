@@ -35,14 +35,14 @@ pub fn run<S: Source, T: Sink, P: Keeper + Drop>(
     ensures words { ¬ (IsCommand (map string_bytes words.now)) → (result.0 ≡ 1) ⊎ (result.0 ≡ 3) }
 
     // The input was read to its end, and each of its lines has the command's reply. Under `exec`, a keeper that had no row has
-    // those of the last state.
+    // those of the last state, and at most as many lines are answered that it failed as its count rose by.
     ensures done { result.0 ≡ 0 → IfSome (S.left input.old) (λ bytes. IsAtEnd (S.left input.new)
-        × AreWithinLimits (lines bytes) × GrewBy (T.taken out.old) (T.taken out.new) (AreRepliesOf (HasRowsOf P.keeps keeper result.1) BUILT_IN.now (map string_bytes words.now) (lines bytes))) }
+        × AreWithinLimits (lines bytes) × GrewBy (T.taken out.old) (T.taken out.new) (AreRepliesOf (HasRowsOf P.keeps P.faults keeper result.1) BUILT_IN.now (map string_bytes words.now) (lines bytes))) }
 
     // A read failed: the whole lines before, which are within the limits, have their replies.
     ensures read_cause { result.0 ≡ 2 → Rose (S.faults input.old) (S.faults input.new) }
     ensures read { result.0 ≡ 2 → IfSome (S.left input.old) (λ bytes. (read : List ℕ) × Consumes (Some bytes) (S.left input.new) read
-        × AreWithinLimits (whole_lines read) × GrewBy (T.taken out.old) (T.taken out.new) (AreRepliesOf (HasRowsOf P.keeps keeper result.1) BUILT_IN.now (map string_bytes words.now) (whole_lines read))) }
+        × AreWithinLimits (whole_lines read) × GrewBy (T.taken out.old) (T.taken out.new) (AreRepliesOf (HasRowsOf P.keeps P.faults keeper result.1) BUILT_IN.now (map string_bytes words.now) (whole_lines read))) }
 
     // A write failed. For words that are no command's, a front of their text was written. For a command, the first lines
     // have their replies, and at most the next one a front of its reply; or all lines before a limit have their
@@ -51,8 +51,8 @@ pub fn run<S: Source, T: Sink, P: Keeper + Drop>(
     ensures usage_written { result.0 ≡ 3 → ¬ (IsCommand (map string_bytes words.now)) → GrewByFront (T.taken out.old) (T.taken out.new) (λ due. due ≡ usage) }
     ensures written { result.0 ≡ 3 → IsCommand (map string_bytes words.now) →
         IfSome (S.left input.old) (λ bytes.
-        GrewBy (T.taken out.old) (T.taken out.new) (AreCutRepliesOf (HasRowsOf P.keeps keeper result.1) (HasItsRows P.keeps keeper result.1) BUILT_IN.now (map string_bytes words.now) bytes)
-        ⊎ GrewBy (T.taken out.old) (T.taken out.new) (IsCutLimitText (AreRepliesOf (HasRowsOf P.keeps keeper result.1) BUILT_IN.now (map string_bytes words.now)) bytes))
+        GrewBy (T.taken out.old) (T.taken out.new) (AreCutRepliesOf (HasRowsOf P.keeps P.faults keeper result.1) (HasItsRows P.keeps keeper result.1) BUILT_IN.now (map string_bytes words.now) bytes)
+        ⊎ GrewBy (T.taken out.old) (T.taken out.new) (IsCutLimitText (AreRepliesOf (HasRowsOf P.keeps P.faults keeper result.1) BUILT_IN.now (map string_bytes words.now)) bytes))
         ⊎ (GrewByFront (T.taken out.old) (T.taken out.new) (λ due. due ≡ held) × HasItsRows P.keeps keeper result.1) }
 
     // The keeper failed before any call, and nothing was written.
@@ -61,11 +61,11 @@ pub fn run<S: Source, T: Sink, P: Keeper + Drop>(
 
     // Want of memory: the first lines have their replies, and at most the next one a front of its reply.
     ensures memory { result.0 ≡ 6 → IfSome (S.left input.old) (λ bytes. GrewBy (T.taken out.old) (T.taken out.new)
-        (AreCutRepliesOf (HasRowsOf P.keeps keeper result.1) (HasItsRows P.keeps keeper result.1) BUILT_IN.now (map string_bytes words.now) bytes)) }
+        (AreCutRepliesOf (HasRowsOf P.keeps P.faults keeper result.1) (HasItsRows P.keeps keeper result.1) BUILT_IN.now (map string_bytes words.now) bytes)) }
 
     // A limit is passed: the lines before have their replies, and the limit's text follows.
     ensures limit { result.0 ≡ 7 → IfSome (S.left input.old) (λ bytes. GrewBy (T.taken out.old) (T.taken out.new)
-        (IsLimitText (AreRepliesOf (HasRowsOf P.keeps keeper result.1) BUILT_IN.now (map string_bytes words.now)) bytes)) }
+        (IsLimitText (AreRepliesOf (HasRowsOf P.keeps P.faults keeper result.1) BUILT_IN.now (map string_bytes words.now)) bytes)) }
 
     // The keeper has a row.
     ensures held { result.0 ≡ 9 → Appends (T.taken out.old) (T.taken out.new) held }
@@ -125,8 +125,8 @@ fn carry_out<L: Ledger, S: Source, T: Sink, P: Keeper + Drop>(
     requires name { blank.name ≡ L.name }
     requires parts { blank.parts ≡ L.parts }
     requires some { 0 < L.parts }
-    ensures run { IfOk result (λ r. IfSome (S.left input.old) (λ bytes. EndsRun (AreRepliesOf (HasRowsOf P.keeps keeper r.1) BUILT_IN.now (map string_bytes words.now))
-        (AreCutRepliesOf (HasRowsOf P.keeps keeper r.1) (HasItsRows P.keeps keeper r.1) BUILT_IN.now (map string_bytes words.now)) bytes
+    ensures run { IfOk result (λ r. IfSome (S.left input.old) (λ bytes. EndsRun (AreRepliesOf (HasRowsOf P.keeps P.faults keeper r.1) BUILT_IN.now (map string_bytes words.now))
+        (AreCutRepliesOf (HasRowsOf P.keeps P.faults keeper r.1) (HasItsRows P.keeps keeper r.1) BUILT_IN.now (map string_bytes words.now)) bytes
         (S.left input.new) (T.taken out.old) (T.taken out.new) r.0)) }
     ensures unwritten { IfErr result (λ e. T.taken out.new ≡ T.taken out.old) }
     ensures same { IfErr result (λ e. HasItsRows P.keeps keeper e.1) }
@@ -156,8 +156,8 @@ fn exec<L: Ledger, S: Source, T: Sink, P: Keeper + Drop>(
     requires name { blank.name ≡ L.name }
     requires parts { blank.parts ≡ L.parts }
     requires some { 0 < L.parts }
-    ensures run { IfOk result (λ r. IfSome (S.left input.old) (λ bytes. EndsRun (AreReplies (HasRowsOf P.keeps keeper r.1) BUILT_IN.now)
-        (AreCutReplies (HasRowsOf P.keeps keeper r.1) (HasItsRows P.keeps keeper r.1) BUILT_IN.now) bytes (S.left input.new) (T.taken out.old) (T.taken out.new) r.0)) }
+    ensures run { IfOk result (λ r. IfSome (S.left input.old) (λ bytes. EndsRun (AreReplies (HasRowsOf P.keeps P.faults keeper r.1) BUILT_IN.now)
+        (AreCutReplies (HasRowsOf P.keeps P.faults keeper r.1) (HasItsRows P.keeps keeper r.1) BUILT_IN.now) bytes (S.left input.new) (T.taken out.old) (T.taken out.new) r.0)) }
     ensures unwritten { IfErr result (λ e. T.taken out.new ≡ T.taken out.old) }
     ensures same { IfErr result (λ e. HasItsRows P.keeps keeper e.1) }
     ensures has_row { (rows : Rows) → P.keeps keeper rows → IfErr result (λ e. e.0 ≡ NoDesk.Held → P.tells e.1 → HasRow rows) }

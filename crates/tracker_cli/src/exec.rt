@@ -1,9 +1,9 @@
 // Request lines that a desk answers.
 ghost use Rattle.std.specs.Prelude.{◌≡◌, ◌++◌, ◌∷◌, [], OnOk, OnErr, List, ℕ};
 ghost use Rattle.tracker_calls.specs.Reply.{reply_text};
-ghost use Rattle.tracker_machine.specs.Run.{RepliesTo, is_blank, is_blank_byte, reply_line};
+ghost use Rattle.tracker_machine.specs.Run.{is_blank, is_blank_byte, reply_line};
 ghost use Rattle.tracker_machine.specs.Kept.{rows_of};
-ghost use Rattle.tracker_cli.specs.Answering.{AnswersKept};
+ghost use Rattle.tracker_cli.specs.Answering.{AnswersKept, IsReplied};
 
 use fields::{Memory, Steps};
 use request_lines::Responder;
@@ -51,7 +51,7 @@ impl<L: Ledger, P: Keeper + Drop> RequestLines<L, P> {
 
     // Makes a line's call.
     fn reply_to(&mut self, line: &[u8]) -> Reply
-        ensures reply { RepliesTo self.old.machine line.now result self.new.machine }
+        ensures reply { IsReplied self.old.machine line.now result self.new.machine (P.faults self.old.keeper) (P.faults self.new.keeper) }
         ensures rows { P.keeps self.old.keeper (rows_of self.old.machine) → P.keeps self.new.keeper (rows_of self.new.machine) }
     {
         match read_line(self.alloc, line) {
@@ -62,7 +62,7 @@ impl<L: Ledger, P: Keeper + Drop> RequestLines<L, P> {
 }
 
 impl<L: Ledger, P: Keeper + Drop> Responder for RequestLines<L, P> {
-    ghost answers = { AnswersKept P.keeps };
+    ghost answers = { AnswersKept P.keeps P.faults };
 
     fn respond(&mut self, line: &[u8], answer: &mut Vec<u8>) -> Result<(), AllocError> {
         answer.clear();

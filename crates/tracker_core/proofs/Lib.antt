@@ -1,3 +1,4 @@
+pub mod Bulk
 pub mod Counting
 pub mod Desks
 pub mod Fitting

@@ -5,3 +5,4 @@ pub mod Plan
 pub mod Resolved
 pub mod State
 pub mod Wants
+pub mod Weight

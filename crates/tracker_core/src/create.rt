@@ -10,6 +10,7 @@ ghost use Rattle.tracker_machine.specs.Known.{project_keys, next_key};
 ghost use Rattle.tracker_machine.specs.Wanted.{changes_of};
 ghost use Rattle.tracker_core.specs.Check.{Checks};
 ghost use Rattle.tracker_core.specs.Plan.{IsPrepared, issue_row};
+ghost use Rattle.tracker_core.specs.Weight.{AreLight};
 ghost use Rattle.change_history.specs.History.{opening_value};
 ghost use Rattle.tracker_keeper.specs.Forms.{are_opening};
 ghost use Rattle.tracker_machine.specs.Tracker.{AreNamed, AreSmall};
@@ -23,7 +24,7 @@ use crate::resolved::ResolvedSet;
 use crate::rows::row_ops;
 use crate::state::State;
 use crate::wants::Opening;
-use crate::weight::bytes_of_changes;
+use crate::weight::{bytes_of_changes, fitting_is_light};
 use change_history::{Change, Changes, Issue, Key};
 use fields::{IssueNo, Memory, Permission, ProjectNo, Text, UserNo};
 use std::alloc::Global;
@@ -79,7 +80,9 @@ fn check_create(
     ensures listed { IfOk result (λ r. AreSmall (filled r.1.items) → are_opening (names_in state.now.machine.setup) (filled r.1.items) ≡ true) }
     ensures few { IfOk result (λ r. length state.now.machine.histories < 50_000) }
     ensures light { IfOk result (λ r. bytes_kept state.now.machine.histories ≤ 499_800_000) }
+    ensures slight { IfOk result (λ r. AreLight (filled r.1.items)) }
 {
+    fitting_is_light(state.setup());
     let place = known_project(alloc, state, project)?;
     check_set(alloc, set)?;
     check_permission(
@@ -112,6 +115,7 @@ fn open(
 ) -> Result<Prepared, Refusal>
     requires few { length state.old.machine.histories < 50_000 }
     requires light { bytes_kept state.old.machine.histories ≤ 499_800_000 }
+    requires slight { AreLight (filled changes.items) }
     requires there { project.0 < length state.old.machine.setup.project }
     requires author { caller.0 < length state.old.machine.setup.users }
     requires named { AreNamed (opening_value (filled changes.items)) }
@@ -153,6 +157,7 @@ fn new_issue(
     changes: Vec<Change>,
 ) -> Result<(IssuePlan, Row), Memory>
     requires few { length state.now.machine.histories < 50_000 }
+    requires slight { AreLight (filled changes.items) }
     requires there { project.0 < length state.now.machine.setup.project }
     requires listed { AreSmall (filled changes.items) → are_opening (names_in state.now.machine.setup) (filled changes.items) ≡ true }
     ensures history { IfOk result (λ r. r.0.issue.history ≡ opened state.now.machine caller.0 (name_at (project_keys state.now.machine.setup) project.0) (filled changes.items)) }
@@ -164,9 +169,7 @@ fn new_issue(
     ensures row { IfOk result (λ r. r.1 ≡ issue_row (names_in state.now.machine.setup) (opened state.now.machine caller.0 (name_at (project_keys state.now.machine.setup) project.0) (filled changes.items))) }
 {
     let opening = filled(alloc, changes)?;
-    let Some(bytes) = bytes_of_changes(opening.as_slice()) else {
-        return Err(Memory);
-    };
+    let bytes = bytes_of_changes(opening.as_slice());
     let key = next_key(alloc, state, project)?;
     let row = row_of(alloc, state, caller, &key, opening.as_slice())?;
     let text = String::from_str(alloc, key.as_str())?;

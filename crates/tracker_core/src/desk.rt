@@ -6,10 +6,10 @@ ghost use Rattle.tracker_keeper.specs.Causes.{HasKeepCause};
 ghost use Rattle.tracker_keeper.specs.Rows.{Rows, no_rows, with_ops};
 ghost use Rattle.tracker_machine.specs.Machine.{opening};
 ghost use Rattle.tracker_machine.specs.Effect.{IsAllowed};
-ghost use Rattle.tracker_machine.specs.Meaning.{Performs};
+ghost use Rattle.tracker_machine.specs.Meaning.{Performs, HasEffect};
 ghost use Rattle.tracker_machine.specs.Meaning.Meaning.{Makes};
 ghost use Rattle.tracker_machine.specs.Kept.{rows_of, ops_of};
-ghost use Rattle.tracker_machine.specs.Step.{IsStep, evaluations};
+ghost use Rattle.tracker_machine.specs.Step.{IsStep, evaluations, meaning};
 ghost use Rattle.tracker_core.specs.Desk.{IsOwed, HasRow, HasNoRow};
 ghost use Rattle.tracker_core.specs.Plan.{effect_of, Fits};
 
@@ -92,12 +92,14 @@ impl<P: Keeper + Drop> Desk<P> {
 
     /// Makes one call by that user, as the abstract tracker makes it: either the call is carried out and answered, or it is
     /// refused for the first cause that there is, or there was not enough memory, or the keeper failed where something was to be
-    /// kept. After a refusal all is as before, and the rows that are kept are always the tracker's.
+    /// kept. After a refusal all is as before, and the rows that are kept are always the tracker's. The keeper isn't asked where
+    /// there is nothing to keep.
     #[tactic(auto, unfolding(tracker_machine::specs::Step::IsStep, tracker_machine::specs::Step::evaluations), using(crate::proofs::Steps::told_step, crate::proofs::Steps::refused_step))]
     pub fn call<L: Ledger>(&mut self, caller: &UserName, call: &Call, steps: &mut Steps<L>) -> Reply
         ensures step { IsStep self.old.machine caller.now call.now result self.new.machine }
         ensures rows { P.keeps self.old.keeper (rows_of self.old.machine) → P.keeps self.new.keeper (rows_of self.new.machine) }
         ensures cause { IsOwed result (P.faults self.old.keeper) (P.faults self.new.keeper) }
+        ensures unasked { ¬ (HasEffect (meaning self.old.machine caller.now call.now)) → self.new.keeper ≡ self.old.keeper }
         ensures steps { steps.new ≤ steps.old + evaluations self.old.machine caller.now call.now }
     {
         match prepare(self.alloc, &mut self.state, caller, call, steps) {

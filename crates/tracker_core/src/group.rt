@@ -7,7 +7,9 @@ ghost use Rattle.workflow.specs.Difference.{AreNews, entries_of};
 ghost use Rattle.workflow.specs.Laws.{AllFit};
 ghost use Rattle.tracker_machine.specs.Checks.{entries_kept, bytes_kept};
 ghost use Rattle.tracker_machine.specs.Group.{grouped, next_group};
-ghost use Rattle.tracker_machine.specs.Tracker.{AllEntriesFit, MayGroup};
+ghost use Rattle.tracker_machine.specs.Tracker.{AllEntriesFit, Holds, MayGroup};
+ghost use Rattle.field_values.specs.declared.numbers.FieldNo.{FieldNo};
+ghost use Rattle.tracker_core.specs.Weight.{AllLight, GroupsAreLight};
 ghost use Rattle.tracker_core.specs.Plan.{group_answer, GroupFits, group_row, present_op, IsPrepared};
 ghost use Rattle.tracker_keeper.specs.Forms.{IsGroupEntry};
 ghost use Rattle.std.specs.List.{All};
@@ -15,7 +17,7 @@ ghost use Rattle.std.specs.List.{All};
 use crate::plan::{GroupPlan, Plan, Prepared};
 use crate::rows::row_ops;
 use crate::state::State;
-use crate::weight::bytes_of_entries;
+use crate::weight::{bytes_of_entries, fitting_is_light};
 use change_history::{Change, Entries, Entry, Group, Issue};
 use fields::{Memory, Moment, Setup, Text, UserNo};
 use std::alloc::Global;
@@ -101,9 +103,7 @@ fn new_group(
         r.1.items ≡ present_op (state.old.machine.change + 1) state.old.machine.moment ∷ RowOp.Put (group_row (names_in state.old.machine.setup) h r.0.group) ∷ [])) }
 {
     let group = group_of(alloc, state, caller, place, net)?;
-    let Some(bytes) = bytes_of_entries(group.entries.as_slice()) else {
-        return Err(Memory);
-    };
+    let bytes = bytes_of_entries(group.entries.as_slice());
     let row = row_of(alloc, state, place, &group)?;
     let rows = row_ops(alloc, group.change, group.at, row)?;
     state.reserve_entries(place, group.entries.as_slice().len())?;
@@ -158,6 +158,7 @@ fn group_of(
     ensures entries { IfOk result (λ group. IfSome (slice_get state.now.machine.histories place) (λ h.
         group.entries ≡ entries_of (present h) (state.now.machine.change + 1) state.now.machine.moment caller net.items)) }
     ensures few { IfOk result (λ group. length group.entries ≤ 43) }
+    ensures light { IfOk result (λ group. AllLight group.entries) }
     ensures fitting { IfOk result (λ group. AllEntriesFit (names_in state.now.machine.setup) group.entries) }
     ensures may { IfOk result (λ group. IfSome (slice_get state.now.machine.histories place) (λ h.
         MayAdd h group.change group.at group.author group.entries)) }
@@ -168,7 +169,7 @@ fn group_of(
     let change = state.next_change();
     let at = state.moment();
     let entries = net_entries(alloc, issue, change, at, caller, net)?;
-    let _setup = state.setup();
+    fitting_is_light(state.setup());
     Ok(Group {
         change,
         at,
@@ -193,6 +194,7 @@ fn net_entries(
     ensures entries { IfOk result (λ entries. entries ≡ entries_of (present issue.now.history) change at author net.items) }
     ensures few { IfOk result (λ entries. (names : Names) → AllFit names net.items → length names.fields ≤ 30 → length entries ≤ 43) }
     ensures fitting { IfOk result (λ entries. (names : Names) → AllFit names net.items → AllEntriesFit names entries) }
+    ensures light { IfOk result (λ entries. (names : Names) → GroupsAreLight names → ((f : FieldNo) → Holds names f (present issue.now.history f)) → AllFit names net.items → AllLight entries) }
     ensures may { IfOk result (λ entries. MayAdd issue.now.history change at author entries) }
 {
     entries_of(alloc, issue, change, at, author, net)

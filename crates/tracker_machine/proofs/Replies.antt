@@ -15,7 +15,7 @@ use Rattle.tracker_machine.specs.Machine.{Machine}
 use Rattle.tracker_machine.specs.Meaning.{Meaning, reply_to, next_after, IsDue, Performs}
 use Rattle.tracker_machine.specs.Meaning.Meaning.{Refuses}
 use Rattle.tracker_machine.specs.Step.{meaning, reply_of, next_of, IsStep}
-use Rattle.tracker_machine.specs.Run.{plain, memory, keeper, asked_reply, asked_next, reply_line, is_blank, RepliesTo, HasReply, AnswersLine}
+use Rattle.tracker_machine.specs.Run.{plain, memory, keeper, asked_reply, asked_next, failures_at, reply_line, is_blank, RepliesTo, HasReply, IsPassedOver, AnswersLine}
 
 plainly : (old new : Machine) (line user : List ℕ) (c : Call) (r : Reply) → line_of line ≡ Ok (user, c) → r ≡ reply_of old user c → new ≡ next_of old user c → RepliesTo old line r new
 plainly old new line user c r asked is next = record {
@@ -64,13 +64,16 @@ RepliesTo-form old line r asked = record { mark = plain; reply_is = ap (asked_re
 pub RepliesTo-memory : (old : Machine) (line : List ℕ) → RepliesTo old line (reply.Refused refusal.Memory) old
 RepliesTo-memory old line = record { mark = memory; reply_is = refl; new_is = refl }
 
-pub HasReply-text : (old new : Machine) (line text : List ℕ) (r : Reply) → RepliesTo old line r new → text ≡ reply_line r → HasReply old line text new
-HasReply-text old new line text r replies is = record { mark = replies.mark; text_is = is ∙ ap reply_line replies.reply_is; new_is = replies.new_is }
+HasReply-text : (old new : Machine) (line text : List ℕ) (r : Reply) → (replies : RepliesTo old line r new) → text ≡ reply_line r → HasReply old line text new (failures_at replies.mark)
+HasReply-text old new line text r replies is =
+    record { mark = replies.mark; text_is = is ∙ ap reply_line replies.reply_is; new_is = replies.new_is; failures_are = refl }
 
 -- a line that isn't blank has its reply's line
-pub AnswersLine-reply : (old new : Machine) (line text : List ℕ) (r : Reply) → is_blank line ≡ false → RepliesTo old line r new → text ≡ reply_line r → AnswersLine old line text new
+pub AnswersLine-reply : (old new : Machine) (line text : List ℕ) (r : Reply) → is_blank line ≡ false → (replies : RepliesTo old line r new) → text ≡ reply_line r
+    → AnswersLine old line text new (failures_at replies.mark)
 AnswersLine-reply old new line text r some replies is =
-    subst (λ b. MatchBool b ((text ≡ []) × (new ≡ old)) (HasReply old line text new)) (sym some) (HasReply-text old new line text r replies is)
+    let n = failures_at replies.mark in
+    subst (λ b. MatchBool b (IsPassedOver old text new n) (HasReply old line text new n)) (sym some) (HasReply-text old new line text r replies is)
 
 -- the refusal for want of memory has its constant text
 pub memory_text : reply_text (reply.Refused refusal.Memory) ≡ codes "{\"refused\":{\"no\":15}}"

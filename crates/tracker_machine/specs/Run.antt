@@ -1,5 +1,5 @@
 -- The abstract tracker over a whole input.
-use Rattle.std.specs.Prelude.{◌≡◌, ◌==◌, ◌||◌, ◌⊎◌, ℕ, List, [], ◌∷◌, ◌++◌, Bool, false, not, filter, map, Result, Ok, Err}
+use Rattle.std.specs.Prelude.{◌≡◌, ◌==◌, ◌||◌, ◌⊎◌, ◌+◌, ℕ, List, [], ◌∷◌, ◌++◌, Bool, false, not, filter, map, Result, Ok, Err}
 use Rattle.std.specs.Bool.{MatchBool}
 use Rattle.std.specs.List.{list_all}
 use Rattle.request_lines.specs.Lines.{AreWithinLimits}
@@ -33,6 +33,15 @@ pub record Marked : Type 0 where
   pub line : List ℕ
   pub mark : Mark
 
+-- how often the keeper failed at a line of this mark, and at these lines
+abbrev pub failures_at : Mark → ℕ
+failures_at keeper = 1
+failures_at _ = 0
+
+abbrev pub failures_in : List Marked → ℕ
+failures_in [] = 0
+failures_in (x ∷ xs) = failures_at x.mark + failures_in xs
+
 abbrev pub asked_reply : Machine → Result (List ℕ × Call) Refusal → Reply
 asked_reply m (Ok asked) = reply_of m asked.0 asked.1
 asked_reply m (Err r) = reply.Refused r
@@ -64,12 +73,13 @@ abbrev pub end_of_run : Machine → List Marked → Machine
 end_of_run m [] = m
 end_of_run m (x ∷ xs) = end_of_run (marked_next m x.line x.mark) xs
 
--- these lines are answered by this text, and lead to this state, under some marks
-pub record IsRun (old : Machine) (lines : List (List ℕ)) (text : List ℕ) (new : Machine) : Type 0 where
+-- these lines are answered by this text, and lead to this state, under some marks, so many of which are of a keeper that failed
+pub record IsRun (old : Machine) (lines : List (List ℕ)) (text : List ℕ) (new : Machine) (failures : ℕ) : Type 0 where
   pub marked : List Marked
   pub lines_are : map (λ x. x.line) marked ≡ lines
   pub text_is : text ≡ text_of_run old marked
   pub new_is : new ≡ end_of_run old marked
+  pub failures_are : failures ≡ failures_in marked
 
 -- the reply to a line and the state after it, under some mark
 pub record RepliesTo (old : Machine) (line : List ℕ) (reply : Reply) (new : Machine) : Type 0 where
@@ -78,33 +88,43 @@ pub record RepliesTo (old : Machine) (line : List ℕ) (reply : Reply) (new : Ma
   pub new_is : new ≡ marked_next old line mark
 
 -- one line of the input: a blank one is passed over, any other has its reply's line
-pub record HasReply (old : Machine) (line text : List ℕ) (new : Machine) : Type 0 where
+pub record HasReply (old : Machine) (line text : List ℕ) (new : Machine) (failures : ℕ) : Type 0 where
   pub mark : Mark
   pub text_is : text ≡ reply_line (marked_reply old line mark)
   pub new_is : new ≡ marked_next old line mark
+  pub failures_are : failures ≡ failures_at mark
 
-abbrev pub AnswersLine : Machine → List ℕ → List ℕ → Machine → Type 0
-AnswersLine old line text new = MatchBool (is_blank line) ((text ≡ []) × (new ≡ old)) (HasReply old line text new)
+-- a blank line asks for nothing
+pub record IsPassedOver (old : Machine) (text : List ℕ) (new : Machine) (failures : ℕ) : Type 0 where
+  pub text_is : text ≡ []
+  pub new_is : new ≡ old
+  pub failures_are : failures ≡ 0
+
+abbrev pub AnswersLine : Machine → List ℕ → List ℕ → Machine → ℕ → Type 0
+AnswersLine old line text new failures = MatchBool (is_blank line) (IsPassedOver old text new failures) (HasReply old line text new failures)
 
 -- after the lines that are done, no further one was answered; or the next one was, which isn't blank and is within the
 -- limits too, and this is a front of its reply's line
-abbrev pub IsFrontOfReply : Machine → List (List ℕ) → List (List ℕ) → List ℕ → Machine → Type 0
-IsFrontOfReply m done rest front new =
-    ((front ≡ []) × (new ≡ m))
+abbrev pub IsFrontOfReply : Machine → List (List ℕ) → List (List ℕ) → List ℕ → Machine → ℕ → Type 0
+IsFrontOfReply m done rest front new failures =
+    ((front ≡ []) × (new ≡ m) × (failures ≡ 0))
     ⊎ ((line : List ℕ) × (more : List (List ℕ)) × (mark : Mark) × (back : List ℕ) × (rest ≡ line ∷ more)
     × AreWithinLimits (done ++ line ∷ []) × (is_blank line ≡ false)
-    × (reply_line (marked_reply m line mark) ≡ front ++ back) × (new ≡ marked_next m line mark))
+    × (reply_line (marked_reply m line mark) ≡ front ++ back) × (new ≡ marked_next m line mark) × (failures ≡ failures_at mark))
 
 -- the first of these lines have their whole replies, and at most the next one was answered too and has a front of its
 -- reply; this is the state after them
-pub record IsCutRun (old : Machine) (all : List (List ℕ)) (text : List ℕ) (new : Machine) : Type 0 where
+pub record IsCutRun (old : Machine) (all : List (List ℕ)) (text : List ℕ) (new : Machine) (failures : ℕ) : Type 0 where
   pub done : List (List ℕ)
   pub rest : List (List ℕ)
   pub all_is : all ≡ done ++ rest
   pub within : AreWithinLimits done
   pub whole : List ℕ
   pub middle : Machine
-  pub run : IsRun old (requests done) whole middle
+  pub before : ℕ
+  pub run : IsRun old (requests done) whole middle before
   pub front : List ℕ
-  pub next : IsFrontOfReply middle done rest front new
+  pub last : ℕ
+  pub next : IsFrontOfReply middle done rest front new last
   pub text_is : text ≡ whole ++ front
+  pub failures_are : failures ≡ before + last

@@ -7,6 +7,7 @@ use Rattle.workflow.specs.Difference.{entry_of}
 use Rattle.workflow.specs.Net.{with_changes}
 use Rattle.workflow.proofs.Differing.{may_be_added}
 use Rattle.tracker_machine.specs.Tracker.{AllEntriesFit}
+use Rattle.tracker_core.specs.Weight.{AllLight}
 use Rattle.tracker_core.proofs.Counting.{few_changes}
 use Rattle.tracker_core.proofs.Fitting.{entries_fit, some_changes}
 use Rattle.tracker_core.proofs.group.net_entries.Goals as goal
@@ -32,3 +33,10 @@ returns-clause-may c =
     subst (λ (xs : List Entry). MayAdd h c.args.change c.args.at c.args.author xs) (sym is)
     (may_be_added h (with_changes (present h) c.args.net.items) c.args.net.items c.args.change c.args.at c.args.author
     (record { news = c.requires.news; gives = λ f. refl }) (some_changes c.args.net.items c.requires.some) c.requires.timely c.requires.earlier)) c.entries_of.ensures
+
+pub returns-clause-light : goal.returns-clause-light
+returns-clause-light c =
+    let before = present c.args.issue.now.history in
+    IfOk-weaker c.entries_of.result _ _ (λ es is names light holds fit.
+    subst (λ (xs : List Entry). AllLight xs) (sym is)
+    (light before c.args.change c.args.at c.args.author c.args.net.items holds c.requires.news fit)) c.entries_of.ensures

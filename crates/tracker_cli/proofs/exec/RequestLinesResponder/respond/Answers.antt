@@ -1,6 +1,6 @@
 use Rattle.std.proofs.Common.{ℕ, List, sym, ◌∙◌, refl, Ok, Err}
 use Rattle.std.specs.Prelude.{OnErr, Result}
-use Rattle.tracker_machine.specs.Run.{reply_line}
+use Rattle.tracker_machine.specs.Run.{reply_line, failures_at}
 use Rattle.tracker_cli.specs.Answering.{AnswersKept}
 use Rattle.tracker_machine.proofs.Replies.{AnswersLine-reply}
 use Rattle.tracker_cli.proofs.exec.RequestLinesResponder.respond.Goals as goal
@@ -11,11 +11,13 @@ always (Err e) P p = p
 
 pub returns-clause-err : goal.returns-clause-err
 returns-clause-err g c =
-    let told : (text : List ℕ) × AnswersKept g.P.Keeper.keeps c.args.self.now c.args.line.now text c.reply_to-reply.new.self = (
+    let told : (text : List ℕ) × AnswersKept g.P.Keeper.keeps g.P.Keeper.faults c.args.self.now c.args.line.now text c.reply_to-reply.new.self = (
       reply_line c.reply_to-reply.result,
       record {
-        answered = AnswersLine-reply _ _ _ _ _ (sym c.is_blank.ensures ∙ c.if-is_blank.false) c.reply_to-reply.ensures.reply refl;
+        failures = failures_at c.reply_to-reply.ensures.reply.replies.mark;
+        answered = AnswersLine-reply _ _ _ _ _ (sym c.is_blank.ensures ∙ c.if-is_blank.false) c.reply_to-reply.ensures.reply.replies refl;
         rows = c.reply_to-reply.ensures.rows;
+        counted = c.reply_to-reply.ensures.reply.counted;
       },
     ) in
     always _ _ told
