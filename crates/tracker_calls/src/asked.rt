@@ -1,7 +1,7 @@
 // Each call with its members, in the order in which a fault is told.
 ghost use Rattle.std.specs.Prelude.{◌≡◌, Ok, IfOk};
 ghost use Rattle.serde_json.specs.View.{view, members_view};
-ghost use Rattle.tracker_calls.specs.Asked.{create_of, edit_of, transition_of, tick_of, show_of, history_of, search_of, UnlessMemory};
+ghost use Rattle.tracker_calls.specs.Asked.{asked_by, create_of, edit_of, transition_of, tick_of, show_of, history_of, search_of, UnlessMemory};
 
 use crate::call::{Call, CallKind, MOST_ENTRIES, MOST_LISTED, Part};
 use crate::given::{GivenFields, set_at, set_if_there};
@@ -12,7 +12,28 @@ use field_values::{Memory, Text};
 use serde_json::{Map, Value};
 use std::alloc::Global;
 
-pub fn create_of(
+/// The call of that kind with its members, or the first fault of these.
+pub fn asked_by(
+    alloc: Global,
+    kind: CallKind,
+    value: &Value,
+    members: &Map<String, Value>,
+    user: &str,
+) -> Result<(UserName, Call), Refusal>
+    ensures { UnlessMemory result (asked_by kind (view value.now) (members_view members.now.entries) user.now) }
+{
+    match kind {
+        CallKind::Create => create_of(alloc, value, members, user),
+        CallKind::Edit => edit_of(alloc, value, members, user),
+        CallKind::Transition => transition_of(alloc, value, members, user),
+        CallKind::Tick => tick_of(alloc, value, members, user),
+        CallKind::Show => show_of(alloc, value, members, user),
+        CallKind::History => history_of(alloc, value, members, user),
+        CallKind::Search => search_of(alloc, value, members, user),
+    }
+}
+
+fn create_of(
     alloc: Global,
     value: &Value,
     members: &Map<String, Value>,
@@ -63,7 +84,7 @@ fn create_call(
     })
 }
 
-pub fn edit_of(
+fn edit_of(
     alloc: Global,
     value: &Value,
     members: &Map<String, Value>,
@@ -88,7 +109,7 @@ pub fn edit_of(
     }
 }
 
-pub fn transition_of(
+fn transition_of(
     alloc: Global,
     value: &Value,
     members: &Map<String, Value>,
@@ -133,7 +154,7 @@ fn transition_call(
     })
 }
 
-pub fn tick_of(
+fn tick_of(
     alloc: Global,
     value: &Value,
     members: &Map<String, Value>,
@@ -150,7 +171,7 @@ pub fn tick_of(
     made_by(alloc, user, Call::Tick { to })
 }
 
-pub fn show_of(
+fn show_of(
     alloc: Global,
     value: &Value,
     members: &Map<String, Value>,
@@ -170,7 +191,7 @@ pub fn show_of(
     }
 }
 
-pub fn history_of(
+fn history_of(
     alloc: Global,
     value: &Value,
     members: &Map<String, Value>,
@@ -197,7 +218,7 @@ pub fn history_of(
     }
 }
 
-pub fn search_of(
+fn search_of(
     alloc: Global,
     value: &Value,
     members: &Map<String, Value>,

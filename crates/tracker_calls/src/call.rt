@@ -1,3 +1,7 @@
+// What a line asks for: each call, its name, and the members that it may have.
+ghost use Rattle.std.specs.Prelude.{◌≡◌, map};
+ghost use Rattle.tracker_calls.specs.Asked.{kind_named, call_members};
+
 use crate::given::GivenFields;
 use field_values::{Moment, Text};
 
@@ -99,4 +103,35 @@ pub enum CallKind {
     Show,
     History,
     Search,
+}
+
+/// The call of that name.
+pub fn kind_named(name: &str) -> Option<CallKind>
+    ensures { result ≡ kind_named name.now }
+{
+    match name {
+        "create" => Some(CallKind::Create),
+        "edit" => Some(CallKind::Edit),
+        "transition" => Some(CallKind::Transition),
+        "tick" => Some(CallKind::Tick),
+        "show" => Some(CallKind::Show),
+        "history" => Some(CallKind::History),
+        "search" => Some(CallKind::Search),
+        _ => None,
+    }
+}
+
+/// The names of the members that a call may have, in byte order.
+pub fn call_members(kind: CallKind) -> &'static [&'static str]
+    ensures { map (λ name. name.now) result.now ≡ call_members kind }
+{
+    match kind {
+        CallKind::Create => &["call", "project", "set", "summary", "type", "user"],
+        CallKind::Edit => &["call", "issue", "set", "user"],
+        CallKind::Transition => &["call", "issue", "set", "transition", "user"],
+        CallKind::Tick => &["call", "to", "user"],
+        CallKind::Show => &["call", "issue", "user"],
+        CallKind::History => &["call", "count", "from", "issue", "user"],
+        CallKind::Search => &["call", "count", "from", "jql", "user"],
+    }
 }

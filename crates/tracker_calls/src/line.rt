@@ -1,10 +1,10 @@
 // A line that comes in.
 ghost use Rattle.std.specs.Prelude.{◌≡◌};
 ghost use Rattle.serde_json.specs.View.{view};
-ghost use Rattle.tracker_calls.specs.Asked.{line_of, call_of, kind_named, UnlessMemory};
+ghost use Rattle.tracker_calls.specs.Asked.{line_of, call_of, UnlessMemory};
 
-use crate::asked::{create_of, edit_of, history_of, search_of, show_of, tick_of, transition_of};
-use crate::call::{Call, CallKind};
+use crate::asked::asked_by;
+use crate::call::{Call, kind_named};
 use crate::members::{misses, text_at};
 use crate::reply::Refusal;
 use crate::user_name::UserName;
@@ -50,28 +50,5 @@ fn call_of(alloc: Global, value: &Value) -> Result<(UserName, Call), Refusal>
     let Some(kind) = text_at(value, "call").and_then(kind_named) else {
         return misses(alloc, "call");
     };
-    match kind {
-        CallKind::Create => create_of(alloc, value, members, user),
-        CallKind::Edit => edit_of(alloc, value, members, user),
-        CallKind::Transition => transition_of(alloc, value, members, user),
-        CallKind::Tick => tick_of(alloc, value, members, user),
-        CallKind::Show => show_of(alloc, value, members, user),
-        CallKind::History => history_of(alloc, value, members, user),
-        CallKind::Search => search_of(alloc, value, members, user),
-    }
-}
-
-fn kind_named(name: &str) -> Option<CallKind>
-    ensures { result ≡ kind_named name.now }
-{
-    match name {
-        "create" => Some(CallKind::Create),
-        "edit" => Some(CallKind::Edit),
-        "transition" => Some(CallKind::Transition),
-        "tick" => Some(CallKind::Tick),
-        "show" => Some(CallKind::Show),
-        "history" => Some(CallKind::History),
-        "search" => Some(CallKind::Search),
-        _ => None,
-    }
+    asked_by(alloc, kind, value, members, user)
 }

@@ -4,7 +4,7 @@ ghost use Rattle.serde_json.specs.View.{view, members_view};
 ghost use Rattle.tracker_calls.specs.Asked.{text_at, moment_at, first_other, is_among, is_member, call_members, names_of, UnlessMemory};
 ghost use Rattle.tracker_calls.specs.Part.{whole_within, whole_or, from_if_there, count_if_there};
 
-use crate::call::{CallKind, MOST_FROM};
+use crate::call::{CallKind, MOST_FROM, call_members};
 use crate::reply::Refusal;
 use field_values::{Moment, Text};
 use serde_json::{Map, Value};
@@ -98,19 +98,4 @@ fn is_among(name: &str, names: &[&str]) -> bool
         }
     }
     false
-}
-
-// The names of the members that a call may have.
-fn call_members(kind: CallKind) -> &'static [&'static str]
-    ensures { map (λ name. name.now) result.now ≡ call_members kind }
-{
-    match kind {
-        CallKind::Create => &["call", "project", "set", "summary", "type", "user"],
-        CallKind::Edit => &["call", "issue", "set", "user"],
-        CallKind::Transition => &["call", "issue", "set", "transition", "user"],
-        CallKind::Tick => &["call", "to", "user"],
-        CallKind::Show => &["call", "issue", "user"],
-        CallKind::History => &["call", "count", "from", "issue", "user"],
-        CallKind::Search => &["call", "count", "from", "jql", "user"],
-    }
 }
