@@ -50,18 +50,14 @@ fn create_of(
     let Some(summary) = text_at(value, "summary") else {
         return misses(alloc, "summary");
     };
-    let set = match set_if_there(alloc, value) {
-        Ok(Some(set)) => set,
-        Ok(None) => return misses(alloc, "set"),
-        Err(_) => return Err(Refusal::Memory),
+    let Some(set) = set_if_there(alloc, value)? else {
+        return misses(alloc, "set");
     };
     if let Some(other) = first_other(CallKind::Create, members) {
         return misses(alloc, other);
     }
-    match create_call(alloc, project, issue_type, summary, set) {
-        Ok(call) => made_by(alloc, user, call),
-        Err(_) => Err(Refusal::Memory),
-    }
+    let call = create_call(alloc, project, issue_type, summary, set)?;
+    made_by(alloc, user, call)
 }
 
 fn create_call(
@@ -95,18 +91,14 @@ fn edit_of(
     let Some(issue) = text_at(value, "issue") else {
         return misses(alloc, "issue");
     };
-    let set = match set_at(alloc, value) {
-        Ok(Some(set)) => set,
-        Ok(None) => return misses(alloc, "set"),
-        Err(_) => return Err(Refusal::Memory),
+    let Some(set) = set_at(alloc, value)? else {
+        return misses(alloc, "set");
     };
     if let Some(other) = first_other(CallKind::Edit, members) {
         return misses(alloc, other);
     }
-    match Text::copy_of(alloc, issue) {
-        Ok(issue) => made_by(alloc, user, Call::Edit { issue, set }),
-        Err(_) => Err(Refusal::Memory),
-    }
+    let issue = Text::copy_of(alloc, issue)?;
+    made_by(alloc, user, Call::Edit { issue, set })
 }
 
 fn transition_of(
@@ -123,18 +115,14 @@ fn transition_of(
     let Some(transition) = text_at(value, "transition") else {
         return misses(alloc, "transition");
     };
-    let set = match set_if_there(alloc, value) {
-        Ok(Some(set)) => set,
-        Ok(None) => return misses(alloc, "set"),
-        Err(_) => return Err(Refusal::Memory),
+    let Some(set) = set_if_there(alloc, value)? else {
+        return misses(alloc, "set");
     };
     if let Some(other) = first_other(CallKind::Transition, members) {
         return misses(alloc, other);
     }
-    match transition_call(alloc, issue, transition, set) {
-        Ok(call) => made_by(alloc, user, call),
-        Err(_) => Err(Refusal::Memory),
-    }
+    let call = transition_call(alloc, issue, transition, set)?;
+    made_by(alloc, user, call)
 }
 
 fn transition_call(
@@ -185,10 +173,8 @@ fn show_of(
     if let Some(other) = first_other(CallKind::Show, members) {
         return misses(alloc, other);
     }
-    match Text::copy_of(alloc, issue) {
-        Ok(issue) => made_by(alloc, user, Call::Show { issue }),
-        Err(_) => Err(Refusal::Memory),
-    }
+    let issue = Text::copy_of(alloc, issue)?;
+    made_by(alloc, user, Call::Show { issue })
 }
 
 fn history_of(
@@ -212,10 +198,8 @@ fn history_of(
         return misses(alloc, other);
     }
     let part = Part { from, count };
-    match Text::copy_of(alloc, issue) {
-        Ok(issue) => made_by(alloc, user, Call::History { issue, part }),
-        Err(_) => Err(Refusal::Memory),
-    }
+    let issue = Text::copy_of(alloc, issue)?;
+    made_by(alloc, user, Call::History { issue, part })
 }
 
 fn search_of(
@@ -239,18 +223,14 @@ fn search_of(
         return misses(alloc, other);
     }
     let part = Part { from, count };
-    match Text::copy_of(alloc, jql) {
-        Ok(jql) => made_by(alloc, user, Call::Search { jql, part }),
-        Err(_) => Err(Refusal::Memory),
-    }
+    let jql = Text::copy_of(alloc, jql)?;
+    made_by(alloc, user, Call::Search { jql, part })
 }
 
 // The call with the name of who makes it.
 fn made_by(alloc: Global, user: &str, call: Call) -> Result<(UserName, Call), Refusal>
     ensures { UnlessMemory result (Ok (user.now, call)) }
 {
-    match UserName::copy_of(alloc, user) {
-        Ok(user) => Ok((user, call)),
-        Err(_) => Err(Refusal::Memory),
-    }
+    let user = UserName::copy_of(alloc, user)?;
+    Ok((user, call))
 }

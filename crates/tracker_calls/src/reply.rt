@@ -1,4 +1,5 @@
 ghost use Rattle.std.specs.Prelude.{◌≡◌, ◌∷◌, ◌++◌, [], OnOk, OnErr};
+ghost use Rattle.tracker_calls.specs.declared.reply.Refusal.TheVariants.{Memory as OutOfMemory};
 
 use field_values::{Memory, Moment, Names, Permission, Sequence, Text};
 use std::alloc::Global;
@@ -226,4 +227,12 @@ pub enum Limit {
     Entries,
     /// The bytes of texts and labels, and some for each version.
     TextBytes,
+}
+
+impl From<Memory> for Refusal {
+    ghost from_gives = { λ _ refusal. refusal ≡ OutOfMemory };
+
+    fn from(_: Memory) -> Refusal {
+        Refusal::Memory
+    }
 }
