@@ -2,10 +2,13 @@
 //! values, of their forms and of the reading of a setup's text, and gives on what they name.
 #![tactic(auto)]
 
+mod fitting;
 mod indexed_lists;
 pub mod laws;
+mod local_time;
 mod lookup;
 mod naming;
+mod permissions;
 mod places;
 mod setup;
 mod table_names;

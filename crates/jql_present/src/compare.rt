@@ -10,7 +10,7 @@ use crate::phase::is_in_phase;
 use change_history::{Issue, Key};
 use field_values::{Day, Moment, Value};
 use jql_bound::{Context, Operand, Subject};
-use jql_naming::has_value;
+use jql_operands::has_value;
 use relative_dates::Term;
 use std::cmp::Ordering;
 

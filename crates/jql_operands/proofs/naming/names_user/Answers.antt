@@ -2,8 +2,8 @@ use Rattle.std.proofs.Common.{List, sym, subst}
 use Rattle.field_values.specs.declared.numbers.UserNo.{UserNo}
 use Rattle.field_values.specs.GroupMembers.{AreRising}
 use Rattle.jql_meaning.specs.Surroundings.{surroundings_of}
-use Rattle.jql_naming.proofs.Rising.{members-rise}
-use Rattle.jql_naming.proofs.naming.names_user.Goals as goal
+use Rattle.jql_operands.proofs.Rising.{members-rise}
+use Rattle.jql_operands.proofs.naming.names_user.Goals as goal
 
 -- a context keeps the users of each group in order
 pub is_member-requires : goal.is_member-requires
