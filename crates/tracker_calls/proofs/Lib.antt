@@ -1,3 +1,4 @@
-pub mod Floats
+pub mod Texts
+pub mod Sorting
 pub mod AskedLines
 pub mod Twins

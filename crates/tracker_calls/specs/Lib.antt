@@ -3,3 +3,5 @@ pub mod Part
 pub mod Asked
 pub mod Reply
 pub mod Seen
+pub mod Written
+pub mod Sorted

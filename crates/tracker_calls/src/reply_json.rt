@@ -1,15 +1,13 @@
 // The text of a reply: compact JSON, the members of each object in byte order of their names.
-ghost use Rattle.std.specs.Prelude.{◌≡◌, [], IfOk, OnOk};
-ghost use Rattle.serde_json.specs.Data.{member, no_members, object};
-ghost use Rattle.serde_json.specs.View.{view, members_view};
-ghost use Rattle.tracker_calls.specs.Reply.{reply_text, reply_data, answer_data, create_data, edit_data, search_data, refusal_data, form_data, unknown_data, forbidden_data, index_data, permission_name, text_or_null, unfit_data, query_data, limit_data, earlier_data, natural_or_null, thing_name, limit_name, limit_number};
+ghost use Rattle.std.specs.Prelude.{◌≡◌, IfOk, OnOk};
+ghost use Rattle.tracker_calls.specs.Written.{after};
+ghost use Rattle.tracker_calls.specs.Reply.{reply_text, reply_data, answer_data, create_data, edit_data, tick_data, search_data, refusal_data, form_data, unknown_data, forbidden_data, index_data, permission_name, unfit_data, query_data, limit_data, earlier_data, number_data, thing_name, limit_name, limit_number};
 
-use crate::history_json::put_history;
-use crate::members_json::{put_number, put_text, put_value};
+use crate::history_json::write_history;
+use crate::json_text::JsonText;
 use crate::reply::{Answer, Limit, Refusal, Reply, Thing};
-use crate::show_json::{put_show, texts_value};
+use crate::show_json::{write_show, write_texts};
 use field_values::{Memory, Moment, Permission, Text};
-use serde_json::{Map, Value};
 use std::alloc::Global;
 
 /// The text of the refusal of a keeper that failed, which is written without memory.
@@ -19,191 +17,147 @@ pub const KEEPER_TEXT: &str = "{\"refused\":{\"no\":14}}";
 pub const MEMORY_TEXT: &str = "{\"refused\":{\"no\":15}}";
 
 /// The compact JSON text of a reply.
-#[tactic(auto, unfolding(crate::specs::Reply::reply_text), using(crate::proofs::Floats::reply_has_no_float))]
+#[tactic(auto, unfolding(crate::specs::Reply::reply_text), using(crate::proofs::Texts::whole))]
 pub fn reply_text(alloc: Global, reply: &Reply) -> Result<Text, Memory>
     ensures { IfOk result (λ text. text ≡ reply_text reply.now) }
 {
-    let value = reply_value(alloc, reply)?;
-    let text = value.to_string(alloc)?;
-    Ok(Text::of(text))
+    let mut text = JsonText::new(alloc)?;
+    write_reply(alloc, &mut text, reply)?;
+    Ok(text.into_text())
 }
 
-fn reply_value(alloc: Global, reply: &Reply) -> Result<Value, Memory>
-    ensures { IfOk result (λ value. view value ≡ reply_data reply.now) }
+fn write_reply(alloc: Global, out: &mut JsonText, reply: &Reply) -> Result<(), Memory>
+    ensures { OnOk result (out.new ≡ after (reply_data reply.now) out.old) }
 {
+    out.begin_object()?;
     match reply {
-        Reply::Ok(answer) => with_one(alloc, "ok", answer_value(alloc, answer)?),
-        Reply::Refused(refusal) => with_one(alloc, "refused", refusal_value(alloc, refusal)?),
+        Reply::Ok(answer) => {
+            out.key("ok")?;
+            write_answer(alloc, out, answer)?;
+        }
+        Reply::Refused(refusal) => {
+            out.key("refused")?;
+            write_refusal(out, refusal)?;
+        }
     }
+    out.end_object()
 }
 
-// An object with one member.
-fn with_one(alloc: Global, name: &str, value: Value) -> Result<Value, Memory>
-    ensures { IfOk result (λ whole. view whole ≡ object (member name.now (view value) no_members)) }
-{
-    let mut members = Map::new(alloc);
-    put_value(alloc, &mut members, name, value)?;
-    Ok(Value::Object(members))
-}
-
-fn answer_value(alloc: Global, answer: &Answer) -> Result<Value, Memory>
-    ensures { IfOk result (λ value. view value ≡ answer_data answer.now) }
-{
-    let mut members = Map::new(alloc);
-    put_answer(alloc, &mut members, answer)?;
-    Ok(Value::Object(members))
-}
-
-// Puts an answer's members where there are none.
-fn put_answer(
-    alloc: Global,
-    members: &mut Map<String, Value>,
-    answer: &Answer,
-) -> Result<(), Memory>
-    requires { members.old.entries ≡ [] }
-    ensures { OnOk result (object (members_view members.new.entries) ≡ answer_data answer.now) }
+fn write_answer(alloc: Global, out: &mut JsonText, answer: &Answer) -> Result<(), Memory>
+    ensures { OnOk result (out.new ≡ after (answer_data answer.now) out.old) }
 {
     match answer {
         Answer::Create {
             already,
             change,
             issue,
-        } => put_create(alloc, members, *already, *change, issue),
-        Answer::Edit { change, issue } => put_edit(alloc, members, *change, issue),
-        Answer::Transition { change, issue } => put_edit(alloc, members, *change, issue),
-        Answer::Tick { moment } => put_number(alloc, members, "moment", moment.seconds()),
+        } => write_create(out, *already, *change, issue),
+        Answer::Edit { change, issue } => write_edit(out, *change, issue),
+        Answer::Transition { change, issue } => write_edit(out, *change, issue),
+        Answer::Tick { moment } => write_tick(out, *moment),
         Answer::Show {
             created,
             fields,
             issue,
             updated,
-        } => put_show(alloc, members, *created, fields, issue, *updated),
-        Answer::History { entries, total } => {
-            put_history(alloc, members, entries.as_slice(), *total)
-        }
-        Answer::Search { issues, total } => put_search(alloc, members, issues.as_slice(), *total),
+        } => write_show(alloc, out, *created, fields, issue, *updated),
+        Answer::History { entries, total } => write_history(out, entries.as_slice(), *total),
+        Answer::Search { issues, total } => write_search(out, issues.as_slice(), *total),
     }
 }
 
-fn put_create(
-    alloc: Global,
-    members: &mut Map<String, Value>,
-    already: bool,
-    change: u64,
-    issue: &Text,
-) -> Result<(), Memory>
-    requires { members.old.entries ≡ [] }
-    ensures { OnOk result (object (members_view members.new.entries) ≡ create_data already change issue.now) }
+fn write_create(out: &mut JsonText, already: bool, change: u64, issue: &Text) -> Result<(), Memory>
+    ensures { OnOk result (out.new ≡ after (create_data already change issue.now) out.old) }
 {
-    put_value(alloc, members, "already", Value::Bool(already))?;
-    put_number(alloc, members, "change", change)?;
-    put_text(alloc, members, "issue", issue.as_str())
+    out.begin_object()?;
+    out.key("already")?;
+    out.boolean(already)?;
+    out.number_member("change", change)?;
+    out.text_member("issue", issue.as_str())?;
+    out.end_object()
 }
 
-fn put_edit(
-    alloc: Global,
-    members: &mut Map<String, Value>,
-    change: Option<u64>,
-    issue: &Text,
-) -> Result<(), Memory>
-    requires { members.old.entries ≡ [] }
-    ensures { OnOk result (object (members_view members.new.entries) ≡ edit_data change issue.now) }
+fn write_edit(out: &mut JsonText, change: Option<u64>, issue: &Text) -> Result<(), Memory>
+    ensures { OnOk result (out.new ≡ after (edit_data change issue.now) out.old) }
 {
-    put_value(alloc, members, "change", number_or_null(change))?;
-    put_text(alloc, members, "issue", issue.as_str())
+    out.begin_object()?;
+    out.key("change")?;
+    out.number_or_null(change)?;
+    out.text_member("issue", issue.as_str())?;
+    out.end_object()
 }
 
-fn number_or_null(number: Option<u64>) -> Value
-    ensures { view result ≡ natural_or_null number }
+fn write_tick(out: &mut JsonText, moment: Moment) -> Result<(), Memory>
+    ensures { OnOk result (out.new ≡ after (tick_data moment) out.old) }
 {
-    match number {
-        Some(number) => Value::Number(number.into()),
-        None => Value::Null,
-    }
+    out.begin_object()?;
+    out.number_member("moment", moment.seconds())?;
+    out.end_object()
 }
 
-fn put_search(
-    alloc: Global,
-    members: &mut Map<String, Value>,
-    issues: &[Text],
-    total: u64,
-) -> Result<(), Memory>
-    requires { members.old.entries ≡ [] }
-    ensures { OnOk result (object (members_view members.new.entries) ≡ search_data issues.now total) }
+fn write_search(out: &mut JsonText, issues: &[Text], total: u64) -> Result<(), Memory>
+    ensures { OnOk result (out.new ≡ after (search_data issues.now total) out.old) }
 {
-    put_value(alloc, members, "issues", texts_value(alloc, issues)?)?;
-    put_number(alloc, members, "total", total)
+    out.begin_object()?;
+    out.key("issues")?;
+    write_texts(out, issues)?;
+    out.number_member("total", total)?;
+    out.end_object()
 }
 
-fn refusal_value(alloc: Global, refusal: &Refusal) -> Result<Value, Memory>
-    ensures { IfOk result (λ value. view value ≡ refusal_data refusal.now) }
-{
-    let mut members = Map::new(alloc);
-    put_refusal(alloc, &mut members, refusal)?;
-    Ok(Value::Object(members))
-}
-
-// Puts a refusal's members where there are none.
-fn put_refusal(
-    alloc: Global,
-    members: &mut Map<String, Value>,
-    refusal: &Refusal,
-) -> Result<(), Memory>
-    requires { members.old.entries ≡ [] }
-    ensures { OnOk result (object (members_view members.new.entries) ≡ refusal_data refusal.now) }
+fn write_refusal(out: &mut JsonText, refusal: &Refusal) -> Result<(), Memory>
+    ensures { OnOk result (out.new ≡ after (refusal_data refusal.now) out.old) }
 {
     match refusal {
-        Refusal::Form { member } => put_form(alloc, members, member),
-        Refusal::Unknown { kind, name } => put_unknown(alloc, members, *kind, name),
+        Refusal::Form { member } => write_form(out, member),
+        Refusal::Unknown { kind, name } => write_unknown(out, *kind, name),
         Refusal::Forbidden {
             permission,
             project,
-        } => put_forbidden(alloc, members, *permission, project),
-        Refusal::Condition { index } => put_index(alloc, members, 4, *index),
-        Refusal::Validator { index } => put_index(alloc, members, 5, *index),
-        Refusal::Unfit { field } => put_unfit(alloc, members, field),
-        Refusal::Query { kind, place } => put_query(alloc, members, *kind, *place),
-        Refusal::Limit { limit } => put_limit(alloc, members, *limit),
-        Refusal::Earlier { kept } => put_earlier(alloc, members, *kept),
-        Refusal::Keeper => put_number(alloc, members, "no", 14),
-        Refusal::Memory => put_number(alloc, members, "no", 15),
+        } => write_forbidden(out, *permission, project),
+        Refusal::Condition { index } => write_index(out, 4, *index),
+        Refusal::Validator { index } => write_index(out, 5, *index),
+        Refusal::Unfit { field } => write_unfit(out, field),
+        Refusal::Query { kind, place } => write_query(out, *kind, *place),
+        Refusal::Limit { limit } => write_limit(out, *limit),
+        Refusal::Earlier { kept } => write_earlier(out, *kept),
+        Refusal::Keeper => write_number(out, 14),
+        Refusal::Memory => write_number(out, 15),
     }
 }
 
-fn put_form(alloc: Global, members: &mut Map<String, Value>, member: &Text) -> Result<(), Memory>
-    requires { members.old.entries ≡ [] }
-    ensures { OnOk result (object (members_view members.new.entries) ≡ form_data member.now) }
+fn write_form(out: &mut JsonText, member: &Text) -> Result<(), Memory>
+    ensures { OnOk result (out.new ≡ after (form_data member.now) out.old) }
 {
-    put_text(alloc, members, "member", member.as_str())?;
-    put_number(alloc, members, "no", 1)
+    out.begin_object()?;
+    out.text_member("member", member.as_str())?;
+    out.number_member("no", 1)?;
+    out.end_object()
 }
 
-fn put_unknown(
-    alloc: Global,
-    members: &mut Map<String, Value>,
-    kind: Thing,
-    name: &Text,
-) -> Result<(), Memory>
-    requires { members.old.entries ≡ [] }
-    ensures { OnOk result (object (members_view members.new.entries) ≡ unknown_data kind name.now) }
+fn write_unknown(out: &mut JsonText, kind: Thing, name: &Text) -> Result<(), Memory>
+    ensures { OnOk result (out.new ≡ after (unknown_data kind name.now) out.old) }
 {
-    put_text(alloc, members, "kind", kind.name())?;
-    put_text(alloc, members, "name", name.as_str())?;
-    put_number(alloc, members, "no", 2)
+    out.begin_object()?;
+    out.text_member("kind", kind.name())?;
+    out.text_member("name", name.as_str())?;
+    out.number_member("no", 2)?;
+    out.end_object()
 }
 
-fn put_forbidden(
-    alloc: Global,
-    members: &mut Map<String, Value>,
+fn write_forbidden(
+    out: &mut JsonText,
     permission: Permission,
     project: &Option<Text>,
 ) -> Result<(), Memory>
-    requires { members.old.entries ≡ [] }
-    ensures { OnOk result (object (members_view members.new.entries) ≡ forbidden_data permission project.now) }
+    ensures { OnOk result (out.new ≡ after (forbidden_data permission project.now) out.old) }
 {
-    put_number(alloc, members, "no", 3)?;
-    put_text(alloc, members, "permission", permission_name(permission))?;
-    put_value(alloc, members, "project", text_or_null(alloc, project)?)
+    out.begin_object()?;
+    out.number_member("no", 3)?;
+    out.text_member("permission", permission_name(permission))?;
+    out.key("project")?;
+    out.text_or_null(project)?;
+    out.end_object()
 }
 
 /// The word by which the setup and a refusal name a permission.
@@ -221,65 +175,60 @@ pub fn permission_name(permission: Permission) -> &'static str
     }
 }
 
-fn text_or_null(alloc: Global, text: &Option<Text>) -> Result<Value, Memory>
-    ensures { IfOk result (λ value. view value ≡ text_or_null text.now) }
+fn write_index(out: &mut JsonText, number: u64, index: usize) -> Result<(), Memory>
+    ensures { OnOk result (out.new ≡ after (index_data number index) out.old) }
 {
-    match text {
-        None => Ok(Value::Null),
-        Some(text) => Ok(Value::try_from_str(alloc, text.as_str())?),
-    }
+    out.begin_object()?;
+    out.number_member("index", index as u64)?;
+    out.number_member("no", number)?;
+    out.end_object()
 }
 
-fn put_index(
-    alloc: Global,
-    members: &mut Map<String, Value>,
-    number: u64,
-    index: usize,
-) -> Result<(), Memory>
-    requires { members.old.entries ≡ [] }
-    ensures { OnOk result (object (members_view members.new.entries) ≡ index_data number index) }
+fn write_unfit(out: &mut JsonText, field: &Text) -> Result<(), Memory>
+    ensures { OnOk result (out.new ≡ after (unfit_data field.now) out.old) }
 {
-    put_number(alloc, members, "index", index as u64)?;
-    put_number(alloc, members, "no", number)
+    out.begin_object()?;
+    out.text_member("field", field.as_str())?;
+    out.number_member("no", 6)?;
+    out.end_object()
 }
 
-fn put_unfit(alloc: Global, members: &mut Map<String, Value>, field: &Text) -> Result<(), Memory>
-    requires { members.old.entries ≡ [] }
-    ensures { OnOk result (object (members_view members.new.entries) ≡ unfit_data field.now) }
+fn write_query(out: &mut JsonText, kind: u8, place: usize) -> Result<(), Memory>
+    ensures { OnOk result (out.new ≡ after (query_data kind place) out.old) }
 {
-    put_text(alloc, members, "field", field.as_str())?;
-    put_number(alloc, members, "no", 6)
+    out.begin_object()?;
+    out.number_member("kind", u64::from(kind))?;
+    out.number_member("no", 7)?;
+    out.number_member("place", place as u64)?;
+    out.end_object()
 }
 
-fn put_query(
-    alloc: Global,
-    members: &mut Map<String, Value>,
-    kind: u8,
-    place: usize,
-) -> Result<(), Memory>
-    requires { members.old.entries ≡ [] }
-    ensures { OnOk result (object (members_view members.new.entries) ≡ query_data kind place) }
+fn write_limit(out: &mut JsonText, limit: Limit) -> Result<(), Memory>
+    ensures { OnOk result (out.new ≡ after (limit_data limit) out.old) }
 {
-    put_number(alloc, members, "kind", u64::from(kind))?;
-    put_number(alloc, members, "no", 7)?;
-    put_number(alloc, members, "place", place as u64)
+    out.begin_object()?;
+    out.text_member("limit", limit.name())?;
+    out.number_member("no", 10)?;
+    out.number_member("number", limit.number())?;
+    out.end_object()
 }
 
-fn put_limit(alloc: Global, members: &mut Map<String, Value>, limit: Limit) -> Result<(), Memory>
-    requires { members.old.entries ≡ [] }
-    ensures { OnOk result (object (members_view members.new.entries) ≡ limit_data limit) }
+fn write_earlier(out: &mut JsonText, kept: Moment) -> Result<(), Memory>
+    ensures { OnOk result (out.new ≡ after (earlier_data kept) out.old) }
 {
-    put_text(alloc, members, "limit", limit.name())?;
-    put_number(alloc, members, "no", 10)?;
-    put_number(alloc, members, "number", limit.number())
+    out.begin_object()?;
+    out.number_member("kept", kept.seconds())?;
+    out.number_member("no", 11)?;
+    out.end_object()
 }
 
-fn put_earlier(alloc: Global, members: &mut Map<String, Value>, kept: Moment) -> Result<(), Memory>
-    requires { members.old.entries ≡ [] }
-    ensures { OnOk result (object (members_view members.new.entries) ≡ earlier_data kept) }
+// The refusals that have a number alone.
+fn write_number(out: &mut JsonText, number: u64) -> Result<(), Memory>
+    ensures { OnOk result (out.new ≡ after (number_data number) out.old) }
 {
-    put_number(alloc, members, "kept", kept.seconds())?;
-    put_number(alloc, members, "no", 11)
+    out.begin_object()?;
+    out.number_member("no", number)?;
+    out.end_object()
 }
 
 impl Thing {

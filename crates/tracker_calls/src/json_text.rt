@@ -1,0 +1,143 @@
+// A text of JSON on its way: `json`'s writer, of which contracts see the tokens so far.
+ghost use Rattle.std.specs.Prelude.{◌≡◌, ◌∷◌, ◌++◌, [], IfOk, OnOk};
+ghost use Rattle.json.specs.Token.{begin_object, end_object, begin_array, end_array, key};
+ghost use Rattle.json.specs.Print.{print};
+ghost use Rattle.serde_json.specs.Data.{null, string, boolean};
+ghost use Rattle.tracker_calls.specs.Written.{after};
+ghost use Rattle.tracker_calls.specs.Reply.{natural, natural_or_null, text_or_null};
+
+use field_values::{Memory, Text};
+use json::Writer;
+use std::alloc::Global;
+use std::marker::Model;
+
+// The bytes that most replies have at most.
+const ROOM: usize = 240;
+
+/// A text of JSON that is written a token at a time. It places the commas and the colons; that brackets match and
+/// members have names is its caller's to see to.
+#[derive(Drop)]
+pub struct JsonText {
+    writer: Writer,
+}
+
+impl Model for JsonText {
+    ghost use Rattle.std.specs.Prelude.{◌≡◌, List, []};
+    ghost use Rattle.json.specs.Token.{Token, tokens_code};
+
+    ghost Value = { List Token };
+
+    ghost coded = { tokens_code };
+
+    ghost view = { λ t. t.writer.tokens };
+
+    ghost invariant = { λ t. t.writer.before ≡ [] };
+}
+
+impl JsonText {
+    /// Nothing is written, and there is room for most replies.
+    pub fn new(alloc: Global) -> Result<Self, Memory>
+        ensures { IfOk result (λ text. text ≡ []) }
+    {
+        Ok(JsonText {
+            writer: Writer::new(Vec::with_capacity(alloc, ROOM)?),
+        })
+    }
+
+    /// The text that was written.
+    pub fn into_text(self) -> Text
+        ensures { result ≡ print self }
+    {
+        let JsonText { writer } = self;
+        match String::from_utf8(writer.into_inner()) {
+            Ok(string) => Text::of(string),
+            Err(_) => unreachable!(),
+        }
+    }
+
+    pub fn begin_object(&mut self) -> Result<(), Memory>
+        ensures { OnOk result (self.new ≡ self.old ++ begin_object ∷ []) }
+    {
+        Ok(self.writer.begin_object()?)
+    }
+
+    pub fn end_object(&mut self) -> Result<(), Memory>
+        ensures { OnOk result (self.new ≡ self.old ++ end_object ∷ []) }
+    {
+        Ok(self.writer.end_object()?)
+    }
+
+    pub fn begin_array(&mut self) -> Result<(), Memory>
+        ensures { OnOk result (self.new ≡ self.old ++ begin_array ∷ []) }
+    {
+        Ok(self.writer.begin_array()?)
+    }
+
+    pub fn end_array(&mut self) -> Result<(), Memory>
+        ensures { OnOk result (self.new ≡ self.old ++ end_array ∷ []) }
+    {
+        Ok(self.writer.end_array()?)
+    }
+
+    pub fn key(&mut self, name: &str) -> Result<(), Memory>
+        ensures { OnOk result (self.new ≡ self.old ++ key name.now ∷ []) }
+    {
+        Ok(self.writer.key(name)?)
+    }
+
+    pub fn null(&mut self) -> Result<(), Memory>
+        ensures { OnOk result (self.new ≡ after null self.old) }
+    {
+        Ok(self.writer.null()?)
+    }
+
+    pub fn boolean(&mut self, truth: bool) -> Result<(), Memory>
+        ensures { OnOk result (self.new ≡ after (boolean truth) self.old) }
+    {
+        Ok(self.writer.boolean(truth)?)
+    }
+
+    pub fn text(&mut self, text: &str) -> Result<(), Memory>
+        ensures { OnOk result (self.new ≡ after (string text.now) self.old) }
+    {
+        Ok(self.writer.string(text)?)
+    }
+
+    pub fn number(&mut self, number: u64) -> Result<(), Memory>
+        ensures { OnOk result (self.new ≡ after (natural number) self.old) }
+    {
+        Ok(self.writer.u64(number)?)
+    }
+
+    pub fn number_or_null(&mut self, number: Option<u64>) -> Result<(), Memory>
+        ensures { OnOk result (self.new ≡ after (natural_or_null number) self.old) }
+    {
+        match number {
+            Some(number) => self.number(number),
+            None => self.null(),
+        }
+    }
+
+    pub fn text_or_null(&mut self, text: &Option<Text>) -> Result<(), Memory>
+        ensures { OnOk result (self.new ≡ after (text_or_null text.now) self.old) }
+    {
+        match text {
+            Some(text) => self.text(text.as_str()),
+            None => self.null(),
+        }
+    }
+
+    pub fn text_member(&mut self, name: &str, text: &str) -> Result<(), Memory>
+        ensures { OnOk result (self.new ≡ after (string text.now) (self.old ++ key name.now ∷ [])) }
+    {
+        self.key(name)?;
+        self.text(text)
+    }
+
+    pub fn number_member(&mut self, name: &str, number: u64) -> Result<(), Memory>
+        ensures { OnOk result (self.new ≡ after (natural number) (self.old ++ key name.now ∷ [])) }
+    {
+        self.key(name)?;
+        self.number(number)
+    }
+}
