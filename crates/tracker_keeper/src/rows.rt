@@ -10,7 +10,9 @@ ghost use Rattle.serde_json.specs.View.{view};
 
 use crate::lone_texts::{read_rank, read_setup};
 use crate::looking::{board_like, data_of, external_like, filter_like, present_like, sprint_like};
-use crate::looking_at_values::{group_like, issue_like, members_like};
+use crate::looking_at_groups::group_like;
+use crate::looking_at_issues::issue_like;
+use crate::looking_at_members::members_like;
 use crate::part::Part;
 use crate::spelled::name_at;
 use crate::written::{board_text, filter_text, present_text, sprint_text};

@@ -6,7 +6,7 @@ use Rattle.fields.specs.Naming.{field_name}
 use Rattle.fields.specs.SetupParts.{names}
 use Rattle.tracker_keeper.specs.LookingAtValues.{values_like, with_value}
 use Rattle.tracker_keeper.proofs.IssuesBack.{next_values}
-use Rattle.tracker_keeper.proofs.looking_at_values.values_like.Goals as goal
+use Rattle.tracker_keeper.proofs.looking_at_issues.values_like.Goals as goal
 
 pub returns-then-not-branch : goal.returns-then-not-branch
 returns-then-not-branch c =
