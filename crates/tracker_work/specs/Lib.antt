@@ -1,0 +1,4 @@
+pub mod Seen
+pub mod Work
+pub mod Laws
+pub mod Rows
