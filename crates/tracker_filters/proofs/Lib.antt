@@ -1,0 +1,12 @@
+pub mod Lists
+pub mod Numbered
+pub mod Named
+pub mod Rights
+pub mod Shapes
+pub mod Members
+pub mod Search
+pub mod Settling
+pub mod Ends
+pub mod Made
+pub mod Watching
+pub mod Sprinting

@@ -1,0 +1,50 @@
+-- Worked values, computed from the definitions: numbers that are given again, and names that each user has for itself.
+use Rattle.std.specs.Prelude.{ℕ, ◌≡◌, List, [], ◌∷◌, Some, None, codes, refl}
+use Rattle.field_values.specs.declared.numbers.UserNo.{UserNo}
+use Rattle.tracker_filters.specs.declared.filter.Filter.{Filter}
+use Rattle.tracker_filters.specs.ByNumber.{by_number, put_by_number, without_number, free_from}
+use Rattle.tracker_filters.specs.Saved.{number, by_owner}
+
+abbrev anna : UserNo
+anna = record { 0 = 0 }
+
+abbrev bo : UserNo
+bo = record { 0 = 1 }
+
+-- a filter of every issue
+abbrev filter_of : ℕ → UserNo → List ℕ → Filter
+filter_of n owner name = record { no = record { 0 = n }; owner = owner; name = name; text = []; query = record { cond = None; order = record { keys = [] } } }
+
+abbrev first : List Filter
+first = filter_of 1 anna (codes "a") ∷ filter_of 2 anna (codes "b") ∷ []
+
+-- the second filter comes behind the first
+pub second_number : free_from number 1 (filter_of 1 anna (codes "a") ∷ []) ≡ 2
+second_number = refl
+
+pub second_behind : put_by_number number (filter_of 2 anna (codes "b")) (filter_of 1 anna (codes "a") ∷ []) ≡ first
+second_behind = refl
+
+-- where the first one is dropped its number is given again
+pub number_again : free_from number 1 (without_number number 1 first) ≡ 1
+number_again = refl
+
+abbrev later : List Filter
+later = put_by_number number (filter_of 1 anna (codes "c")) (without_number number 1 first)
+
+pub in_front : later ≡ filter_of 1 anna (codes "c") ∷ filter_of 2 anna (codes "b") ∷ []
+in_front = refl
+
+-- the name is Anna's, and not yet Bo's
+pub of_anna : by_owner anna (codes "b") later ≡ Some (filter_of 2 anna (codes "b"))
+of_anna = refl
+
+pub not_of_bo : by_owner bo (codes "b") later ≡ None
+not_of_bo = refl
+
+pub third_number : free_from number 1 later ≡ 3
+third_number = refl
+
+-- by its number it is found at its place
+pub found : by_number number 2 later ≡ Some (filter_of 2 anna (codes "b"))
+found = refl
