@@ -40,14 +40,14 @@ use Rattle.keeper_told.specs.Table.{kept, kept_schema, drop_text}
 use Rattle.keeper_told.specs.Content.{cells_of, AreKept, IsKeyed, Holds, HasRows}
 use Rattle.keeper_told.specs.Keeping.{IsTable}
 use Rattle.keeper_told.proofs.Answering.{simple, shows_only, shows_each}
-use Rattle.keeper_told.proofs.Upserting.{task, went, same_value, equal_int, self_keys, same_keys, own_at, own_rowid, left_lacks, shaped_left, one_a_key, at_key, off_key}
+use Rattle.keeper_told.proofs.Placing.{task, went, same_value, equal_int, self_keys, same_keys, own_at, own_rowid, left_lacks, shaped_left, one_a_key, at_key, off_key}
 
 -- ---- a delete
 
-abbrev same_as : ℕ → ℕ → Term
+abbrev pub same_as : ℕ → ℕ → Term
 same_as at param = op2 (Compare Eq Binary) (col 1 at) (op1 ToNumeric (col 0 param))
 
-abbrev tests : List Term
+abbrev pub tests : List Term
 tests = same_as 1 0 ∷ same_as 2 1 ∷ []
 
 abbrev its_rowid : List Term

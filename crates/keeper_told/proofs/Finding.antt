@@ -26,7 +26,7 @@ use Rattle.keeper_told.specs.Table.{column_of, kept, kept_schema}
 use Rattle.keeper_told.specs.Content.{cells_of, IsKeptRow, IsKeyed, Holds, HasRows}
 use Rattle.keeper_told.specs.Reading.{three_of, shown}
 use Rattle.keeper_told.proofs.Answering.{shows_only, shows_each}
-use Rattle.keeper_told.proofs.Upserting.{one_a_key, at_one_rowid, own_at, own_rowid}
+use Rattle.keeper_told.proofs.Placing.{one_a_key, at_one_rowid, own_at, own_rowid}
 use Rattle.sqlite.specs.Command.TheVariants.{Select}
 use Rattle.sqlite.specs.State.{State, Shown}
 use Rattle.sqlite.proofs.Callers.{reads_as}

@@ -1,5 +1,7 @@
 pub mod Answering
-pub mod Upserting
+pub mod Placing
+pub mod Changing
+pub mod Adding
 pub mod Deleting
 pub mod Making
 pub mod Selecting

@@ -16,7 +16,7 @@ use Rattle.sqlite.proofs.Callers.{IsPlain, command_of, statement_of, runs_as}
 use Rattle.keeper_told.specs.Table.{kept, no_schema, kept_schema, make_text, IsOurs}
 use Rattle.keeper_told.specs.Content.{HasRows}
 use Rattle.keeper_told.specs.Keeping.{IsBare, IsTable, Stores}
-use Rattle.keeper_told.proofs.Upserting.{went, same_value}
+use Rattle.keeper_told.proofs.Placing.{went, same_value}
 
 makes : command_of (understood no_schema make_text) ≡ CreateTable
 unfolding understood everything

@@ -1,6 +1,6 @@
 -- What the table has of kept rows: a map from kind and number to body.
-use Rattle.std.specs.Prelude.{◌≡◌, ◌↔◌, ℕ, ℤ, pos, List, [], ◌∷◌, Some}
-use Rattle.tracker_keeper.specs.Rows.{Rows}
+use Rattle.std.specs.Prelude.{◌≡◌, ◌↔◌, ℕ, ◌==◌, ℤ, pos, List, [], ◌∷◌, Some, if◌then◌else◌}
+use Rattle.tracker_keeper.specs.Rows.{Rows, with_body}
 use Rattle.sqlite.specs.declared.types.Value.TheVariants.{Int, Text as Words}
 use Rattle.sqlite.specs.Order.{Row as Cells}
 use Rattle.sqlite_rules.specs.Lists.{Has}
@@ -32,3 +32,7 @@ pub record HasRows (table : List Cells) (rows : Rows) : Type 0 where
   pub rising : IsShaped Shape.Table table
   pub keyed : IsKeyed table
   pub same : (kind number : ℕ) (body : List ℕ) → (rows kind number ≡ Some body) ↔ Holds table kind number body
+
+-- the rows after an update of the one of that kind and number, by how many rows it has changed
+abbrev pub changed_by : ℕ → ℕ → ℕ → List ℕ → Rows → Rows
+changed_by count kind number body rows = if count == 0 then rows else with_body kind number (Some body) rows

@@ -13,8 +13,11 @@ use Rattle.sqlite_schema.specs.declared.schema.Index.{Index}
 abbrev pub make_text : List ℕ
 make_text = codes "CREATE TABLE kept (kind INTEGER, no INTEGER, body TEXT, PRIMARY KEY (kind, no))"
 
-abbrev pub put_text : List ℕ
-put_text = codes "INSERT INTO kept (kind, no, body) VALUES (?1, ?2, ?3) ON CONFLICT (kind, no) DO UPDATE SET body = excluded.body"
+abbrev pub change_text : List ℕ
+change_text = codes "UPDATE kept SET body = ?3 WHERE kind = ?1 AND no = ?2"
+
+abbrev pub add_text : List ℕ
+add_text = codes "INSERT INTO kept (kind, no, body) VALUES (?1, ?2, ?3)"
 
 abbrev pub drop_text : List ℕ
 drop_text = codes "DELETE FROM kept WHERE kind = ?1 AND no = ?2"

@@ -1,4 +1,4 @@
-// A commit: one transaction, with one statement an operation.
+// A commit: one transaction, with the statements of each operation in order.
 ghost use Rattle.std.specs.Prelude.{◌≡◌, ◌<◌, ◌^◌, ℕ, false, length, IsTrue, OnOk, OnErr};
 ghost use Rattle.std.specs.List.{All};
 ghost use Rattle.tracker_keeper.specs.Rows.{Rows, with_ops, number_of};
