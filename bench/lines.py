@@ -1,5 +1,6 @@
 #!/usr/bin/env python3
-"""Times request lines: 50,000 creates, and 50,000 edits, shows and histories of 5,000 issues.
+"""Times request lines: 50,000 creates, and 50,000 edits, shows and histories of 5,000 issues; 10,000 moves of 10,000 issues; and 10,000
+creates behind 1,000 issues and behind 40,000.
 
 usage: python3 bench/lines.py PROGRAM [LINES]
 
@@ -9,6 +10,7 @@ that of the run.
 """
 import json
 import os
+import random
 import sys
 import tempfile
 
@@ -28,12 +30,22 @@ def edit(number):
     return line('bo', 'edit', issue=f'OPS-{number % ISSUES + 1}', set={'points': str(number // ISSUES % 9 + 1), 'description': f'Seen at step {number} again, and noted.'})
 
 
+def move(by):
+    one, other = by.sample(range(1, RANKED + 1), 2)
+    return line('anna', by.choice(['move_before', 'move_after']), issue=f'OPS-{one}', other=f'OPS-{other}')
+
+
+RANKED = 10_000
+LOTS = random.Random(7)
 LOAD = [create(number) for number in range(ISSUES)]
 KINDS = [
     ('create', [], [create(number) for number in range(LINES)]),
     ('edit', LOAD, [edit(number) for number in range(LINES)]),
     ('show', LOAD, [line('cy', 'show', issue=f'OPS-{number % ISSUES + 1}') for number in range(LINES)]),
     ('history', LOAD, [line('cy', 'history', issue=f'OPS-{number % ISSUES + 1}') for number in range(LINES)]),
+    ('move', [create(number) for number in range(RANKED)], [move(LOTS) for _ in range(10_000)]),
+    ('create behind 1,000', [create(number) for number in range(1_000)], [create(number) for number in range(10_000)]),
+    ('create behind 40,000', [create(number) for number in range(40_000)], [create(number) for number in range(10_000)]),
 ]
 
 

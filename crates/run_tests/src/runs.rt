@@ -285,7 +285,8 @@ fn a_keeper_that_fails_once_refuses_one_call(rt: HostRuntime) -> Result<(), Fail
         out.as_slice(),
         b"{\"ok\":{\"already\":false,\"change\":1,\"issue\":\"OPS-1\"}}\n{\"refused\":{\"no\":14}}\n{\"ok\":{\"already\":false,\"change\":2,\"issue\":\"OPS-2\"}}\n".as_slice()
     );
-    assert_eq!(rt; kinds.as_slice(), b"\x01\x02\x03\x03".as_slice());
+    // Setup and moment, then the two issues, and the rank of each.
+    assert_eq!(rt; kinds.as_slice(), b"\x01\x02\x03\x03\x05\x05".as_slice());
     Ok(())
 }
 

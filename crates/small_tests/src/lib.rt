@@ -1,8 +1,13 @@
-//! Tests of days, local time and the date terms of queries, of ranks, their order, its balance, and sprints, and of a turn that threads share.
+//! Tests of days, local time and the date terms of queries, of saved filters, of ranks, their order, its balance, of sprints and their burndown,
+//! and of a turn that threads share.
 #![tactic(auto)]
 
 #[cfg(test)]
+mod burndowns;
+#[cfg(test)]
 mod dates;
+#[cfg(test)]
+mod filters;
 #[cfg(test)]
 mod ranking;
 #[cfg(test)]

@@ -6,8 +6,8 @@ use Rattle.serde_json.specs.Find.{get, as_str, as_number, as_u64, as_object}
 use Rattle.serde_json.specs.Read.{read}
 use Rattle.tracker_calls.specs.Given.{set_at, set_if_there}
 use Rattle.tracker_calls.specs.declared.call.Call.{Call}
-use Rattle.tracker_calls.specs.declared.call.Call.TheVariants.{Create, Edit, Transition, Tick, Show, History, Search}
-use Rattle.tracker_calls.specs.Part.{from_if_there, count_if_there}
+use Rattle.tracker_calls.specs.declared.call.Call.TheVariants.{Create, Edit, Transition, Tick, MoveBefore, MoveAfter, RebalanceStart, RebalanceStep, Show, History, Search, Ranks, Balance}
+use Rattle.tracker_calls.specs.Part.{from_if_there, count_if_there, count_at}
 use Rattle.tracker_calls.specs.declared.call.CallKind.{CallKind}
 use Rattle.tracker_calls.specs.declared.call.CallKind.TheVariants as kind
 use Rattle.tracker_calls.specs.declared.reply.Refusal.{Refusal}
@@ -40,6 +40,10 @@ no_other (Some name) next = Err (Form name)
 abbrev pub text_at : List ℕ → Data → Option (List ℕ)
 text_at name d = option_and_then as_str (get name d)
 
+-- an issue isn't moved beside itself
+abbrev pub other_than : List ℕ → Data → Option (List ℕ)
+other_than issue d = option_and_then (λ other. if bytes_eq other issue then None else Some other) (text_at (codes "other") d)
+
 -- a moment of the years 1970 to 2099
 abbrev pub moment_of : ℕ → Option ℕ
 moment_of n = if nat_le n 4102444799 then Some n else None
@@ -59,18 +63,30 @@ kind_named name =
     (if bytes_eq name (codes "edit") then Some kind.Edit else
     (if bytes_eq name (codes "transition") then Some kind.Transition else
     (if bytes_eq name (codes "tick") then Some kind.Tick else
+    (if bytes_eq name (codes "move_before") then Some kind.MoveBefore else
+    (if bytes_eq name (codes "move_after") then Some kind.MoveAfter else
+    (if bytes_eq name (codes "rebalance_start") then Some kind.RebalanceStart else
+    (if bytes_eq name (codes "rebalance_step") then Some kind.RebalanceStep else
     (if bytes_eq name (codes "show") then Some kind.Show else
     (if bytes_eq name (codes "history") then Some kind.History else
-    (if bytes_eq name (codes "search") then Some kind.Search else None))))))
+    (if bytes_eq name (codes "search") then Some kind.Search else
+    (if bytes_eq name (codes "ranks") then Some kind.Ranks else
+    (if bytes_eq name (codes "balance") then Some kind.Balance else None))))))))))))
 
 abbrev pub call_members : CallKind → List (List ℕ)
 call_members kind.Create = codes "call" ∷ codes "project" ∷ codes "set" ∷ codes "summary" ∷ codes "type" ∷ codes "user" ∷ []
 call_members kind.Edit = codes "call" ∷ codes "issue" ∷ codes "set" ∷ codes "user" ∷ []
 call_members kind.Transition = codes "call" ∷ codes "issue" ∷ codes "set" ∷ codes "transition" ∷ codes "user" ∷ []
 call_members kind.Tick = codes "call" ∷ codes "to" ∷ codes "user" ∷ []
+call_members kind.MoveBefore = codes "call" ∷ codes "issue" ∷ codes "other" ∷ codes "user" ∷ []
+call_members kind.MoveAfter = codes "call" ∷ codes "issue" ∷ codes "other" ∷ codes "user" ∷ []
+call_members kind.RebalanceStart = codes "call" ∷ codes "user" ∷ []
+call_members kind.RebalanceStep = codes "call" ∷ codes "count" ∷ codes "user" ∷ []
 call_members kind.Show = codes "call" ∷ codes "issue" ∷ codes "user" ∷ []
 call_members kind.History = codes "call" ∷ codes "count" ∷ codes "from" ∷ codes "issue" ∷ codes "user" ∷ []
 call_members kind.Search = codes "call" ∷ codes "count" ∷ codes "from" ∷ codes "jql" ∷ codes "user" ∷ []
+call_members kind.Ranks = codes "call" ∷ codes "count" ∷ codes "from" ∷ codes "user" ∷ []
+call_members kind.Balance = codes "call" ∷ codes "user" ∷ []
 
 abbrev pub is_member : CallKind → List ℕ → Bool
 is_member kind name = is_among name (call_members kind)
@@ -109,6 +125,21 @@ tick_of d members user =
     need (moment_at (codes "to") d) (codes "to") (λ to.
     no_other (first_other kind.Tick (names_of members)) (Ok (user, Tick to)))
 
+-- either move
+abbrev pub move_of : CallKind → (List ℕ → List ℕ → Call) → Data → Members → List ℕ → Asked
+move_of kind call d members user =
+    need (text_at (codes "issue") d) (codes "issue") (λ issue.
+    need (other_than issue d) (codes "other") (λ other.
+    no_other (first_other kind (names_of members)) (Ok (user, call issue other))))
+
+abbrev pub rebalance_start_of : Members → List ℕ → Asked
+rebalance_start_of members user = no_other (first_other kind.RebalanceStart (names_of members)) (Ok (user, RebalanceStart))
+
+abbrev pub rebalance_step_of : Data → Members → List ℕ → Asked
+rebalance_step_of d members user =
+    need (count_at 1000 d) (codes "count") (λ count.
+    no_other (first_other kind.RebalanceStep (names_of members)) (Ok (user, RebalanceStep count)))
+
 abbrev pub show_of : Data → Members → List ℕ → Asked
 show_of d members user =
     need (text_at (codes "issue") d) (codes "issue") (λ issue.
@@ -128,14 +159,29 @@ search_of d members user =
     need (count_if_there 1000 d) (codes "count") (λ count.
     no_other (first_other kind.Search (names_of members)) (Ok (user, Search jql (record { from = from; count = count }))))))
 
+abbrev pub ranks_of : Data → Members → List ℕ → Asked
+ranks_of d members user =
+    need (from_if_there d) (codes "from") (λ from.
+    need (count_if_there 1000 d) (codes "count") (λ count.
+    no_other (first_other kind.Ranks (names_of members)) (Ok (user, Ranks (record { from = from; count = count })))))
+
+abbrev pub balance_of : Members → List ℕ → Asked
+balance_of members user = no_other (first_other kind.Balance (names_of members)) (Ok (user, Balance))
+
 abbrev pub asked_by : CallKind → Data → Members → List ℕ → Asked
 asked_by kind.Create d members user = create_of d members user
 asked_by kind.Edit d members user = edit_of d members user
 asked_by kind.Transition d members user = transition_of d members user
 asked_by kind.Tick d members user = tick_of d members user
+asked_by kind.MoveBefore d members user = move_of kind.MoveBefore MoveBefore d members user
+asked_by kind.MoveAfter d members user = move_of kind.MoveAfter MoveAfter d members user
+asked_by kind.RebalanceStart d members user = rebalance_start_of members user
+asked_by kind.RebalanceStep d members user = rebalance_step_of d members user
 asked_by kind.Show d members user = show_of d members user
 asked_by kind.History d members user = history_of d members user
 asked_by kind.Search d members user = search_of d members user
+asked_by kind.Ranks d members user = ranks_of d members user
+asked_by kind.Balance d members user = balance_of members user
 
 -- the user and the call, or the first fault in the order of the members
 abbrev pub call_of : Data → Asked

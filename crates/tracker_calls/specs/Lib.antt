@@ -5,3 +5,4 @@ pub mod Reply
 pub mod Seen
 pub mod Written
 pub mod Sorted
+pub mod Taken

@@ -22,6 +22,10 @@ from_if_there d = whole_or 0 0 2_000_000 (get (codes "from") d)
 abbrev pub count_if_there : ℕ → Data → Option ℕ
 count_if_there most d = whole_or most 1 most (get (codes "count") d)
 
+-- how many are asked for, where the member has to be there
+abbrev pub count_at : ℕ → Data → Option ℕ
+count_at most d = option_and_then (whole_within 1 most) (get (codes "count") d)
+
 -- the member of a part that is out of range, of a call that no line gave
 abbrev pub part_fault : ℕ → Part → Option (List ℕ)
 part_fault most part =

@@ -1,6 +1,6 @@
 -- The text of a reply: compact JSON.
-use Rattle.std.specs.Prelude.{ℕ, Bool, List, [], ◌∷◌, Option, Some, None, codes, map}
-use Rattle.serde_json.specs.Data.{Data, null, boolean, number, unsigned, string, array, object, Members, member, no_members, put}
+use Rattle.std.specs.Prelude.{ℕ, Bool, List, [], ◌∷◌, ◌++◌, Option, Some, None, codes, decimal, map}
+use Rattle.serde_json.specs.Data.{Data, null, boolean, number, unsigned, string, array, object, item, no_items, Members, member, no_members, put}
 use Rattle.serde_json.specs.View.{items_of}
 use Rattle.serde_json.specs.Written.{compact_text}
 use Rattle.tracker_calls.specs.declared.reply.Reply.{Reply}
@@ -11,6 +11,11 @@ use Rattle.tracker_calls.specs.declared.reply.Shown.{Shown}
 use Rattle.tracker_calls.specs.declared.reply.Shown.TheVariants as shown
 use Rattle.tracker_calls.specs.declared.reply.ShownField.{ShownField}
 use Rattle.tracker_calls.specs.declared.reply.ToldEntry.{ToldEntry}
+use Rattle.tracker_calls.specs.declared.reply.RankedKey.{RankedKey}
+use Rattle.tracker_calls.specs.declared.reply.BalanceState.{BalanceState}
+use Rattle.tracker_calls.specs.declared.reply.BalanceState.TheVariants as state
+use Rattle.tracker_calls.specs.declared.reply.BalanceKept.{BalanceKept}
+use Rattle.tracker_calls.specs.declared.reply.BalanceKept.TheVariants as kept
 use Rattle.field_values.specs.declared.rules.Permission.{Permission}
 use Rattle.field_values.specs.declared.rules.Permission.TheVariants as permission
 use Rattle.tracker_calls.specs.declared.reply.Refusal.{Refusal}
@@ -111,6 +116,37 @@ history_data entries total = object
 abbrev pub search_data : List (List ℕ) → ℕ → Data
 search_data issues total = object (member (codes "issues") (texts_data issues) (member (codes "total") (natural total) no_members))
 
+abbrev pub move_data : List ℕ → List ℕ → Data
+move_data issue rank = object (member (codes "issue") (string issue) (member (codes "rank") (string rank) no_members))
+
+-- a key with its rank
+abbrev pub ranked_data : RankedKey → Data
+ranked_data r = array (item (string r.issue) (item (string r.rank) no_items))
+
+abbrev pub ranks_data : List RankedKey → ℕ → Data
+ranks_data ranks total = object
+    (member (codes "ranks") (array (items_of (map ranked_data ranks))) (member (codes "total") (natural total) no_members))
+
+abbrev pub rebalance_start_data : ℕ → ℕ → Data
+rebalance_start_data from to = object (member (codes "from") (natural from) (member (codes "to") (natural to) no_members))
+
+abbrev pub rebalance_step_data : ℕ → ℕ → Data
+rebalance_step_data left moved = object (member (codes "left") (natural left) (member (codes "moved") (natural moved) no_members))
+
+abbrev pub balance_data : BalanceState → ℕ → Bool → Data
+balance_data (state.Idle bucket) longest offer = object
+    (member (codes "bucket") (natural bucket)
+    (member (codes "longest") (natural longest)
+    (member (codes "offer") (boolean offer)
+    (member (codes "state") (string (codes "idle")) no_members))))
+balance_data (state.Moving from left to) longest offer = object
+    (member (codes "from") (natural from)
+    (member (codes "left") (natural left)
+    (member (codes "longest") (natural longest)
+    (member (codes "offer") (boolean offer)
+    (member (codes "state") (string (codes "moving"))
+    (member (codes "to") (natural to) no_members))))))
+
 abbrev pub answer_data : Answer → Data
 answer_data (answer.Create already change issue) = create_data already change issue
 answer_data (answer.Edit change issue) = edit_data change issue
@@ -119,6 +155,11 @@ answer_data (answer.Tick moment) = tick_data moment
 answer_data (answer.Show created fields issue updated) = show_data created fields issue updated
 answer_data (answer.History entries total) = history_data entries total
 answer_data (answer.Search issues total) = search_data issues total
+answer_data (answer.Move issue rank) = move_data issue rank
+answer_data (answer.Ranks ranks total) = ranks_data ranks total
+answer_data (answer.RebalanceStart from to) = rebalance_start_data from to
+answer_data (answer.RebalanceStep left moved) = rebalance_step_data left moved
+answer_data (answer.Balance state longest offer) = balance_data state longest offer
 
 -- the members under `refused`
 abbrev pub form_data : List ℕ → Data
@@ -141,11 +182,23 @@ unfit_data field = object (member (codes "field") (string field) (member (codes 
 abbrev pub query_data : ℕ → ℕ → Data
 query_data kind place = object (member (codes "kind") (natural kind) (member (codes "no") (natural 7) (member (codes "place") (natural place) no_members)))
 
+abbrev pub no_room_data : Option (List ℕ) → Option (List ℕ) → Data
+no_room_data low high = object
+    (member (codes "high") (text_or_null high) (member (codes "low") (text_or_null low) (member (codes "no") (natural 8) no_members)))
+
 abbrev pub limit_data : Limit → Data
 limit_data l = object (member (codes "limit") (string (limit_name l)) (member (codes "no") (natural 10) (member (codes "number") (natural (limit_number l)) no_members)))
 
 abbrev pub earlier_data : ℕ → Data
 earlier_data kept = object (member (codes "kept") (natural kept) (member (codes "no") (natural 11) no_members))
+
+-- the bucket, or the two of them
+abbrev pub balance_text : BalanceKept → List ℕ
+balance_text (kept.Idle bucket) = codes "idle " ++ decimal bucket
+balance_text (kept.Moving from to) = codes "moving " ++ (decimal from ++ 32 ∷ decimal to)
+
+abbrev pub balance_is_data : BalanceKept → Data
+balance_is_data balance = object (member (codes "kept") (string (balance_text balance)) (member (codes "no") (natural 12) no_members))
 
 abbrev pub number_data : ℕ → Data
 number_data n = object (member (codes "no") (natural n) no_members)
@@ -158,8 +211,10 @@ refusal_data (refusal.Condition index) = index_data 4 index
 refusal_data (refusal.Validator index) = index_data 5 index
 refusal_data (refusal.Unfit field) = unfit_data field
 refusal_data (refusal.Query kind place) = query_data kind place
+refusal_data (refusal.NoRoom low high) = no_room_data low high
 refusal_data (refusal.Limit l) = limit_data l
 refusal_data (refusal.Earlier kept) = earlier_data kept
+refusal_data (refusal.BalanceIs balance) = balance_is_data balance
 refusal_data refusal.Keeper = number_data 14
 refusal_data refusal.Memory = number_data 15
 

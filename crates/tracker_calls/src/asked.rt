@@ -1,236 +1,309 @@
 // Each call with its members, in the order in which a fault is told.
-ghost use Rattle.std.specs.Prelude.{◌≡◌, Ok, IfOk};
-ghost use Rattle.serde_json.specs.View.{view, members_view};
-ghost use Rattle.tracker_calls.specs.Asked.{asked_by, create_of, edit_of, transition_of, tick_of, show_of, history_of, search_of, UnlessMemory};
+ghost use Rattle.tracker_calls.specs.Asked.{UnlessMemory};
+ghost use Rattle.tracker_calls.specs.Taken.{asked_in};
 
 use crate::call::{Call, CallKind, MOST_ENTRIES, MOST_LISTED, Part};
-use crate::given::{GivenFields, set_at, set_if_there};
-use crate::members::{count_if_there, first_other, from_if_there, misses, moment_at, text_at};
+use crate::given::{take_set, take_set_if_there};
+use crate::members::{
+    count_at, count_if_there, first_other, from_if_there, misses, moment_at, other_than, text_at,
+};
 use crate::reply::Refusal;
+use crate::taken::{take_text, take_user};
 use crate::user_name::UserName;
-use field_values::{Memory, Text};
 use serde_json::{Map, Value};
 use std::alloc::Global;
 
-/// The call of that kind with its members, or the first fault of these.
-pub fn asked_by(
+/// The call of that kind with its members, or the first fault of these. What the call has of them is taken out.
+pub fn asked_in(
     alloc: Global,
     kind: CallKind,
-    value: &Value,
-    members: &Map<String, Value>,
-    user: &str,
+    members: &mut Map<String, Value>,
 ) -> Result<(UserName, Call), Refusal>
-    ensures { UnlessMemory result (asked_by kind (view value.now) (members_view members.now.entries) user.now) }
+    ensures { UnlessMemory result (asked_in kind members.old) }
 {
     match kind {
-        CallKind::Create => create_of(alloc, value, members, user),
-        CallKind::Edit => edit_of(alloc, value, members, user),
-        CallKind::Transition => transition_of(alloc, value, members, user),
-        CallKind::Tick => tick_of(alloc, value, members, user),
-        CallKind::Show => show_of(alloc, value, members, user),
-        CallKind::History => history_of(alloc, value, members, user),
-        CallKind::Search => search_of(alloc, value, members, user),
+        CallKind::Create => create_of(alloc, members),
+        CallKind::Edit => edit_of(alloc, members),
+        CallKind::Transition => transition_of(alloc, members),
+        CallKind::Tick => tick_of(alloc, members),
+        CallKind::MoveBefore => move_before_of(alloc, members),
+        CallKind::MoveAfter => move_after_of(alloc, members),
+        CallKind::RebalanceStart => rebalance_start_of(alloc, members),
+        CallKind::RebalanceStep => rebalance_step_of(alloc, members),
+        CallKind::Show => show_of(alloc, members),
+        CallKind::History => history_of(alloc, members),
+        CallKind::Search => search_of(alloc, members),
+        CallKind::Ranks => ranks_of(alloc, members),
+        CallKind::Balance => balance_of(alloc, members),
     }
 }
 
-fn create_of(
-    alloc: Global,
-    value: &Value,
-    members: &Map<String, Value>,
-    user: &str,
-) -> Result<(UserName, Call), Refusal>
-    ensures { UnlessMemory result (create_of (view value.now) (members_view members.now.entries) user.now) }
+#[tactic(auto, using(crate::proofs::Taking::text_at_without, crate::proofs::Taking::first_other_without))]
+fn create_of(alloc: Global, members: &mut Map<String, Value>) -> Result<(UserName, Call), Refusal>
+    ensures { UnlessMemory result (asked_in CallKind.Create members.old) }
 {
-    let Some(project) = text_at(value, "project") else {
+    let Some(_) = text_at(members, "project") else {
         return misses(alloc, "project");
     };
-    let Some(issue_type) = text_at(value, "type") else {
+    let Some(_) = text_at(members, "type") else {
         return misses(alloc, "type");
     };
-    let Some(summary) = text_at(value, "summary") else {
+    let Some(_) = text_at(members, "summary") else {
         return misses(alloc, "summary");
     };
-    let Some(set) = set_if_there(alloc, value)? else {
+    let Some(set) = take_set_if_there(alloc, members)? else {
         return misses(alloc, "set");
     };
     if let Some(other) = first_other(CallKind::Create, members) {
         return misses(alloc, other);
     }
-    let call = create_call(alloc, project, issue_type, summary, set)?;
-    made_by(alloc, user, call)
+    let project = take_text(alloc, members, "project");
+    let issue_type = take_text(alloc, members, "type");
+    let summary = take_text(alloc, members, "summary");
+    let user = take_user(alloc, members);
+    Ok((
+        user,
+        Call::Create {
+            project,
+            issue_type,
+            summary,
+            set,
+        },
+    ))
 }
 
-fn create_call(
-    alloc: Global,
-    project: &str,
-    issue_type: &str,
-    summary: &str,
-    set: GivenFields,
-) -> Result<Call, Memory>
-    ensures { IfOk result (λ call. call ≡ Call.Create project.now issue_type.now summary.now set) }
+#[tactic(auto, using(crate::proofs::Taking::text_at_without, crate::proofs::Taking::first_other_without))]
+fn edit_of(alloc: Global, members: &mut Map<String, Value>) -> Result<(UserName, Call), Refusal>
+    ensures { UnlessMemory result (asked_in CallKind.Edit members.old) }
 {
-    let project = Text::copy_of(alloc, project)?;
-    let issue_type = Text::copy_of(alloc, issue_type)?;
-    let summary = Text::copy_of(alloc, summary)?;
-    Ok(Call::Create {
-        project,
-        issue_type,
-        summary,
-        set,
-    })
-}
-
-fn edit_of(
-    alloc: Global,
-    value: &Value,
-    members: &Map<String, Value>,
-    user: &str,
-) -> Result<(UserName, Call), Refusal>
-    ensures { UnlessMemory result (edit_of (view value.now) (members_view members.now.entries) user.now) }
-{
-    let Some(issue) = text_at(value, "issue") else {
+    let Some(_) = text_at(members, "issue") else {
         return misses(alloc, "issue");
     };
-    let Some(set) = set_at(alloc, value)? else {
+    let Some(set) = take_set(alloc, members)? else {
         return misses(alloc, "set");
     };
     if let Some(other) = first_other(CallKind::Edit, members) {
         return misses(alloc, other);
     }
-    let issue = Text::copy_of(alloc, issue)?;
-    made_by(alloc, user, Call::Edit { issue, set })
+    let issue = take_text(alloc, members, "issue");
+    let user = take_user(alloc, members);
+    Ok((user, Call::Edit { issue, set }))
 }
 
+#[tactic(auto, using(crate::proofs::Taking::text_at_without, crate::proofs::Taking::first_other_without))]
 fn transition_of(
     alloc: Global,
-    value: &Value,
-    members: &Map<String, Value>,
-    user: &str,
+    members: &mut Map<String, Value>,
 ) -> Result<(UserName, Call), Refusal>
-    ensures { UnlessMemory result (transition_of (view value.now) (members_view members.now.entries) user.now) }
+    ensures { UnlessMemory result (asked_in CallKind.Transition members.old) }
 {
-    let Some(issue) = text_at(value, "issue") else {
+    let Some(_) = text_at(members, "issue") else {
         return misses(alloc, "issue");
     };
-    let Some(transition) = text_at(value, "transition") else {
+    let Some(_) = text_at(members, "transition") else {
         return misses(alloc, "transition");
     };
-    let Some(set) = set_if_there(alloc, value)? else {
+    let Some(set) = take_set_if_there(alloc, members)? else {
         return misses(alloc, "set");
     };
     if let Some(other) = first_other(CallKind::Transition, members) {
         return misses(alloc, other);
     }
-    let call = transition_call(alloc, issue, transition, set)?;
-    made_by(alloc, user, call)
+    let issue = take_text(alloc, members, "issue");
+    let transition = take_text(alloc, members, "transition");
+    let user = take_user(alloc, members);
+    Ok((
+        user,
+        Call::Transition {
+            issue,
+            transition,
+            set,
+        },
+    ))
 }
 
-fn transition_call(
-    alloc: Global,
-    issue: &str,
-    transition: &str,
-    set: GivenFields,
-) -> Result<Call, Memory>
-    ensures { IfOk result (λ call. call ≡ Call.Transition issue.now transition.now set) }
+fn tick_of(alloc: Global, members: &mut Map<String, Value>) -> Result<(UserName, Call), Refusal>
+    ensures { UnlessMemory result (asked_in CallKind.Tick members.old) }
 {
-    let issue = Text::copy_of(alloc, issue)?;
-    let transition = Text::copy_of(alloc, transition)?;
-    Ok(Call::Transition {
-        issue,
-        transition,
-        set,
-    })
-}
-
-fn tick_of(
-    alloc: Global,
-    value: &Value,
-    members: &Map<String, Value>,
-    user: &str,
-) -> Result<(UserName, Call), Refusal>
-    ensures { UnlessMemory result (tick_of (view value.now) (members_view members.now.entries) user.now) }
-{
-    let Some(to) = moment_at(value, "to") else {
+    let Some(to) = moment_at(members, "to") else {
         return misses(alloc, "to");
     };
     if let Some(other) = first_other(CallKind::Tick, members) {
         return misses(alloc, other);
     }
-    made_by(alloc, user, Call::Tick { to })
+    let user = take_user(alloc, members);
+    Ok((user, Call::Tick { to }))
 }
 
-fn show_of(
+#[tactic(auto, using(crate::proofs::Taking::text_at_without))]
+fn move_before_of(
     alloc: Global,
-    value: &Value,
-    members: &Map<String, Value>,
-    user: &str,
+    members: &mut Map<String, Value>,
 ) -> Result<(UserName, Call), Refusal>
-    ensures { UnlessMemory result (show_of (view value.now) (members_view members.now.entries) user.now) }
+    ensures { UnlessMemory result (asked_in CallKind.MoveBefore members.old) }
 {
-    let Some(issue) = text_at(value, "issue") else {
+    let Some(issue) = text_at(members, "issue") else {
+        return misses(alloc, "issue");
+    };
+    let Some(_) = other_than(members, issue) else {
+        return misses(alloc, "other");
+    };
+    if let Some(other) = first_other(CallKind::MoveBefore, members) {
+        return misses(alloc, other);
+    }
+    let issue = take_text(alloc, members, "issue");
+    let other = take_text(alloc, members, "other");
+    let user = take_user(alloc, members);
+    Ok((user, Call::MoveBefore { issue, other }))
+}
+
+#[tactic(auto, using(crate::proofs::Taking::text_at_without))]
+fn move_after_of(
+    alloc: Global,
+    members: &mut Map<String, Value>,
+) -> Result<(UserName, Call), Refusal>
+    ensures { UnlessMemory result (asked_in CallKind.MoveAfter members.old) }
+{
+    let Some(issue) = text_at(members, "issue") else {
+        return misses(alloc, "issue");
+    };
+    let Some(_) = other_than(members, issue) else {
+        return misses(alloc, "other");
+    };
+    if let Some(other) = first_other(CallKind::MoveAfter, members) {
+        return misses(alloc, other);
+    }
+    let issue = take_text(alloc, members, "issue");
+    let other = take_text(alloc, members, "other");
+    let user = take_user(alloc, members);
+    Ok((user, Call::MoveAfter { issue, other }))
+}
+
+fn rebalance_start_of(
+    alloc: Global,
+    members: &mut Map<String, Value>,
+) -> Result<(UserName, Call), Refusal>
+    ensures { UnlessMemory result (asked_in CallKind.RebalanceStart members.old) }
+{
+    if let Some(other) = first_other(CallKind::RebalanceStart, members) {
+        return misses(alloc, other);
+    }
+    let user = take_user(alloc, members);
+    Ok((user, Call::RebalanceStart))
+}
+
+fn rebalance_step_of(
+    alloc: Global,
+    members: &mut Map<String, Value>,
+) -> Result<(UserName, Call), Refusal>
+    ensures { UnlessMemory result (asked_in CallKind.RebalanceStep members.old) }
+{
+    let Some(count) = count_at(members, MOST_LISTED) else {
+        return misses(alloc, "count");
+    };
+    if let Some(other) = first_other(CallKind::RebalanceStep, members) {
+        return misses(alloc, other);
+    }
+    let user = take_user(alloc, members);
+    Ok((user, Call::RebalanceStep { count }))
+}
+
+#[tactic(auto, using(crate::proofs::Taking::text_at_without))]
+fn show_of(alloc: Global, members: &mut Map<String, Value>) -> Result<(UserName, Call), Refusal>
+    ensures { UnlessMemory result (asked_in CallKind.Show members.old) }
+{
+    let Some(_) = text_at(members, "issue") else {
         return misses(alloc, "issue");
     };
     if let Some(other) = first_other(CallKind::Show, members) {
         return misses(alloc, other);
     }
-    let issue = Text::copy_of(alloc, issue)?;
-    made_by(alloc, user, Call::Show { issue })
+    let issue = take_text(alloc, members, "issue");
+    let user = take_user(alloc, members);
+    Ok((user, Call::Show { issue }))
 }
 
-fn history_of(
-    alloc: Global,
-    value: &Value,
-    members: &Map<String, Value>,
-    user: &str,
-) -> Result<(UserName, Call), Refusal>
-    ensures { UnlessMemory result (history_of (view value.now) (members_view members.now.entries) user.now) }
+#[tactic(auto, using(crate::proofs::Taking::text_at_without))]
+fn history_of(alloc: Global, members: &mut Map<String, Value>) -> Result<(UserName, Call), Refusal>
+    ensures { UnlessMemory result (asked_in CallKind.History members.old) }
 {
-    let Some(issue) = text_at(value, "issue") else {
+    let Some(_) = text_at(members, "issue") else {
         return misses(alloc, "issue");
     };
-    let Some(from) = from_if_there(value) else {
+    let Some(from) = from_if_there(members) else {
         return misses(alloc, "from");
     };
-    let Some(count) = count_if_there(value, MOST_ENTRIES) else {
+    let Some(count) = count_if_there(members, MOST_ENTRIES) else {
         return misses(alloc, "count");
     };
     if let Some(other) = first_other(CallKind::History, members) {
         return misses(alloc, other);
     }
-    let part = Part { from, count };
-    let issue = Text::copy_of(alloc, issue)?;
-    made_by(alloc, user, Call::History { issue, part })
+    let issue = take_text(alloc, members, "issue");
+    let user = take_user(alloc, members);
+    Ok((
+        user,
+        Call::History {
+            issue,
+            part: Part { from, count },
+        },
+    ))
 }
 
-fn search_of(
-    alloc: Global,
-    value: &Value,
-    members: &Map<String, Value>,
-    user: &str,
-) -> Result<(UserName, Call), Refusal>
-    ensures { UnlessMemory result (search_of (view value.now) (members_view members.now.entries) user.now) }
+#[tactic(auto, using(crate::proofs::Taking::text_at_without))]
+fn search_of(alloc: Global, members: &mut Map<String, Value>) -> Result<(UserName, Call), Refusal>
+    ensures { UnlessMemory result (asked_in CallKind.Search members.old) }
 {
-    let Some(jql) = text_at(value, "jql") else {
+    let Some(_) = text_at(members, "jql") else {
         return misses(alloc, "jql");
     };
-    let Some(from) = from_if_there(value) else {
+    let Some(from) = from_if_there(members) else {
         return misses(alloc, "from");
     };
-    let Some(count) = count_if_there(value, MOST_LISTED) else {
+    let Some(count) = count_if_there(members, MOST_LISTED) else {
         return misses(alloc, "count");
     };
     if let Some(other) = first_other(CallKind::Search, members) {
         return misses(alloc, other);
     }
-    let part = Part { from, count };
-    let jql = Text::copy_of(alloc, jql)?;
-    made_by(alloc, user, Call::Search { jql, part })
+    let jql = take_text(alloc, members, "jql");
+    let user = take_user(alloc, members);
+    Ok((
+        user,
+        Call::Search {
+            jql,
+            part: Part { from, count },
+        },
+    ))
 }
 
-// The call with the name of who makes it.
-fn made_by(alloc: Global, user: &str, call: Call) -> Result<(UserName, Call), Refusal>
-    ensures { UnlessMemory result (Ok (user.now, call)) }
+fn ranks_of(alloc: Global, members: &mut Map<String, Value>) -> Result<(UserName, Call), Refusal>
+    ensures { UnlessMemory result (asked_in CallKind.Ranks members.old) }
 {
-    let user = UserName::copy_of(alloc, user)?;
-    Ok((user, call))
+    let Some(from) = from_if_there(members) else {
+        return misses(alloc, "from");
+    };
+    let Some(count) = count_if_there(members, MOST_LISTED) else {
+        return misses(alloc, "count");
+    };
+    if let Some(other) = first_other(CallKind::Ranks, members) {
+        return misses(alloc, other);
+    }
+    let user = take_user(alloc, members);
+    Ok((
+        user,
+        Call::Ranks {
+            part: Part { from, count },
+        },
+    ))
+}
+
+fn balance_of(alloc: Global, members: &mut Map<String, Value>) -> Result<(UserName, Call), Refusal>
+    ensures { UnlessMemory result (asked_in CallKind.Balance members.old) }
+{
+    if let Some(other) = first_other(CallKind::Balance, members) {
+        return misses(alloc, other);
+    }
+    let user = take_user(alloc, members);
+    Ok((user, Call::Balance))
 }

@@ -33,6 +33,27 @@ pub enum Call {
         set: GivenFields,
     },
 
+    /// The issue is to stand right before the other one in the order of ranks.
+    MoveBefore {
+        issue: Text,
+        other: Text,
+    },
+
+    /// The issue is to stand right behind the other one in the order of ranks.
+    MoveAfter {
+        issue: Text,
+        other: Text,
+    },
+
+    /// All ranks are to be on the way to the next bucket.
+    RebalanceStart,
+
+    /// So many ranks are to go on to the next bucket, or all that are left.
+    RebalanceStep {
+        /// 1 to [`MOST_LISTED`].
+        count: u32,
+    },
+
     /// The issue's present values.
     Show {
         issue: Text,
@@ -49,6 +70,14 @@ pub enum Call {
         jql: Text,
         part: Part,
     },
+
+    /// A part of the issues with their ranks, in the order of these.
+    Ranks {
+        part: Part,
+    },
+
+    /// Whether ranks are on the way to another bucket, and how long the longest is.
+    Balance,
 }
 
 // Written by hand, so that whoever lets one go makes one call, and its proof takes one step there.
@@ -68,9 +97,15 @@ impl Drop for Call {
                 transition: _,
                 set: _,
             }
+            | Call::MoveBefore { issue: _, other: _ }
+            | Call::MoveAfter { issue: _, other: _ }
+            | Call::RebalanceStart
+            | Call::RebalanceStep { count: _ }
             | Call::Show { issue: _ }
             | Call::History { issue: _, part: _ }
-            | Call::Search { jql: _, part: _ } => {}
+            | Call::Search { jql: _, part: _ }
+            | Call::Ranks { part: _ }
+            | Call::Balance => {}
         }
     }
 }
@@ -100,9 +135,15 @@ pub enum CallKind {
     Edit,
     Transition,
     Tick,
+    MoveBefore,
+    MoveAfter,
+    RebalanceStart,
+    RebalanceStep,
     Show,
     History,
     Search,
+    Ranks,
+    Balance,
 }
 
 /// The call of that name.
@@ -114,9 +155,15 @@ pub fn kind_named(name: &str) -> Option<CallKind>
         "edit" => Some(CallKind::Edit),
         "transition" => Some(CallKind::Transition),
         "tick" => Some(CallKind::Tick),
+        "move_before" => Some(CallKind::MoveBefore),
+        "move_after" => Some(CallKind::MoveAfter),
+        "rebalance_start" => Some(CallKind::RebalanceStart),
+        "rebalance_step" => Some(CallKind::RebalanceStep),
         "show" => Some(CallKind::Show),
         "history" => Some(CallKind::History),
         "search" => Some(CallKind::Search),
+        "ranks" => Some(CallKind::Ranks),
+        "balance" => Some(CallKind::Balance),
         _ => None,
     }
 }
@@ -130,8 +177,14 @@ pub fn call_members(kind: CallKind) -> &'static [&'static str]
         CallKind::Edit => &["call", "issue", "set", "user"],
         CallKind::Transition => &["call", "issue", "set", "transition", "user"],
         CallKind::Tick => &["call", "to", "user"],
+        CallKind::MoveBefore => &["call", "issue", "other", "user"],
+        CallKind::MoveAfter => &["call", "issue", "other", "user"],
+        CallKind::RebalanceStart => &["call", "user"],
+        CallKind::RebalanceStep => &["call", "count", "user"],
         CallKind::Show => &["call", "issue", "user"],
         CallKind::History => &["call", "count", "from", "issue", "user"],
         CallKind::Search => &["call", "count", "from", "jql", "user"],
+        CallKind::Ranks => &["call", "count", "from", "user"],
+        CallKind::Balance => &["call", "user"],
     }
 }

@@ -1,15 +1,21 @@
 // What a call gives for fields, as it stands in the JSON of its member `set`.
-ghost use Rattle.std.specs.Prelude.{◌≡◌, ◌∷◌, ◌++◌, ℕ, List, [], Some, option_map, IfOk, OnOk, OnErr, if◌then◌else◌};
+ghost use Rattle.std.specs.Prelude.{◌≡◌, ◌∷◌, ◌++◌, ℕ, List, [], Some, codes, option_map, string_bytes, IfOk, OnOk, OnErr, if◌then◌else◌};
+ghost use Rattle.std.specs.List.{list_any};
 ghost use Rattle.std.specs.Str.{str_eq_ignore_ascii_case};
 ghost use Rattle.serde_json.specs.View.{view, members_view, items_view};
-ghost use Rattle.tracker_calls.specs.Given.{given_of, fields_of, texts_of, has_twins, given_set, set_at, set_if_there};
+ghost use Rattle.tracker_calls.specs.Given.{given_of, fields_of, texts_of, is_twin, has_twins, without_twins, given_set, set_at, set_if_there};
 ghost use Rattle.tracker_calls.specs.Seen.{seen_by, is_other};
+ghost use Rattle.tracker_calls.specs.Taken.{object_of, without};
 
+use crate::taken::{take, text_of};
 use field_values::{Memory, Names, Text};
 use serde_json::{Map, Value};
 use std::alloc::Global;
 use std::collections::BTreeMap;
 use std::marker::Model;
+
+// So many names are compared each with each.
+const FEW: usize = 8;
 
 /// A value as JSON gives it.
 #[derive(Drop)]
@@ -97,8 +103,48 @@ fn is_other(before: Option<&str>, name: &str) -> bool
     }
 }
 
-/// Whether two of the names differ in the case of ASCII letters alone. It takes logarithmic time a name.
+/// Whether two of the names differ in the case of ASCII letters alone. It takes no memory where there are few of them, and
+/// logarithmic time a name.
 pub fn has_twins(alloc: Global, fields: &[GivenField]) -> Result<bool, Memory>
+    ensures { IfOk result (λ has. has ≡ has_twins fields.now) }
+{
+    if fields.len() <= FEW {
+        return Ok(few_have_twins(fields));
+    }
+    many_have_twins(alloc, fields)
+}
+
+// Whether the names differ in the case of ASCII letters alone.
+fn is_twin(name: &str, other: &str) -> bool
+    ensures { result ≡ is_twin name.now other.now }
+{
+    name.eq_ignore_ascii_case(other) && name != other
+}
+
+// Whether one of the names is a twin of this one.
+fn has_twin(name: &str, fields: &[GivenField]) -> bool
+    ensures { result ≡ list_any (λ other. is_twin name.now other.name) fields.now }
+{
+    fields
+        .iter()
+        .any(|other| is_twin(name, other.name.as_str()))
+}
+
+// Each name is compared with each behind it.
+fn few_have_twins(fields: &[GivenField]) -> bool
+    ensures { result ≡ has_twins fields.now }
+{
+    for place in 0..fields.len() {
+        let (done, later) = fields.split_at(place + 1);
+        if has_twin(done[place].name.as_str(), later) {
+            return true;
+        }
+    }
+    false
+}
+
+// Each name is looked for among those behind it by its small letters.
+fn many_have_twins(alloc: Global, fields: &[GivenField]) -> Result<bool, Memory>
     ensures { IfOk result (λ has. has ≡ has_twins fields.now) }
 {
     let mut seen = BTreeMap::new(alloc);
@@ -112,57 +158,85 @@ pub fn has_twins(alloc: Global, fields: &[GivenField]) -> Result<bool, Memory>
     Ok(false)
 }
 
-/// What the member `set` gives; `None` where it isn't there, is no object, or has two names that differ in case alone.
-pub(crate) fn set_at(alloc: Global, value: &Value) -> Result<Option<GivenFields>, Memory>
-    ensures { IfOk result (λ set. set ≡ set_at (view value.now)) }
+/// Takes the member `set` out, and what it gives; `None` where it isn't there, is no object, or has two names that differ
+/// in case alone.
+pub(crate) fn take_set(
+    alloc: Global,
+    members: &mut Map<String, Value>,
+) -> Result<Option<GivenFields>, Memory>
+    ensures set { IfOk result (λ set. set ≡ set_at (object_of members.old)) }
+    ensures left { members_view members.new.entries
+        ≡ without (codes "set") (members_view members.old.entries) }
 {
-    match value.get("set") {
+    match take(members, "set") {
         Some(set) => given_set(alloc, set),
         None => Ok(None),
     }
 }
 
 /// The same of a member that may be absent, and then gives nothing.
-pub(crate) fn set_if_there(alloc: Global, value: &Value) -> Result<Option<GivenFields>, Memory>
-    ensures { IfOk result (λ set. set ≡ set_if_there (view value.now)) }
+pub(crate) fn take_set_if_there(
+    alloc: Global,
+    members: &mut Map<String, Value>,
+) -> Result<Option<GivenFields>, Memory>
+    ensures set { IfOk result (λ set. set ≡ set_if_there (object_of members.old)) }
+    ensures left { members_view members.new.entries
+        ≡ without (codes "set") (members_view members.old.entries) }
 {
-    match value.get("set") {
+    match take(members, "set") {
         Some(set) => given_set(alloc, set),
         None => Ok(Some(GivenFields::new(alloc))),
     }
 }
 
-fn given_set(alloc: Global, value: &Value) -> Result<Option<GivenFields>, Memory>
-    ensures { IfOk result (λ set. set ≡ given_set (view value.now)) }
+fn given_set(alloc: Global, value: Value) -> Result<Option<GivenFields>, Memory>
+    ensures { IfOk result (λ set. set ≡ given_set (view value)) }
 {
-    let Some(members) = value.as_object() else {
-        return Ok(None);
-    };
-    let fields = fields_of(alloc, members)?;
+    match value {
+        Value::Object(members) => without_twins(alloc, fields_of(alloc, members)?),
+        _ => Ok(None),
+    }
+}
+
+fn without_twins(alloc: Global, fields: GivenFields) -> Result<Option<GivenFields>, Memory>
+    ensures { IfOk result (λ set. set ≡ without_twins fields) }
+{
     if has_twins(alloc, fields.as_slice())? {
         return Ok(None);
     }
     Ok(Some(fields))
 }
 
-fn fields_of(alloc: Global, members: &Map<String, Value>) -> Result<GivenFields, Memory>
-    ensures { IfOk result (λ fields. fields ≡ fields_of (members_view members.now.entries)) }
+fn fields_of(alloc: Global, members: Map<String, Value>) -> Result<GivenFields, Memory>
+    ensures { IfOk result (λ fields. fields ≡ fields_of (members_view members.entries)) }
 {
     let mut fields = GivenFields::new(alloc);
     for (name, value) in members {
-        let name = Text::copy_of(alloc, name.as_str())?;
-        let given = given_of(alloc, value)?;
-        fields.push(GivenField { name, given })?;
+        put_given(alloc, &mut fields, name, value)?;
     }
     Ok(fields)
 }
 
-fn given_of(alloc: Global, value: &Value) -> Result<Given, Memory>
-    ensures { IfOk result (λ given. given ≡ given_of (view value.now)) }
+fn put_given(
+    alloc: Global,
+    fields: &mut GivenFields,
+    name: String,
+    value: Value,
+) -> Result<(), Memory>
+    ensures { OnOk result (fields.new
+        ≡ fields.old ++ (record { name = string_bytes name; given = given_of (view value) }) ∷ []) }
+{
+    let given = given_of(alloc, value)?;
+    let name = Text::of(name);
+    fields.push(GivenField { name, given })
+}
+
+fn given_of(alloc: Global, value: Value) -> Result<Given, Memory>
+    ensures { IfOk result (λ given. given ≡ given_of (view value)) }
 {
     match value {
         Value::Null => Ok(Given::Null),
-        Value::String(text) => Ok(Given::Text(Text::copy_of(alloc, text.as_str())?)),
+        Value::String(text) => Ok(Given::Text(Text::of(text))),
         Value::Number(number) => Ok(match number.as_u64() {
             Some(n) => Given::Number(n),
             None => Given::Other,
@@ -175,15 +249,15 @@ fn given_of(alloc: Global, value: &Value) -> Result<Given, Memory>
     }
 }
 
-fn texts_of(alloc: Global, items: &[Value]) -> Result<Option<Names>, Memory>
-    ensures { IfOk result (λ names. names ≡ texts_of (items_view items.now)) }
+fn texts_of(alloc: Global, items: Vec<Value>) -> Result<Option<Names>, Memory>
+    ensures { IfOk result (λ names. names ≡ texts_of (items_view items.items)) }
 {
     let mut names = Names::new(alloc);
     for item in items {
-        let Some(text) = item.as_str() else {
+        let Some(text) = text_of(item) else {
             return Ok(None);
         };
-        names.push(Text::copy_of(alloc, text)?)?;
+        names.push(text)?;
     }
     Ok(Some(names))
 }

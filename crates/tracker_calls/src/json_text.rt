@@ -12,7 +12,7 @@ use std::alloc::Global;
 use std::marker::Model;
 
 // The bytes that most replies have at most.
-const ROOM: usize = 240;
+const ROOM: usize = 480;
 
 /// A text of JSON that is written a token at a time. It places the commas and the colons; that brackets match and
 /// members have names is its caller's to see to.
@@ -132,6 +132,13 @@ impl JsonText {
     {
         self.key(name)?;
         self.text(text)
+    }
+
+    pub fn boolean_member(&mut self, name: &str, truth: bool) -> Result<(), Memory>
+        ensures { OnOk result (self.new ≡ after (boolean truth) (self.old ++ key name.now ∷ [])) }
+    {
+        self.key(name)?;
+        self.boolean(truth)
     }
 
     pub fn number_member(&mut self, name: &str, number: u64) -> Result<(), Memory>

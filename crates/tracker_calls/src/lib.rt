@@ -9,16 +9,19 @@ mod history_json;
 mod json_text;
 mod line;
 mod members;
+mod ranks_json;
 mod reply;
 mod reply_json;
 mod show_json;
+mod taken;
 mod user_name;
 
 pub use call::{Call, CallKind, MOST_ENTRIES, MOST_FROM, MOST_LISTED, Part};
 pub use given::{Given, GivenField, GivenFields, has_twins};
 pub use line::read_line;
 pub use reply::{
-    Answer, Limit, Refusal, Reply, Shown, ShownField, ShownFields, Thing, ToldEntries, ToldEntry,
+    Answer, BalanceKept, BalanceState, Limit, RankedKey, RankedKeys, Refusal, Reply, Shown,
+    ShownField, ShownFields, Thing, ToldEntries, ToldEntry,
 };
 pub use reply_json::{KEEPER_TEXT, MEMORY_TEXT, reply_text};
 pub use request_lines::{

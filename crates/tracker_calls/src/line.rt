@@ -2,13 +2,14 @@
 ghost use Rattle.std.specs.Prelude.{◌≡◌};
 ghost use Rattle.serde_json.specs.View.{view};
 ghost use Rattle.tracker_calls.specs.Asked.{line_of, call_of, UnlessMemory};
+ghost use Rattle.tracker_calls.specs.Taken.{object_of};
 
-use crate::asked::asked_by;
+use crate::asked::asked_in;
 use crate::call::{Call, kind_named};
 use crate::members::{misses, text_at};
 use crate::reply::Refusal;
 use crate::user_name::UserName;
-use serde_json::Value;
+use serde_json::{Map, Value};
 use std::alloc::Global;
 use std::str;
 
@@ -27,7 +28,7 @@ fn read_text(alloc: Global, text: &str) -> Result<(UserName, Call), Refusal>
     ensures { UnlessMemory result (line_of text.now) }
 {
     match Value::from_str(alloc, text) {
-        Ok(value) => call_of(alloc, &value),
+        Ok(value) => call_of(alloc, value),
         Err(e) => {
             if e.is_memory() {
                 Err(Refusal::Memory)
@@ -38,17 +39,36 @@ fn read_text(alloc: Global, text: &str) -> Result<(UserName, Call), Refusal>
     }
 }
 
-fn call_of(alloc: Global, value: &Value) -> Result<(UserName, Call), Refusal>
-    ensures { UnlessMemory result (call_of (view value.now)) }
+fn call_of(alloc: Global, value: Value) -> Result<(UserName, Call), Refusal>
+    ensures { UnlessMemory result (call_of (view value)) }
 {
-    let Some(members) = value.as_object() else {
-        return misses(alloc, "line");
-    };
-    let Some(user) = text_at(value, "user") else {
+    match value {
+        Value::Object(members) => object_call(alloc, members),
+        _ => misses(alloc, "line"),
+    }
+}
+
+// What isn't taken out of the object is let go here.
+fn object_call(alloc: Global, members: Map<String, Value>) -> Result<(UserName, Call), Refusal>
+    ensures { UnlessMemory result (call_of (object_of members)) }
+{
+    let mut members = members;
+    let asked = members_call(alloc, &mut members);
+    drop(members);
+    asked
+}
+
+fn members_call(
+    alloc: Global,
+    members: &mut Map<String, Value>,
+) -> Result<(UserName, Call), Refusal>
+    ensures { UnlessMemory result (call_of (object_of members.old)) }
+{
+    let Some(_) = text_at(members, "user") else {
         return misses(alloc, "user");
     };
-    let Some(kind) = text_at(value, "call").and_then(kind_named) else {
+    let Some(kind) = text_at(members, "call").and_then(kind_named) else {
         return misses(alloc, "call");
     };
-    asked_by(alloc, kind, value, members, user)
+    asked_in(alloc, kind, members)
 }

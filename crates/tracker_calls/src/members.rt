@@ -1,8 +1,10 @@
 // The members of a line's object, looked up one by one.
 ghost use Rattle.std.specs.Prelude.{◌≡◌, map, option_map, Err};
+ghost use Rattle.serde_json.specs.Find.{get_member};
 ghost use Rattle.serde_json.specs.View.{view, members_view};
-ghost use Rattle.tracker_calls.specs.Asked.{text_at, moment_at, first_other, is_among, is_member, call_members, names_of, UnlessMemory};
-ghost use Rattle.tracker_calls.specs.Part.{whole_within, whole_or, from_if_there, count_if_there};
+ghost use Rattle.tracker_calls.specs.Asked.{text_at, moment_at, other_than, first_other, is_among, is_member, call_members, names_of, UnlessMemory};
+ghost use Rattle.tracker_calls.specs.Taken.{object_of};
+ghost use Rattle.tracker_calls.specs.Part.{whole_within, whole_or, from_if_there, count_if_there, count_at};
 
 use crate::call::{CallKind, MOST_FROM, call_members};
 use crate::reply::Refusal;
@@ -20,17 +22,32 @@ pub fn misses<T>(alloc: Global, member: &str) -> Result<T, Refusal>
     }
 }
 
-pub fn text_at<'v>(value: &'v Value, name: &str) -> Option<&'v str>
-    ensures { option_map (λ text. text.now) result ≡ text_at name.now (view value.now) }
+/// The member of that name.
+fn member<'v>(members: &'v Map<String, Value>, name: &str) -> Option<&'v Value>
+    ensures { option_map (λ v. view v.now) result
+        ≡ get_member name.now (members_view members.now.entries) }
 {
-    value.get(name).and_then(Value::as_str)
+    members.get(name)
 }
 
-pub fn moment_at(value: &Value, name: &str) -> Option<Moment>
-    ensures { result ≡ moment_at name.now (view value.now) }
+pub fn text_at<'v>(members: &'v Map<String, Value>, name: &str) -> Option<&'v str>
+    ensures { option_map (λ text. text.now) result ≡ text_at name.now (object_of members.now) }
 {
-    value
-        .get(name)
+    member(members, name).and_then(Value::as_str)
+}
+
+/// The member `other`, where it is a text and not this one.
+pub fn other_than<'v>(members: &'v Map<String, Value>, issue: &str) -> Option<&'v str>
+    ensures { option_map (λ text. text.now) result ≡ other_than issue.now (object_of members.now) }
+{
+    let other = text_at(members, "other")?;
+    if other == issue { None } else { Some(other) }
+}
+
+pub fn moment_at(members: &Map<String, Value>, name: &str) -> Option<Moment>
+    ensures { result ≡ moment_at name.now (object_of members.now) }
+{
+    member(members, name)
         .and_then(Value::as_u64)
         .and_then(Moment::new)
 }
@@ -57,17 +74,24 @@ fn whole_or(value: Option<&Value>, absent: u32, least: u32, most: u32) -> Option
 }
 
 /// Where a part begins, which is at 0 where the member `from` is absent; `None` where it is out of range.
-pub fn from_if_there(value: &Value) -> Option<u32>
-    ensures { result ≡ from_if_there (view value.now) }
+pub fn from_if_there(members: &Map<String, Value>) -> Option<u32>
+    ensures { result ≡ from_if_there (object_of members.now) }
 {
-    whole_or(value.get("from"), 0, 0, MOST_FROM)
+    whole_or(member(members, "from"), 0, 0, MOST_FROM)
 }
 
 /// How many a part has at most, which is `most` where the member `count` is absent; `None` where it is out of range.
-pub fn count_if_there(value: &Value, most: u32) -> Option<u32>
-    ensures { result ≡ count_if_there most (view value.now) }
+pub fn count_if_there(members: &Map<String, Value>, most: u32) -> Option<u32>
+    ensures { result ≡ count_if_there most (object_of members.now) }
 {
-    whole_or(value.get("count"), most, 1, most)
+    whole_or(member(members, "count"), most, 1, most)
+}
+
+/// How many are asked for; `None` where the member `count` is absent or out of range.
+pub fn count_at(members: &Map<String, Value>, most: u32) -> Option<u32>
+    ensures { result ≡ count_at most (object_of members.now) }
+{
+    whole_within(member(members, "count")?, 1, most)
 }
 
 /// The first name in byte order that is no member of the call.

@@ -66,6 +66,57 @@ pub enum Answer {
         issues: Names,
         total: u64,
     },
+
+    /// The rank that the issue has now.
+    Move {
+        issue: Text,
+        rank: Text,
+    },
+
+    /// Some of the issues with their ranks, and how many issues there are.
+    Ranks {
+        ranks: RankedKeys,
+        total: u64,
+    },
+
+    /// The bucket that the ranks are to leave, and the one that they go to.
+    RebalanceStart {
+        from: u8,
+        to: u8,
+    },
+
+    /// How many ranks are left to go on, and how many went on.
+    RebalanceStep {
+        left: u64,
+        moved: u64,
+    },
+
+    /// How the balance stands, the length of the longest rank, and whether a rebalancing is offered.
+    Balance {
+        state: BalanceState,
+        longest: u64,
+        offer: bool,
+    },
+}
+
+/// An issue's key and its rank.
+#[derive(Drop)]
+pub struct RankedKey {
+    pub issue: Text,
+    pub rank: Text,
+}
+
+/// The ranks that an answer tells.
+pub type RankedKeys = Sequence<RankedKey>;
+
+/// How the balance stands.
+#[derive(Clone, Copy, PartialEq, Eq)]
+pub enum BalanceState {
+    /// All ranks are in this bucket.
+    Idle { bucket: u8 },
+
+    /// Ranks are on the way, and so many of them are left in the bucket that they leave.
+    Moving { from: u8, left: u64, to: u8 },
 }
 
 /// An entry of a history; `None` for a value that is empty.
@@ -107,6 +158,9 @@ impl Drop for Shown {
     }
 }
 
+// The fields that most issues have at most.
+const ROOM: usize = 12;
+
 /// The fields that an answer tells, which contracts see as a list.
 #[derive(Drop)]
 pub struct ShownFields {
@@ -137,6 +191,9 @@ impl ShownFields {
         ensures ok { OnOk result (self.new ≡ self.old ++ field ∷ []) }
         ensures err { OnErr result (self.new ≡ self.old) }
     {
+        if self.list.is_empty() {
+            self.list.reserve(ROOM)?;
+        }
         self.list.push(field)?;
         Ok(())
     }
@@ -192,6 +249,12 @@ pub enum Refusal {
         place: usize,
     },
 
+    /// Number 8: there is no rank between these two, or where one of them is absent, on that side of the other.
+    NoRoom {
+        low: Option<Text>,
+        high: Option<Text>,
+    },
+
     /// Number 10: no more are kept than this limit.
     Limit {
         limit: Limit,
@@ -202,11 +265,23 @@ pub enum Refusal {
         kept: Moment,
     },
 
+    /// Number 12: the balance is this one, which doesn't let the call through.
+    BalanceIs(BalanceKept),
+
     /// Number 14: what keeps the rows failed, and nothing was kept.
     Keeper,
 
     /// Number 15: there was not enough memory.
     Memory,
+}
+
+/// A balance that doesn't let a call through.
+#[derive(Clone, Copy, PartialEq, Eq)]
+pub enum BalanceKept {
+    /// All ranks are in this bucket.
+    Idle(u8),
+    /// Ranks are on the way.
+    Moving { from: u8, to: u8 },
 }
 
 /// A kind of thing that a call names.

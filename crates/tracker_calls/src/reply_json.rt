@@ -1,11 +1,14 @@
 // The text of a reply: compact JSON, the members of each object in byte order of their names.
 ghost use Rattle.std.specs.Prelude.{◌≡◌, IfOk, OnOk};
 ghost use Rattle.tracker_calls.specs.Written.{after};
-ghost use Rattle.tracker_calls.specs.Reply.{reply_text, reply_data, answer_data, create_data, edit_data, tick_data, search_data, refusal_data, form_data, unknown_data, forbidden_data, index_data, permission_name, unfit_data, query_data, limit_data, earlier_data, number_data, thing_name, limit_name, limit_number};
+ghost use Rattle.tracker_calls.specs.Reply.{reply_text, reply_data, answer_data, create_data, edit_data, tick_data, search_data, refusal_data, form_data, unknown_data, forbidden_data, index_data, permission_name, unfit_data, query_data, limit_data, earlier_data, no_room_data, balance_text, balance_is_data, number_data, thing_name, limit_name, limit_number};
 
 use crate::history_json::write_history;
 use crate::json_text::JsonText;
-use crate::reply::{Answer, Limit, Refusal, Reply, Thing};
+use crate::ranks_json::{
+    write_balance, write_move, write_ranks, write_rebalance_start, write_rebalance_step,
+};
+use crate::reply::{Answer, BalanceKept, Limit, Refusal, Reply, Thing};
 use crate::show_json::{write_show, write_texts};
 use field_values::{Memory, Moment, Permission, Text};
 use std::alloc::Global;
@@ -37,7 +40,7 @@ fn write_reply(alloc: Global, out: &mut JsonText, reply: &Reply) -> Result<(), M
         }
         Reply::Refused(refusal) => {
             out.key("refused")?;
-            write_refusal(out, refusal)?;
+            write_refusal(alloc, out, refusal)?;
         }
     }
     out.end_object()
@@ -63,6 +66,15 @@ fn write_answer(alloc: Global, out: &mut JsonText, answer: &Answer) -> Result<()
         } => write_show(alloc, out, *created, fields, issue, *updated),
         Answer::History { entries, total } => write_history(out, entries.as_slice(), *total),
         Answer::Search { issues, total } => write_search(out, issues.as_slice(), *total),
+        Answer::Move { issue, rank } => write_move(out, issue, rank),
+        Answer::Ranks { ranks, total } => write_ranks(out, ranks.as_slice(), *total),
+        Answer::RebalanceStart { from, to } => write_rebalance_start(out, *from, *to),
+        Answer::RebalanceStep { left, moved } => write_rebalance_step(out, *left, *moved),
+        Answer::Balance {
+            state,
+            longest,
+            offer,
+        } => write_balance(out, *state, *longest, *offer),
     }
 }
 
@@ -70,8 +82,7 @@ fn write_create(out: &mut JsonText, already: bool, change: u64, issue: &Text) ->
     ensures { OnOk result (out.new ≡ after (create_data already change issue.now) out.old) }
 {
     out.begin_object()?;
-    out.key("already")?;
-    out.boolean(already)?;
+    out.boolean_member("already", already)?;
     out.number_member("change", change)?;
     out.text_member("issue", issue.as_str())?;
     out.end_object()
@@ -105,7 +116,7 @@ fn write_search(out: &mut JsonText, issues: &[Text], total: u64) -> Result<(), M
     out.end_object()
 }
 
-fn write_refusal(out: &mut JsonText, refusal: &Refusal) -> Result<(), Memory>
+fn write_refusal(alloc: Global, out: &mut JsonText, refusal: &Refusal) -> Result<(), Memory>
     ensures { OnOk result (out.new ≡ after (refusal_data refusal.now) out.old) }
 {
     match refusal {
@@ -119,8 +130,10 @@ fn write_refusal(out: &mut JsonText, refusal: &Refusal) -> Result<(), Memory>
         Refusal::Validator { index } => write_index(out, 5, *index),
         Refusal::Unfit { field } => write_unfit(out, field),
         Refusal::Query { kind, place } => write_query(out, *kind, *place),
+        Refusal::NoRoom { low, high } => write_no_room(out, low, high),
         Refusal::Limit { limit } => write_limit(out, *limit),
         Refusal::Earlier { kept } => write_earlier(out, *kept),
+        Refusal::BalanceIs(balance) => write_balance_is(alloc, out, *balance),
         Refusal::Keeper => write_number(out, 14),
         Refusal::Memory => write_number(out, 15),
     }
@@ -203,6 +216,18 @@ fn write_query(out: &mut JsonText, kind: u8, place: usize) -> Result<(), Memory>
     out.end_object()
 }
 
+fn write_no_room(out: &mut JsonText, low: &Option<Text>, high: &Option<Text>) -> Result<(), Memory>
+    ensures { OnOk result (out.new ≡ after (no_room_data low.now high.now) out.old) }
+{
+    out.begin_object()?;
+    out.key("high")?;
+    out.text_or_null(high)?;
+    out.key("low")?;
+    out.text_or_null(low)?;
+    out.number_member("no", 8)?;
+    out.end_object()
+}
+
 fn write_limit(out: &mut JsonText, limit: Limit) -> Result<(), Memory>
     ensures { OnOk result (out.new ≡ after (limit_data limit) out.old) }
 {
@@ -220,6 +245,27 @@ fn write_earlier(out: &mut JsonText, kept: Moment) -> Result<(), Memory>
     out.number_member("kept", kept.seconds())?;
     out.number_member("no", 11)?;
     out.end_object()
+}
+
+fn write_balance_is(alloc: Global, out: &mut JsonText, balance: BalanceKept) -> Result<(), Memory>
+    ensures { OnOk result (out.new ≡ after (balance_is_data balance) out.old) }
+{
+    let text = balance_text(alloc, balance)?;
+    out.begin_object()?;
+    out.text_member("kept", text.as_str())?;
+    out.number_member("no", 12)?;
+    out.end_object()
+}
+
+fn balance_text(alloc: Global, balance: BalanceKept) -> Result<Text, Memory>
+    ensures { IfOk result (λ text. text ≡ balance_text balance) }
+{
+    match balance {
+        BalanceKept::Idle(bucket) => Ok(Text::of(format!(in alloc; "idle {bucket}")?)),
+        BalanceKept::Moving { from, to } => {
+            Ok(Text::of(format!(in alloc; "moving {from} {to}")?))
+        }
+    }
 }
 
 // The refusals that have a number alone.

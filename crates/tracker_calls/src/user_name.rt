@@ -27,6 +27,13 @@ impl UserName {
         Ok(UserName { name })
     }
 
+    /// The name that the text is.
+    pub(crate) fn of(name: Text) -> Self
+        ensures { result ≡ name }
+    {
+        UserName { name }
+    }
+
     /// The name, lent.
     pub fn as_str(&self) -> &str
         ensures { result.now ≡ self.now }

@@ -1,12 +1,2 @@
-pub mod Bulk
-pub mod Counting
 pub mod Desks
-pub mod Fitting
-pub mod Grouping
-pub mod Holding
-pub mod Means
-pub mod Named
-pub mod Ops
-pub mod Resolving
-pub mod States
 pub mod Steps

@@ -8,7 +8,7 @@ use Rattle.tracker_calls.specs.declared.reply.Reply.TheVariants as reply
 use Rattle.tracker_machine.specs.Machine.{Machine}
 use Rattle.tracker_machine.specs.Meaning.{Meaning, IsDue, Performs}
 use Rattle.tracker_machine.specs.Meaning.Meaning.{Refuses, Tells, Finds, Makes}
-use Rattle.tracker_core.specs.Plan.{told}
+use Rattle.tracker_state.specs.Plan.{told}
 
 -- what is told makes nothing
 pub told_step : (due : Meaning) (a : Answer) (old new : Machine) → told due ≡ Some a → new ≡ old → Performs due old (reply.Ok a) new
@@ -34,6 +34,8 @@ due_is due (refusal.Unfit f) other is = is (λ e. cc)
 due_is due (refusal.Query k p) other is = is (λ e. cc)
 due_is due (refusal.Limit l) other is = is (λ e. cc)
 due_is due (refusal.Earlier k) other is = is (λ e. cc)
+due_is due (refusal.NoRoom a b) other is = is (λ e. cc)
+due_is due (refusal.BalanceIs b) other is = is (λ e. cc)
 
 pub refused_step : (due : Meaning) (r : Refusal) (old new : Machine) → r ≢ refusal.Keeper → (r ≢ refusal.Memory → due ≡ Refuses r) → new ≡ old → Performs due old (reply.Refused r) new
 refused_step due r old new other is same = (due_is due r other is, same)

@@ -11,18 +11,15 @@ ghost use Rattle.tracker_machine.specs.Meaning.Meaning.{Makes};
 ghost use Rattle.tracker_machine.specs.Kept.{rows_of, ops_of};
 ghost use Rattle.tracker_machine.specs.Step.{IsStep, evaluations, meaning};
 ghost use Rattle.tracker_core.specs.Desk.{IsOwed, HasRow, HasNoRow};
-ghost use Rattle.tracker_core.specs.Plan.{effect_of, Fits};
+ghost use Rattle.tracker_state.specs.Plan.{effect_of, Fits};
 
-use crate::plan::{Plan, Prepared};
-use crate::prepare::prepare;
-use crate::rows::opening_ops;
-use crate::state::State;
 use fields::{Setup, Steps};
 use std::alloc::Global;
 use std::marker::Model;
 use std::sync::ledger::Ledger;
 use tracker_calls::{Answer, Call, Refusal, Reply, UserName};
 use tracker_keeper::{KeepFault, Keeper, Row, RowOp};
+use tracker_state::{Plan, Prepared, State, opening_ops, prepare};
 
 /// What makes the calls, one at a time, and has kept what they leave. Contracts see it as the abstract tracker and what keeps
 /// its rows.

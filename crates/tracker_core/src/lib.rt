@@ -1,27 +1,7 @@
-//! The tracker itself: its state, and the desk that makes one call at a time.
+//! The tracker itself: the desk that makes one call at a time, and has kept what it changes.
 #![tactic(auto)]
 
-mod check;
-mod create;
 mod desk;
-mod edit;
-mod empty;
-mod group;
-mod history;
-mod names;
-mod part;
-mod plan;
-mod prepare;
-mod resolved;
-mod rows;
-mod search;
-mod show;
-mod state;
-mod tick;
-mod told;
-mod transition;
-mod wants;
-mod weight;
 
 pub use desk::{Desk, OpenFault};
-pub use state::State;
+pub use tracker_state::State;

@@ -1,5 +1,5 @@
 -- The project of a new issue's key.
-use Rattle.std.proofs.Common.{◌≡◌, ◌==◌, ℕ, ◌<◌, Bool, true, false, nat_lt, List, [], ◌∷◌, ◌++◌, length, map, slice_get, Option, Some, option_map, unwrap_or, bytes_eq, refl, sym, ap, ◌∙◌, arith, length-append, lt-ltb, decimal}
+use Rattle.std.proofs.Common.{◌≡◌, ◌==◌, ℕ, ◌<◌, Bool, true, false, List, [], ◌∷◌, ◌++◌, length, map, slice_get, Option, Some, option_map, unwrap_or, bytes_eq, refl, sym, ap, ◌∙◌, arith, decimal}
 use Rattle.std.specs.List.{list_all, position_or_len}
 use Rattle.std.specs.Int.{is_in_range}
 use Rattle.std.specs.Option.{option_map_or}
@@ -14,7 +14,8 @@ use Rattle.field_forms.specs.Names.{place_named, is_project_key}
 use Rattle.fields.specs.Sound.{IsSound}
 use Rattle.fields.specs.Naming.{name_at, key_of}
 use Rattle.fields.proofs.PlaceNames.{at_place, projects_are_found}
-use Rattle.tracker_machine.specs.Known.{project_keys, project_of}
+use Rattle.jql_meaning.specs.Comparison.{project_of}
+use Rattle.tracker_machine.specs.Known.{project_keys}
 use Rattle.tracker_machine.proofs.Settled as settled
 
 -- the first hyphen after letters
@@ -29,10 +30,7 @@ hyphen_at (letter ∷ letters) rest all =
 -- letters that a hyphen follows are a project's key
 project_of_letters : (letters rest : List ℕ) → list_all (λ b. is_in_range 65 90 b) letters ≡ true → project_of (letters ++ 45 ∷ rest) ≡ letters
 project_of_letters letters rest all =
-    let here = hyphen_at letters rest all in
-    let longer = length-append letters (45 ∷ rest) in
-    let inside : nat_lt (length letters) (length (letters ++ 45 ∷ rest)) ≡ true = lt-ltb _ _ (omega (arith, longer)) in
-    rw here (rw inside (take-append_seam letters (45 ∷ rest)))
+    rw (hyphen_at letters rest all) (take-append_seam letters (45 ∷ rest))
 
 key_at : (ps : List Project) (k : ℕ) (p : Project) → slice_get ps k ≡ Some p → slice_get (map (λ q. q.key) ps) k ≡ Some p.key
 key_at ps k p at = slice_get-map (λ (q : Project). q.key) ps k ∙ ap (λ o. option_map (λ (q : Project). q.key) o) at

@@ -21,20 +21,24 @@ use Rattle.change_history.specs.declared.change.Change.{Change}
 use Rattle.change_history.specs.declared.entry.Entry.{Entry}
 use Rattle.change_history.specs.declared.entry.Group.{Group}
 use Rattle.change_history.specs.History.{History, MayAdd, opening_value, put_value, AreChanges, AreInOrder, FollowEachOther}
+use Rattle.tracker_ranks.proofs.Keeping.{new_issues_go_last}
 use Rattle.tracker_keeper.specs.declared.part.Part.{Part}
 use Rattle.tracker_keeper.specs.Forms.{IsNumber, is_small, is_filled, may_hold, are_among, are_opening, IsIssueKey, IsGroupEntry}
 use Rattle.tracker_keeper.specs.Kept.{part_keys, IsSetupText, IsPart, IsPartAt}
 use Rattle.tracker_machine.specs.Machine.{Machine, opening}
-use Rattle.tracker_machine.specs.Known.{project_keys, project_of, issues_of}
+use Rattle.jql_meaning.specs.Comparison.{project_of}
+use Rattle.tracker_machine.specs.Known.{project_keys, issues_of}
 use Rattle.tracker_machine.specs.Chronicle.{HasEntry}
 use Rattle.tracker_machine.specs.Tracker.{Holds, AllEntriesHold, AllEntriesFit, AllSmall, AreByUsers, IsSettled, RunsFrom, IsNextKey, AreKeyed, IsTracker, MayOpen, MayGroup}
-use Rattle.tracker_machine.specs.Effect.{Effect, applied, IsAllowed, with_issue, longer, with_group}
-use Rattle.tracker_machine.specs.Effect.Effect.{NewMoment, NewIssue, NewGroup}
-use Rattle.tracker_machine.specs.Kept.{setup_part, present_part, issue_part, group_part, issue_numbered, entries_of_change, group_of, issue_group, group_numbered, part_at, group_parts, parts_of, opening_parts}
+use Rattle.tracker_machine.specs.Effect.{Effect, applied, IsAllowed, with_issue, longer, with_group, with_new_rank, with_balance, with_moves}
+use Rattle.tracker_machine.specs.Effect.Effect.{NewMoment, NewIssue, NewGroup, NewRank, NewBalance, NewRanks}
+use Rattle.tracker_machine.specs.Kept.{setup_part, present_part, issue_part, group_part, rank_part, issue_numbered, entries_of_change, group_of, issue_group, group_numbered, part_at, group_parts, rank_parts, parts_of, opening_parts}
 use Rattle.tracker_machine.proofs.Chronicle.{few_groups}
 use Rattle.tracker_machine.proofs.Settled.{at_place, from_found, settled_at}
 use Rattle.tracker_machine.proofs.Tracker.{tracker_opening, tracker_applied}
 use Rattle.tracker_machine.proofs.Kept.{issue_found, group_found, next_is_none}
+use Rattle.tracker_machine.proofs.Ranks.{moves_are_numbered, balance_may_be_kept}
+use Rattle.tracker_machine.proofs.KeepableRanks.{number_kept, rank_part_kept, new_rank_kept, ranks_kept}
 
 -- ---- values
 
@@ -246,7 +250,7 @@ module _ (m : Machine) (is : IsTracker m) (k : ℕ) (h : History) (there : slice
 
 -- ---- issues by their places
 
-number_at : (first : ℕ) (hs : List History) (k : ℕ) (h : History) → RunsFrom first (map (λ h. h.no.0) hs) → slice_get hs k ≡ Some h → (h.no.0 ≡ first + k) × (k < length hs)
+pub number_at : (first : ℕ) (hs : List History) (k : ℕ) (h : History) → RunsFrom first (map (λ h. h.no.0) hs) → slice_get hs k ≡ Some h → (h.no.0 ≡ first + k) × (k < length hs)
 number_at first [] k h run at = absurd (cc)
 number_at first (g ∷ gs) zero h run at = (omega (arith, ap (λ (i : History). i.no.0) (same_Some g h at), run.0), omega arith)
 number_at first (g ∷ gs) (suc k) h run at = let behind = number_at (first + 1) gs k h run.1 at in (omega (arith, behind.0), omega (arith, behind.1))
@@ -320,7 +324,7 @@ group_part_kept m n p is p_is =
 present_kept : (m : Machine) → IsTracker m → IsPartAt m.setup 2 0 (present_part m)
 unfolding IsPart
 present_kept m is = record {
-  is_part = record { balanced = refl; stamped = record { timely = omega (arith, is.timely); counted = omega (arith, few_changes m is) } };
+  is_part = record { balanced = balance_may_be_kept m.order m.balance is.ranked.agrees; stamped = record { timely = omega (arith, is.timely); counted = omega (arith, few_changes m is) } };
   kind_is = refl;
   number_is = refl;
 }
@@ -344,7 +348,10 @@ part_kept m k n p read is p_is = elim (cases_Bool ((k == 1) && (n == 0))) [
       | inl third ↦ subst (λ i. IsPartAt m.setup i n p) (sym (eqb-true k 3 third)) (issue_part_kept m n p is (rw (no1, no2, third) at p_is))
       | inr no3 ↦ elim (cases_Bool (k == 4)) [
         | inl fourth ↦ subst (λ i. IsPartAt m.setup i n p) (sym (eqb-true k 4 fourth)) (group_part_kept m n p is (rw (no1, no2, no3, fourth) at p_is))
-        | inr no4 ↦ absurd (none-some p (rw (no1, no2, no3, no4) at p_is))
+        | inr no4 ↦ elim (cases_Bool (k == 5)) [
+          | inl fifth ↦ subst (λ i. IsPartAt m.setup i n p) (sym (eqb-true k 5 fifth)) (rank_part_kept m n p is (rw (no1, no2, no3, no4, fifth) at p_is))
+          | inr no5 ↦ absurd (none-some p (rw (no1, no2, no3, no4, no5) at p_is))
+        ]
       ]
     ]
   ]
@@ -386,14 +393,28 @@ unfolding applied IsAllowed parts_of
 parts_kept (NewMoment to) m may is =
     let now = present_kept (record m { moment = to }) (tracker_applied (NewMoment to) m may is) in
     one_part m.setup (present_part (record m { moment = to })) now.is_part
-parts_kept (NewIssue h) m may is =
-    let next : IsTracker (with_issue m h) = tracker_applied (NewIssue h) m may is in
-    let now = present_kept (with_issue m h) next in
-    let own = issue_part_kept (with_issue m h) h.no.0 (issue_part h) next (issue_comes m h is may) in
-    two_parts m.setup (present_part (with_issue m h)) (issue_part h) now.is_part own.is_part
+parts_kept (NewIssue h rank) m may is =
+    let next : IsTracker (with_issue m h rank) = tracker_applied (NewIssue h rank) m may is in
+    let now = present_kept (with_issue m h rank) next in
+    let own = issue_part_kept (with_issue m h rank) h.no.0 (issue_part h) next (issue_comes m h is may.0) in
+    let there = new_issues_go_last m.order m.balance h.no rank is.ranked may.1 in
+    let number : IsNumber h.no.0 = (omega (arith, may.0.no), omega (arith, may.0.no, may.0.few)) in
+    let last = new_rank_kept m (with_issue m h rank) h.no rank next (sym there.there) number in
+    All-cons (IsPart m.setup) (present_part (with_issue m h rank)) (issue_part h ∷ rank_part h.no rank ∷ []) now.is_part
+    (two_parts m.setup (issue_part h) (rank_part h.no rank) own.is_part last)
 parts_kept (NewGroup place g) m may is =
     let found = at_place m.histories place may.there in
     group_kept_at m place g found.0 is (tracker_applied (NewGroup place g) m may is) may found.1
+parts_kept (NewRank issue rank) m may is =
+    one_part m.setup (rank_part issue rank)
+    (new_rank_kept m (with_new_rank m issue rank) issue rank (tracker_applied (NewRank issue rank) m may is) refl (number_kept m issue.0 is may.named.issue))
+parts_kept (NewBalance balance) m may is =
+    let now = present_kept (with_balance m balance) (tracker_applied (NewBalance balance) m may is) in
+    one_part m.setup (present_part (with_balance m balance)) now.is_part
+parts_kept (NewRanks moves) m may is =
+    let now = present_kept (with_moves m moves) (tracker_applied (NewRanks moves) m may is) in
+    All-cons (IsPart m.setup) (present_part (with_moves m moves)) (rank_parts moves) now.is_part
+    (ranks_kept m moves is (moves_are_numbered m.order m.balance moves is.ranked may.0 may.1))
 
 pub opening_kept : (text : List ℕ) (setup : Parts) → IsSetupText text → All (IsPart setup) (opening_parts (opening text setup))
 opening_kept text setup read =

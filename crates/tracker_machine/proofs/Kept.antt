@@ -1,109 +1,37 @@
 -- An effect's operations keep what the effect does.
-use Rattle.std.proofs.Common.{◌≡◌, ℕ, zero, suc, ◌+◌, ◌<◌, ◌^◌, ◌==◌, ◌&&◌, Bool, true, false, List, [], ◌∷◌, ◌++◌, length, slice_get, set, map, Option, Some, None, option_map, refl, sym, ap, ◌∙◌, subst, arith, inl, inr, append-nil, eq-eqb}
+use Rattle.std.proofs.Common.{◌≡◌, ℕ, zero, suc, ◌+◌, ◌<◌, ◌≤◌, ◌^◌, ◌==◌, ◌&&◌, Bool, false, List, [], ◌∷◌, ◌++◌, length, slice_get, set, map, Option, Some, None, option_map, refl, sym, ap, ◌∙◌, subst, arith, inl, inr, append-nil, eq-eqb}
 use Rattle.std.specs.Prelude.{if◌then◌else◌}
 use Rattle.std.specs.List.{All, find}
 use Rattle.std.specs.Option.{option_or, option_map_or}
 use Rattle.std.proofs.lemmas.Bool.{eqb-true, cases_Bool}
-use Rattle.std.proofs.lemmas.List.Elements.{All-nil, All-cons, filter-append}
+use Rattle.std.proofs.lemmas.List.Elements.{All-nil, All-cons, All-head, All-tail, filter-append}
 use Rattle.std.proofs.lemmas.Option.{same_Some}
 use mathlib.Core.Path.{fun_ext}
 use Rattle.field_values.specs.declared.numbers.FieldNo.{FieldNo}
 use Rattle.field_values.specs.declared.numbers.UserNo.{UserNo}
 use Rattle.field_values.specs.declared.value.Value.{Value}
 use Rattle.field_values.specs.Parts.{Parts}
-use Rattle.field_forms.specs.Known.{Names}
 use Rattle.fields.specs.SetupParts.{names_in}
 use Rattle.change_history.specs.declared.entry.Entry.{Entry}
 use Rattle.change_history.specs.declared.entry.Group.{Group}
 use Rattle.change_history.specs.History.{History, present, AreGroupEntries, MayAdd}
+use Rattle.rank_strings.specs.Rank.{RankParts}
+use Rattle.rank_balancer.specs.Step.{Move}
+use Rattle.tracker_ranks.specs.Ranked.{IsNext}
 use Rattle.tracker_keeper.specs.declared.part.Part.{Part}
 use Rattle.tracker_keeper.specs.declared.row.RowOp.{RowOp}
-use Rattle.tracker_keeper.specs.Parts.{part_kind, part_number}
-use Rattle.tracker_keeper.specs.Bodies.{body_text}
-use Rattle.tracker_keeper.specs.Rows.{Rows, no_rows, with_op, with_ops, number_of}
+use Rattle.tracker_keeper.specs.Rows.{no_rows, with_ops, number_of}
 use Rattle.tracker_machine.specs.Machine.{Machine, opening}
 use Rattle.tracker_machine.specs.Chronicle.{HasEntry}
-use Rattle.tracker_machine.specs.Tracker.{RunsFrom, IsTracker, MayGroup}
+use Rattle.tracker_machine.specs.Tracker.{RunsFrom, IsTracker, MayOpen, MayGroup}
 use Rattle.tracker_machine.specs.Effect.{Effect, applied, IsAllowed, with_issue, longer, with_group}
-use Rattle.tracker_machine.specs.Effect.Effect.{NewMoment, NewIssue, NewGroup}
-use Rattle.tracker_machine.specs.Kept.{setup_part, present_part, issue_part, group_part, issue_numbered, entries_of_change, group_of, issue_group, group_numbered, part_at, rows_of, put_part, put_parts, group_parts, parts_of, ops_of, opening_parts, opening_ops}
+use Rattle.tracker_machine.specs.Effect.Effect.{NewMoment, NewIssue, NewGroup, NewRank, NewBalance, NewRanks}
+use Rattle.tracker_machine.specs.Kept.{setup_part, present_part, issue_part, group_part, rank_part, issue_numbered, entries_of_change, group_of, issue_group, group_numbered, rank_numbered, part_at, rows_of, put_parts, group_parts, rank_parts, parts_of, ops_of, opening_parts, opening_ops}
+use Rattle.tracker_machine.proofs.Puts.{with_parts, texts, parts_put, present_put, issue_put, group_put, rank_put, opening_put}
+use Rattle.tracker_machine.proofs.Ranks.{IsNumbered, moves_are_numbered}
+use Rattle.tracker_machine.proofs.RankRows.{rank_added, rank_applied, balance_applied, moves_applied}
 use Rattle.tracker_machine.proofs.Settled.{at_place, from_found}
 use Rattle.tracker_machine.proofs.Chronicle.{few_groups}
-
--- ---- parts that are put
-
--- these parts, with one more where it belongs
-abbrev with_part : Part → (ℕ → ℕ → Option Part) → ℕ → ℕ → Option Part
-with_part p parts k n = if (part_kind p == k) && (part_number p == n) then Some p else parts k n
-
-abbrev with_parts : List Part → (ℕ → ℕ → Option Part) → ℕ → ℕ → Option Part
-with_parts [] parts = parts
-with_parts (p ∷ ps) parts = with_parts ps (with_part p parts)
-
-abbrev texts : Names → (ℕ → ℕ → Option Part) → Rows
-texts names parts k n = option_map (body_text names) (parts k n)
-
-option_chosen : {X Y : Type 0} (f : X → Y) (b : Bool) (x : X) (o : Option X) → (if b then Some (f x) else option_map f o) ≡ option_map f (if b then Some x else o)
-option_chosen f true x o = refl
-option_chosen f false x o = refl
-
--- a part is put as its text is
-part_put : (names : Names) (p : Part) (parts : ℕ → ℕ → Option Part) → with_op (put_part names p) (texts names parts) ≡ texts names (with_part p parts)
-part_put names p parts = fun_ext (λ k. fun_ext (λ n. option_chosen (body_text names) ((part_kind p == k) && (part_number p == n)) p (parts k n)))
-
-parts_put : (names : Names) (ps : List Part) (parts : ℕ → ℕ → Option Part) → with_ops (map (put_part names) ps) (texts names parts) ≡ texts names (with_parts ps parts)
-parts_put names [] parts = refl
-parts_put names (p ∷ ps) parts = ap (with_ops (map (put_part names) ps)) (part_put names p parts) ∙ parts_put names ps (with_part p parts)
-
--- ---- the rows of each kind
-
--- the other way round
-turned : (k n : ℕ) → (k == n) ≡ (n == k)
-turned k n = grind arith
-
--- present is put anew
-present_put : {X : Type 0} (k n : ℕ) (s p new rest : X)
-    → (if (k == 1) && (n == 0) then s else (if (k == 2) && (n == 0) then new else rest))
-    ≡ (if (2 == k) && (0 == n) then new else (if (k == 1) && (n == 0) then s else (if (k == 2) && (n == 0) then p else rest)))
-present_put k n s p new rest = rw (turned 2 k, turned 0 n) (cases (k == 1) (k == 2) (n == 0) refl refl) where
-  cases : (one? two? none? : Bool) → (k == 1) ≡ one? → (k == 2) ≡ two?
-      → (if one? && none? then s else (if two? && none? then new else rest))
-      ≡ (if two? && none? then new else (if one? && none? then s else (if two? && none? then p else rest)))
-  cases true true none? is1 is2 = absurd (omega (arith, eqb-true k 1 is1, eqb-true k 2 is2))
-  cases true false true is1 is2 = refl
-  cases true false false is1 is2 = refl
-  cases false true true is1 is2 = refl
-  cases false true false is1 is2 = refl
-  cases false false none? is1 is2 = refl
-
--- a row of kind 3 is put, behind those of kinds 1 and 2
-issue_put : {X : Type 0} (k n at : ℕ) (s p new old rest : X)
-    → (if (k == 1) && (n == 0) then s else (if (k == 2) && (n == 0) then p else (if k == 3 then (if at == n then new else old) else rest)))
-    ≡ (if (3 == k) && (at == n) then new else (if (k == 1) && (n == 0) then s else (if (k == 2) && (n == 0) then p else (if k == 3 then old else rest))))
-issue_put k n at s p new old rest = rw (turned 3 k) (cases (k == 1) (k == 2) (k == 3) (n == 0) (at == n) refl refl refl) where
-  cases : (one? two? three? none? at? : Bool) → (k == 1) ≡ one? → (k == 2) ≡ two? → (k == 3) ≡ three?
-      → (if one? && none? then s else (if two? && none? then p else (if three? then (if at? then new else old) else rest)))
-      ≡ (if three? && at? then new else (if one? && none? then s else (if two? && none? then p else (if three? then old else rest))))
-  cases true two? true none? at? is1 is2 is3 = absurd (omega (arith, eqb-true k 1 is1, eqb-true k 3 is3))
-  cases one? true true none? at? is1 is2 is3 = absurd (omega (arith, eqb-true k 2 is2, eqb-true k 3 is3))
-  cases false false true none? true is1 is2 is3 = refl
-  cases false false true none? false is1 is2 is3 = refl
-  cases one? two? false none? at? is1 is2 is3 = refl
-
--- a row of kind 4 is put, behind those of kinds 1 to 3
-group_put : {X : Type 0} (k n at : ℕ) (s p i new old rest : X)
-    → (if (k == 1) && (n == 0) then s else (if (k == 2) && (n == 0) then p else (if k == 3 then i else (if k == 4 then (if at == n then new else old) else rest))))
-    ≡ (if (4 == k) && (at == n) then new else (if (k == 1) && (n == 0) then s else (if (k == 2) && (n == 0) then p else (if k == 3 then i else (if k == 4 then old else rest)))))
-group_put k n at s p i new old rest = rw (turned 4 k) (cases (k == 1) (k == 2) (k == 3) (k == 4) (n == 0) (at == n) refl refl refl refl) where
-  cases : (one? two? three? four? none? at? : Bool) → (k == 1) ≡ one? → (k == 2) ≡ two? → (k == 3) ≡ three? → (k == 4) ≡ four?
-      → (if one? && none? then s else (if two? && none? then p else (if three? then i else (if four? then (if at? then new else old) else rest))))
-      ≡ (if four? && at? then new else (if one? && none? then s else (if two? && none? then p else (if three? then i else (if four? then old else rest)))))
-  cases true two? three? true none? at? is1 is2 is3 is4 = absurd (omega (arith, eqb-true k 1 is1, eqb-true k 4 is4))
-  cases one? true three? true none? at? is1 is2 is3 is4 = absurd (omega (arith, eqb-true k 2 is2, eqb-true k 4 is4))
-  cases one? two? true true none? at? is1 is2 is3 is4 = absurd (omega (arith, eqb-true k 3 is3, eqb-true k 4 is4))
-  cases false false false true none? true is1 is2 is3 is4 = refl
-  cases false false false true none? false is1 is2 is3 is4 = refl
-  cases one? two? three? false none? at? is1 is2 is3 is4 = refl
 
 -- ---- an issue more
 
@@ -233,32 +161,50 @@ group_applied m place g h is may at k n =
     let now : Part = present_part (with_group m place g) in
     let issue : Option Part = option_map issue_part (issue_numbered m.histories n) in
     let old : Option Part = group_numbered m.histories n in
+    let ranks : Option Part = if k == 5 then rank_numbered m.order n else None in
     rw (at, issue_stays m.histories place h g.entries n at, groups_found m.histories place h g n at (next_is_none m g.change is may.change) added)
-    (group_put k n g.change (Some (setup_part m)) (Some now) issue (Some (group_part h g)) old None
+    (group_put k n g.change (Some (setup_part m)) (Some now) issue (Some (group_part h g)) old ranks
     ∙ ap (λ (o : Option Part). if (4 == k) && (g.change == n) then Some (group_part h g) else o)
-    (present_put k n (Some (setup_part m)) (Some (present_part m)) (Some now) (if k == 3 then issue else (if k == 4 then old else None))))
+    (present_put k n (Some (setup_part m)) (Some (present_part m)) (Some now) (if k == 3 then issue else (if k == 4 then old else ranks))))
+
+-- the parts after a new issue
+issue_applied : (m : Machine) (h : History) (rank : RankParts) → IsTracker m → MayOpen m h → IsNext m.order m.balance h.no rank → (k n : ℕ)
+    → part_at (with_issue m h rank) k n ≡ with_parts (present_part (with_issue m h rank) ∷ issue_part h ∷ rank_part h.no rank ∷ []) (part_at m) k n
+unfolding part_at
+issue_applied m h rank is may next k n =
+    let now : Part = present_part (with_issue m h rank) in
+    let old : Option Part = option_map issue_part (issue_numbered m.histories n) in
+    let new : Option Part = if h.no.0 == n then Some (issue_part h) else old in
+    let group : Option Part = group_numbered m.histories n in
+    let ranks : Option Part = rank_numbered m.order n in
+    let setup : Option Part = Some (setup_part m) in
+    rw (issue_found m.histories h n is.numbers may.no, no_group_more m.histories h n may.entries, rank_added m.order m.balance h.no rank n is.ranked next)
+    (rank_put k n h.no.0 setup (Some now) new group (Some (rank_part h.no rank)) ranks None
+    ∙ ap (λ (o : Option Part). if (5 == k) && (h.no.0 == n) then Some (rank_part h.no rank) else o)
+    (issue_put k n h.no.0 setup (Some now) (Some (issue_part h)) old (if k == 4 then group else (if k == 5 then ranks else None))
+    ∙ ap (λ (o : Option Part). if (3 == k) && (h.no.0 == n) then Some (issue_part h) else o)
+    (present_put k n setup (Some (present_part m)) (Some now) (if k == 3 then old else (if k == 4 then group else (if k == 5 then ranks else None))))))
 
 -- the parts after an effect are those before it, with those that it puts
 parts_applied : (e : Effect) (m : Machine) → IsAllowed e m → IsTracker m → (k n : ℕ) → part_at (applied e m) k n ≡ with_parts (parts_of e m) (part_at m) k n
 unfolding applied IsAllowed part_at parts_of
 parts_applied (NewMoment to) m may is k n =
     present_put k n (Some (setup_part m)) (Some (present_part m)) (Some (present_part (record m { moment = to }))) _
-parts_applied (NewIssue h) m may is k n =
-    let now : Part = present_part (with_issue m h) in
-    let old : Option Part = option_map issue_part (issue_numbered m.histories n) in
-    let group : Option Part = group_numbered m.histories n in
-    rw (issue_found m.histories h n is.numbers may.no, no_group_more m.histories h n may.entries)
-    (issue_put k n h.no.0 (Some (setup_part m)) (Some now) (Some (issue_part h)) old (if k == 4 then group else None)
-    ∙ ap (λ (o : Option Part). if (3 == k) && (h.no.0 == n) then Some (issue_part h) else o)
-    (present_put k n (Some (setup_part m)) (Some (present_part m)) (Some now) (if k == 3 then old else (if k == 4 then group else None))))
+parts_applied (NewIssue h rank) m may is k n = issue_applied m h rank is may.0 may.1 k n
 parts_applied (NewGroup place g) m may is k n =
     let found = at_place m.histories place may.there in group_applied m place g found.0 is may found.1 k n
+parts_applied (NewRank issue rank) m may is k n = rank_applied m issue rank k n
+parts_applied (NewBalance balance) m may is k n = balance_applied m balance k n
+parts_applied (NewRanks moves) m may is k n = ap (λ (parts : ℕ → ℕ → Option Part). parts k n) (moves_applied m moves)
 
 setup_stays : (e : Effect) (m : Machine) → (applied e m).setup ≡ m.setup
 unfolding applied
 setup_stays (NewMoment to) m = refl
-setup_stays (NewIssue h) m = refl
+setup_stays (NewIssue h rank) m = refl
 setup_stays (NewGroup place g) m = refl
+setup_stays (NewRank issue rank) m = refl
+setup_stays (NewBalance balance) m = refl
+setup_stays (NewRanks moves) m = refl
 
 -- the rows after an effect are the rows before it, with its operations
 pub rows_applied : (e : Effect) (m : Machine) → IsAllowed e m → IsTracker m → rows_of (applied e m) ≡ with_ops (ops_of e m) (rows_of m)
@@ -269,25 +215,6 @@ rows_applied e m may is =
     ∙ sym (parts_put (names_in m.setup) (parts_of e m) (part_at m)))
 
 -- ---- a new tracker
-
-opening_put : {X : Type 0} (k n : ℕ) (s p none : X)
-    → (if (2 == k) && (0 == n) then p else (if (1 == k) && (0 == n) then s else none))
-    ≡ (if (k == 1) && (n == 0) then s else (if (k == 2) && (n == 0) then p else (if k == 3 then none else (if k == 4 then none else none))))
-opening_put k n s p none = rw (turned 1 k, turned 2 k, turned 0 n) (cases (k == 1) (k == 2) (k == 3) (k == 4) (n == 0) refl refl) where
-  nothing : (three? four? : Bool) → none ≡ (if three? then none else (if four? then none else none))
-  nothing true four? = refl
-  nothing false true = refl
-  nothing false false = refl
-
-  cases : (one? two? three? four? none? : Bool) → (k == 1) ≡ one? → (k == 2) ≡ two?
-      → (if two? && none? then p else (if one? && none? then s else none))
-      ≡ (if one? && none? then s else (if two? && none? then p else (if three? then none else (if four? then none else none))))
-  cases true true three? four? none? is1 is2 = absurd (omega (arith, eqb-true k 1 is1, eqb-true k 2 is2))
-  cases true false three? four? true is1 is2 = refl
-  cases false true three? four? true is1 is2 = refl
-  cases true false three? four? false is1 is2 = nothing three? four?
-  cases false true three? four? false is1 is2 = nothing three? four?
-  cases false false three? four? none? is1 is2 = nothing three? four?
 
 -- the rows of a new tracker are its setup's and its moment's
 pub rows_opening : (text : List ℕ) (setup : Parts) → with_ops (opening_ops (opening text setup)) no_rows ≡ rows_of (opening text setup)
@@ -307,18 +234,34 @@ one_op op small = All-cons IsSmallOp op [] small (All-nil IsSmallOp)
 two_ops : (op other : RowOp) → IsSmallOp op → IsSmallOp other → All IsSmallOp (op ∷ other ∷ [])
 two_ops op other small smaller = All-cons IsSmallOp op (other ∷ []) small (one_op other smaller)
 
+three_ops : (op other more : RowOp) → IsSmallOp op → IsSmallOp other → IsSmallOp more → All IsSmallOp (op ∷ other ∷ more ∷ [])
+three_ops op other more small smaller smallest = All-cons IsSmallOp op (other ∷ more ∷ []) small (two_ops other more smaller smallest)
+
 group_ops : (m : Machine) (place : ℕ) (g : Group) (h : History) → IsTracker m → g.change ≡ m.change + 1 → slice_get m.histories place ≡ Some h
     → All IsSmallOp (put_parts m.setup (present_part (with_group m place g) ∷ group_parts m.histories place g))
 group_ops m place g h is next at =
     subst (λ o. All IsSmallOp (put_parts m.setup (present_part (with_group m place g) ∷ option_map_or (λ i. group_part i g ∷ []) o []))) (sym at)
     (two_ops _ _ (omega arith) (omega (arith, next, is.numbered, is.few_issues, few_groups m.histories, is.few_entries)))
 
+-- the ranks that moves give
+rank_ops : (setup : Parts) (count : ℕ) (moves : List Move) → count ≤ 50_000 → All (IsNumbered count) moves → All IsSmallOp (put_parts setup (rank_parts moves))
+rank_ops setup count [] few numbered = All-nil IsSmallOp
+rank_ops setup count (move ∷ moves) few numbered =
+    let here = All-head (IsNumbered count) move moves numbered in
+    All-cons IsSmallOp _ _ (omega (arith, here.0, few)) (rank_ops setup count moves few (All-tail (IsNumbered count) move moves numbered))
+
 -- each number is one that a table can hold
 pub ops_small : (e : Effect) (m : Machine) → IsAllowed e m → IsTracker m → All (λ op. number_of op < 2 ^ 63) (ops_of e m)
 unfolding ops_of parts_of IsAllowed
 ops_small (NewMoment to) m may is = one_op _ (omega arith)
-ops_small (NewIssue h) m may is = two_ops _ _ (omega arith) (omega (arith, may.no, may.few))
+ops_small (NewIssue h rank) m may is =
+    three_ops _ _ _ (omega arith) (omega (arith, may.0.no, may.0.few)) (omega (arith, may.0.no, may.0.few))
 ops_small (NewGroup place g) m may is = let found = at_place m.histories place may.there in group_ops m place g found.0 is may.change found.1
+ops_small (NewRank issue rank) m may is = one_op _ (omega (arith, may.named.issue, is.each, is.few_issues))
+ops_small (NewBalance balance) m may is = one_op _ (omega arith)
+ops_small (NewRanks moves) m may is =
+    All-cons IsSmallOp _ _ (omega arith)
+    (rank_ops m.setup (length m.order) moves (omega (arith, is.each, is.few_issues)) (moves_are_numbered m.order m.balance moves is.ranked may.0 may.1))
 
 pub opening_small : (m : Machine) → All (λ op. number_of op < 2 ^ 63) (opening_ops m)
 unfolding opening_ops

@@ -1,5 +1,5 @@
 -- Names in `set`, looked at in byte order: worked values.
-use Rattle.std.proofs.Common.{◌≡◌, [], ◌∷◌, codes, Some, None, refl}
+use Rattle.std.proofs.Common.{◌≡◌, [], ◌∷◌, codes, Some, refl}
 use Rattle.field_forms.specs.Known.{field_named}
 use Rattle.tracker_calls.specs.declared.given.Given.TheVariants as given
 use Rattle.tracker_calls.specs.declared.reply.Refusal.TheVariants as refusal

@@ -1,5 +1,5 @@
 -- A line's reply, by what was answered.
-use Rattle.std.proofs.Common.{subst, codes, [], false, ◌≡◌, ℕ, List, Ok, Err, Some, None, refl, sym, ap, ◌∙◌}
+use Rattle.std.proofs.Common.{subst, codes, false, ◌≡◌, ℕ, List, Ok, Err, refl, sym, ap, ◌∙◌}
 use Rattle.std.specs.Bool.{MatchBool}
 use Rattle.std.specs.Fmt.{digits}
 use Rattle.serde_json.proofs.OnLiterals.{serde_json_on_literals}
@@ -46,8 +46,10 @@ unmarked old new line user c (refusal.Condition k) asked due same = refused old 
 unmarked old new line user c (refusal.Validator k) asked due same = refused old new line user c (refusal.Validator k) asked due same
 unmarked old new line user c (refusal.Unfit f) asked due same = refused old new line user c (refusal.Unfit f) asked due same
 unmarked old new line user c (refusal.Query k p) asked due same = refused old new line user c (refusal.Query k p) asked due same
+unmarked old new line user c (refusal.NoRoom low high) asked due same = refused old new line user c (refusal.NoRoom low high) asked due same
 unmarked old new line user c (refusal.Limit l) asked due same = refused old new line user c (refusal.Limit l) asked due same
 unmarked old new line user c (refusal.Earlier k) asked due same = refused old new line user c (refusal.Earlier k) asked due same
+unmarked old new line user c (refusal.BalanceIs balance) asked due same = refused old new line user c (refusal.BalanceIs balance) asked due same
 
 performed : (old new : Machine) (line user : List ℕ) (c : Call) (r : Reply) → line_of line ≡ Ok (user, c) → Performs (meaning old user c) old r new → RepliesTo old line r new
 performed old new line user c (reply.Ok a) asked step = answered old new line user c (meaning old user c) a asked refl step.0 step.1

@@ -4,7 +4,7 @@ use Rattle.std.specs.Prelude.{not, if◌then◌else◌, ◌+◌}
 use Rattle.std.specs.Bool.{MatchBool}
 use Rattle.request_lines.specs.Lines.{AreWithinLimits}
 use Rattle.tracker_machine.specs.Machine.{Machine}
-use Rattle.tracker_machine.specs.Run.{text_of_run, end_of_run, failures_in, IsRun, is_blank, requests, HasReply, IsPassedOver, AnswersLine, IsFrontOfReply}
+use Rattle.tracker_machine.specs.Run.{text_of_run, end_of_run, IsRun, is_blank, requests, HasReply, IsPassedOver, AnswersLine, IsFrontOfReply}
 
 pub IsRun-nil : (m : Machine) → IsRun m [] [] m 0
 IsRun-nil m = record { marked = []; lines_are = refl; text_is = refl; new_is = refl; failures_are = refl }

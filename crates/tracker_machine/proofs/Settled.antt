@@ -1,22 +1,18 @@
 -- What holds of an issue holds as it opens, and as a group comes.
-use Rattle.std.proofs.Common.{◌≡◌, ◌==◌, ℕ, zero, suc, ◌+◌, ◌<◌, ◌≤◌, List, [], ◌∷◌, ◌++◌, length, slice_get, get_or, set, map, Bool, true, false, Option, Some, option_map, unwrap_or, bytes_eq, IfSome, refl, sym, ap, ap₂, ◌∙◌, subst, arith, inl, inr}
+use Rattle.std.proofs.Common.{◌≡◌, ◌==◌, ℕ, zero, suc, ◌+◌, ◌<◌, ◌≤◌, List, [], ◌∷◌, ◌++◌, length, slice_get, Bool, true, false, Option, Some, IfSome, refl, sym, ap, ◌∙◌, subst, arith, inl, inr}
 use Rattle.std.specs.Prelude.{if◌then◌else◌}
 use Rattle.std.specs.List.{All}
 use Rattle.std.proofs.lemmas.Bool.{eqb-true}
-use Rattle.std.proofs.lemmas.List.{map-set}
-use Rattle.std.proofs.lemmas.List.Sums.{sum_by_push, sum_by-set, sum_by-cons}
-use Rattle.std.proofs.lemmas.Option.{slice_get-map, slice_get_within, get_or_from_slice_get}
+use Rattle.std.proofs.lemmas.Option.{slice_get_within, get_or_from_slice_get}
 use Rattle.field_values.specs.declared.numbers.FieldNo.{FieldNo}
 use Rattle.field_values.specs.declared.numbers.UserNo.{UserNo}
-use Rattle.field_values.specs.declared.parts.Project.{Project}
 use Rattle.field_values.specs.declared.value.Value.{Value}
 use Rattle.field_forms.specs.Known.{Names, fits}
 use Rattle.change_history.specs.declared.change.Change.{Change}
 use Rattle.change_history.specs.declared.entry.Entry.{Entry}
-use Rattle.change_history.specs.History.{RoomyHistory, History, opening_value, value_after, present, last_change, last_moment, AreChanges, AreInOrder, AreGroupEntries, MayAdd}
+use Rattle.change_history.specs.History.{History, opening_value, value_after, present, last_change, last_moment, AreChanges, AreInOrder, AreGroupEntries, MayAdd}
 use Rattle.change_history.proofs.Adding.{last_moment-group, IsHistory-add}
 use Rattle.workflow.specs.Laws.{AllFit}
-use Rattle.fields.specs.Naming.{name_at}
 use Rattle.tracker_keeper.specs.Forms.{are_opening}
 use Rattle.tracker_machine.specs.Tracker.{Holds, IsSettled, AllEntriesFit, AllEntriesHold, AllSmall, AreNamed, AreByUsers}
 

@@ -14,11 +14,23 @@ use Rattle.change_history.specs.declared.entry.Entry.{Entry}
 use Rattle.change_history.specs.declared.entry.Group.{Group}
 use Rattle.change_history.specs.History.{History, MayAdd}
 use Rattle.fields.specs.SetupParts.{names_in}
+use Rattle.field_values.specs.declared.numbers.IssueNo.{IssueNo}
+use Rattle.rank_strings.specs.Rank.{RankParts}
+use Rattle.board.specs.Order.{Pair}
+use Rattle.board.proofs.Issues.{places_go_by_issues}
+use Rattle.rank_balancer.specs.declared.balance.Balance.{Balance}
+use Rattle.rank_balancer.specs.declared.balance.Balance.TheVariants.{Idle}
+use Rattle.rank_balancer.specs.Balance.{IsMoving, after_start, from_of, to_of}
+use Rattle.rank_balancer.specs.Step.{Move, ArePicks, after_move, after_moves}
+use Rattle.tracker_ranks.specs.Ranked.{IsRanked, IsGiven, IsNext, balance_moved}
+use Rattle.tracker_ranks.proofs.Given.{length-moved}
+use Rattle.tracker_ranks.proofs.Keeping.{no_issue_is_ranked, numbers_are_ranked, new_issues_go_last, moves_change_one_rank, starts_keep_ranks, steps_keep_ranks}
 use Rattle.tracker_machine.specs.Machine.{Machine}
-use Rattle.tracker_machine.specs.Effect.{Effect, applied, IsAllowed, with_issue, longer, with_group}
-use Rattle.tracker_machine.specs.Effect.Effect.{NewMoment, NewIssue, NewGroup}
+use Rattle.tracker_machine.specs.Effect.{Effect, applied, IsAllowed, with_issue, longer, with_group, with_new_rank, with_balance, with_moves}
+use Rattle.tracker_machine.specs.Effect.Effect.{NewMoment, NewIssue, NewGroup, NewRank, NewBalance, NewRanks}
 use Rattle.fields.specs.Naming.{name_at, key_of}
-use Rattle.tracker_machine.specs.Known.{project_keys, project_of, issues_of}
+use Rattle.jql_meaning.specs.Comparison.{project_of}
+use Rattle.tracker_machine.specs.Known.{project_keys, issues_of}
 use Rattle.tracker_machine.specs.Checks.{entries_kept, bytes_kept, entry_bytes}
 use Rattle.tracker_machine.specs.Tracker.{AllEntriesFit, AllSmall, IsSettled, RunsFrom, RisesAbove, IsNextKey, AreKeyed, IsTracker, MayOpen, MayGroup}
 use Rattle.tracker_machine.proofs.Totals.{history_bytes-more, bytes_kept-push, bytes_kept-set, entries_kept-push, entries_kept-set}
@@ -27,7 +39,7 @@ use Rattle.tracker_machine.proofs.Settled.{at_place, from_found, all_settled_lat
 
 -- ---- lists with one more
 
-runs_on : (first : ℕ) (hs : List History) (h : History) → RunsFrom first (map (λ h. h.no.0) hs) → h.no.0 ≡ first + length hs → RunsFrom first (map (λ h. h.no.0) (hs ++ h ∷ []))
+pub runs_on : (first : ℕ) (hs : List History) (h : History) → RunsFrom first (map (λ h. h.no.0) hs) → h.no.0 ≡ first + length hs → RunsFrom first (map (λ h. h.no.0) (hs ++ h ∷ []))
 runs_on first [] h run is = (omega (arith, is), tt)
 runs_on first (g ∷ gs) h run is = (run.0, runs_on (first + 1) gs h run.1 (omega (arith, is)))
 
@@ -49,7 +61,7 @@ keyed_on setup before (g ∷ gs) h keyed is = (keyed.0, keyed_on setup (before +
 -- ---- lists with another at a place
 
 -- what an issue keeps from its creation stays
-stays : {A : Type 0} (f : History → A) (hs : List History) (k : ℕ) (old new : History) → slice_get hs k ≡ Some old → f new ≡ f old → map f (set hs k new) ≡ map f hs
+pub stays : {A : Type 0} (f : History → A) (hs : List History) (k : ℕ) (old new : History) → slice_get hs k ≡ Some old → f new ≡ f old → map f (set hs k new) ≡ map f hs
 stays f hs k old new at same = map-set_same f hs k new old (same ∙ ap f (sym (get_or_from_slice_get hs k old old at)))
 
 next_key_alike : (setup : Parts) (before after : List History) (key : List ℕ) → ((p : List ℕ) → issues_of p after ≡ issues_of p before) → IsNextKey setup before key → IsNextKey setup after key
@@ -80,13 +92,15 @@ keyed_set setup before (h ∷ hs) (suc k) old new at same keyed = (keyed.0, keye
 
 -- ---- a new tracker
 
-pub tracker_opening : (text : List ℕ) (setup : Parts) (moment : ℕ) → moment ≤ last_second → IsTracker (record { text = text; setup = setup; moment = moment; change = 0; histories = [] })
+pub tracker_opening : (text : List ℕ) (setup : Parts) (moment : ℕ) → moment ≤ last_second → IsTracker (record { text = text; setup = setup; moment = moment; change = 0; histories = []; order = []; balance = Idle 0 })
 tracker_opening text setup moment timely = record {
   few_issues = omega arith;
   few_entries = omega arith;
   few_bytes = omega arith;
   timely = timely;
   numbers = tt;
+  each = refl;
+  ranked = no_issue_is_ranked 0 (omega arith);
   keys = tt;
   numbered = omega arith;
   rising = tt;
@@ -103,6 +117,8 @@ tracker_later m now later timely is = record {
   few_bytes = is.few_bytes;
   timely = timely;
   numbers = is.numbers;
+  each = is.each;
+  ranked = is.ranked;
   keys = is.keys;
   numbered = is.numbered;
   rising = is.rising;
@@ -112,13 +128,16 @@ tracker_later m now later timely is = record {
 
 -- ---- an issue
 
-pub tracker_push : (m : Machine) (h : History) → IsTracker m → MayOpen m h → IsTracker (with_issue m h)
-tracker_push m h is may = record {
+pub tracker_push : (m : Machine) (h : History) (rank : RankParts) → IsTracker m → MayOpen m h → IsNext m.order m.balance h.no rank
+    → IsTracker (with_issue m h rank)
+tracker_push m h rank is may next = record {
   few_issues = omega (arith, length-append m.histories (h ∷ []), may.few);
   few_entries = omega (arith, entries_kept-push m.histories h, is.few_entries, ap (λ (es : List Entry). length es) may.entries);
   few_bytes = omega (arith, bytes_kept-push m.histories h, may.light);
   timely = is.timely;
   numbers = runs_on 1 m.histories h is.numbers (omega (arith, may.no));
+  each = omega (arith, length-append m.order ((rank, h.no) ∷ []), length-append m.histories (h ∷ []), is.each);
+  ranked = (new_issues_go_last m.order m.balance h.no rank is.ranked next).ranked;
   keys = keyed_on m.setup [] m.histories h is.keys may.key;
   numbered = omega (arith, groups_kept-push m.histories h, length-append m.histories (h ∷ []), is.numbered);
   rising = rises_on 0 m.histories h is.rising (omega (arith, may.change))
@@ -147,6 +166,8 @@ tracker_add m k h author es is at may fit small user few light =
       few_bytes = omega (arith, bytes_kept-set m.histories k h new at, history_bytes-more h es, light);
       timely = is.timely;
       numbers = subst (RunsFrom 1) (sym (stays (λ h. h.no.0) m.histories k h new at refl)) is.numbers;
+      each = omega (arith, same, is.each);
+      ranked = is.ranked;
       keys = keyed_set m.setup [] m.histories k h new at refl is.keys;
       numbered = omega (arith, same, is.numbered, groups_kept-set m.histories k h new at, groups_more h (m.change + 1) m.moment author es may);
       rising = subst (RisesAbove 0) (sym (stays (λ h. h.change) m.histories k h new at refl)) is.rising;
@@ -155,6 +176,45 @@ tracker_add m k h author es is at may fit small user few light =
           (settled_added (names_in m.setup) m.moment m.change (m.change + 1) h author es may fit small user (settled_at (names_in m.setup) m.moment m.change m.histories k h at is.settled))
           (all_settled_later (names_in m.setup) m.moment m.moment m.change (m.change + 1) m.histories (omega arith) (omega arith) is.settled);
     }
+
+-- ---- ranks
+
+-- as many issues in another order, which are ranked too
+with_order : (m : Machine) (order : List Pair) (balance : Balance) → IsTracker m → length order ≡ length m.order → IsRanked order balance
+    → IsTracker (record m { order = order; balance = balance })
+with_order m order balance is same ranked = record {
+  few_issues = is.few_issues;
+  few_entries = is.few_entries;
+  few_bytes = is.few_bytes;
+  timely = is.timely;
+  numbers = is.numbers;
+  each = omega (arith, same, is.each);
+  ranked = ranked;
+  keys = is.keys;
+  numbered = is.numbered;
+  rising = is.rising;
+  chronicle = is.chronicle;
+  settled = is.settled;
+}
+
+pub tracker_ranked : (m : Machine) (issue : IssueNo) (rank : RankParts) → IsTracker m → IsGiven m.order m.balance issue rank
+    → IsTracker (with_new_rank m issue rank)
+tracker_ranked m issue rank is given =
+    let there = numbers_are_ranked m.order m.balance (Some issue) given.place is.ranked given.named in
+    with_order m (after_move m.order (issue, rank)) m.balance is (length-moved m.order issue rank is.ranked.order there.issue_there)
+    (moves_change_one_rank m.order m.balance issue given.place rank is.ranked given.named given.given).ranked
+
+pub tracker_started : (m : Machine) (balance : Balance) → IsTracker m → after_start m.balance ≡ Some balance → IsTracker (with_balance m balance)
+tracker_started m balance is start =
+    with_order m m.order balance is refl
+    (from_found (after_start m.balance) balance (IsRanked m.order) start (starts_keep_ranks m.order m.balance is.ranked))
+
+pub tracker_stepped : (m : Machine) (moves : List Move) → IsTracker m → IsMoving m.balance → ArePicks m.order (from_of m.balance) (to_of m.balance) moves
+    → IsTracker (with_moves m moves)
+tracker_stepped m moves is moving picks =
+    let kept = steps_keep_ranks m.order m.balance moves is.ranked moving picks in
+    with_order m (after_moves m.order moves) (balance_moved m.order m.balance moves) is
+    (places_go_by_issues (after_moves m.order moves) m.order kept.issues).count kept.ranked
 
 -- ---- each effect
 
@@ -170,5 +230,8 @@ group_applied m place g h is may at =
 pub tracker_applied : (effect : Effect) (m : Machine) → IsAllowed effect m → IsTracker m → IsTracker (applied effect m)
 unfolding applied IsAllowed
 tracker_applied (NewMoment to) m may is = tracker_later m to may.0 may.1 is
-tracker_applied (NewIssue h) m may is = tracker_push m h is may
+tracker_applied (NewIssue h rank) m may is = tracker_push m h rank is may.0 may.1
 tracker_applied (NewGroup place g) m may is = let found = at_place m.histories place may.there in group_applied m place g found.0 is may found.1
+tracker_applied (NewRank issue rank) m may is = tracker_ranked m issue rank is may
+tracker_applied (NewBalance balance) m may is = tracker_started m balance is may
+tracker_applied (NewRanks moves) m may is = tracker_stepped m moves is may.0 may.1

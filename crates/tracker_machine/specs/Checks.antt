@@ -1,6 +1,7 @@
 -- Checks, the first of which that fails refuses a call.
 use Rattle.std.specs.Option.{is_some}
-use Rattle.std.specs.Prelude.{ℕ, ◌+◌, ◌*◌, Bool, List, [], ◌∷◌, Option, Some, None, if◌then◌else◌, option_map, option_and_then, length, nat_lt, nat_le, sum_by, decimal, codes}
+use Rattle.std.specs.Str.{bytes_eq}
+use Rattle.std.specs.Prelude.{ℕ, ◌+◌, ◌*◌, ◌&&◌, Bool, List, [], ◌∷◌, Option, Some, None, if◌then◌else◌, option_map, option_and_then, length, nat_lt, nat_le, sum_by, decimal, codes}
 use Rattle.field_values.specs.declared.numbers.TheConstants.FieldNo as number
 use Rattle.field_values.specs.declared.field.Field.{Field}
 use Rattle.field_values.specs.declared.value.Value.{Value}
@@ -47,6 +48,14 @@ twins_refusal set = if has_twins set then Some (refusal.Form (codes "set")) else
 -- a part is in range
 abbrev pub part_refusal : ℕ → Part → Option Refusal
 part_refusal most part = option_map refusal.Form (part_fault most part)
+
+-- so is the number of picks of a step
+abbrev pub count_refusal : ℕ → ℕ → Option Refusal
+count_refusal most n = only_if (nat_le 1 n && nat_le n most) (refusal.Form (codes "count"))
+
+-- an issue isn't moved beside itself
+abbrev pub other_refusal : List ℕ → List ℕ → Option Refusal
+other_refusal issue other = if bytes_eq other issue then Some (refusal.Form (codes "other")) else None
 
 -- ---- names
 

@@ -1,5 +1,5 @@
 -- The call `create`: a new issue of a project.
-use Rattle.std.specs.Prelude.{ℕ, ◌+◌, ◌==◌, false, not, List, [], ◌∷◌, ◌++◌, filter, length, Option, if◌then◌else◌}
+use Rattle.std.specs.Prelude.{ℕ, ◌+◌, ◌==◌, false, not, List, [], filter, length, Option, if◌then◌else◌}
 use Rattle.std.specs.Option.{is_some, option_map_or}
 use Rattle.field_values.specs.declared.numbers.TheConstants.FieldNo as number
 use Rattle.field_values.specs.declared.rules.Permission.TheVariants as permission
@@ -11,6 +11,7 @@ use Rattle.fields.specs.SetupParts.{names_in}
 use Rattle.change_history.specs.declared.change.Change.{Change}
 use Rattle.change_history.specs.History.{History}
 use Rattle.workflow.specs.Same.{is_empty}
+use Rattle.rank_strings.specs.Rank.{RankParts}
 use Rattle.tracker_calls.specs.declared.given.GivenField.{GivenField}
 use Rattle.tracker_calls.specs.declared.reply.Answer.TheVariants as answer
 use Rattle.tracker_calls.specs.declared.reply.Refusal.{Refusal}
@@ -24,6 +25,7 @@ use Rattle.tracker_machine.specs.Known.{project_keys, known_place, next_key}
 use Rattle.tracker_machine.specs.Wanted.{given_for, wanted_or, wanted_given, wanted_in, changes_of}
 use Rattle.tracker_machine.specs.Checks.{or_then, unless_known, set_refusal, permission_refusal, issues_refusal, bytes_refusal, values_refusal}
 use Rattle.tracker_machine.specs.Effect.Effect.{NewIssue}
+use Rattle.tracker_machine.specs.Rank.{with_given, last_rank}
 use Rattle.tracker_machine.specs.Meaning.{Meaning, unless}
 use Rattle.tracker_machine.specs.Meaning.Meaning.{Makes}
 
@@ -80,12 +82,13 @@ opening_history m caller key opening = record {
 abbrev pub opened : Machine → ℕ → List ℕ → List Change → History
 opened m caller project opening = opening_history m caller (next_key m project) opening
 
--- an issue of the project of that key, with these values
-abbrev pub created : Machine → ℕ → List ℕ → List Change → Meaning
-created m caller project changes =
-    Makes (answer.Create false (m.change + 1) (next_key m project)) (NewIssue (opened m caller project (filled changes)))
+-- an issue of the project of that key, with these values, of this rank
+abbrev pub created : Machine → ℕ → List ℕ → List Change → RankParts → Meaning
+created m caller project changes rank =
+    Makes (answer.Create false (m.change + 1) (next_key m project)) (NewIssue (opened m caller project (filled changes)) rank)
 
 abbrev pub create_meaning : Machine → ℕ → List ℕ → List ℕ → List ℕ → List GivenField → Meaning
 create_meaning m caller project issue_type summary set =
     unless (create_refusal m caller project issue_type summary set)
-    (created m caller (spelled_key m project) (changes_of (names_in m.setup) (create_wants m.setup caller issue_type summary set)))
+    (with_given (last_rank m)
+    (created m caller (spelled_key m project) (changes_of (names_in m.setup) (create_wants m.setup caller issue_type summary set))))

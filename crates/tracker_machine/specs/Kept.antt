@@ -8,7 +8,10 @@ use Rattle.fields.specs.SetupParts.{names_in}
 use Rattle.change_history.specs.declared.entry.Entry.{Entry}
 use Rattle.change_history.specs.declared.entry.Group.{Group}
 use Rattle.change_history.specs.History.{History}
-use Rattle.rank_balancer.specs.declared.balance.Balance.TheVariants.{Idle}
+use Rattle.field_values.specs.declared.numbers.IssueNo.{IssueNo}
+use Rattle.rank_strings.specs.Rank.{RankParts}
+use Rattle.board.specs.Order.{Pair, rank_in}
+use Rattle.rank_balancer.specs.Step.{Move}
 use Rattle.tracker_keeper.specs.declared.row.RowOp.{RowOp}
 use Rattle.tracker_keeper.specs.declared.row.RowOp.TheVariants.{Put}
 use Rattle.tracker_keeper.specs.declared.part.Part.{Part}
@@ -18,17 +21,17 @@ use Rattle.tracker_keeper.specs.Parts.{part_kind, part_number}
 use Rattle.tracker_keeper.specs.Bodies.{body_text}
 use Rattle.tracker_keeper.specs.Rows.{Rows}
 use Rattle.tracker_machine.specs.Machine.{Machine}
-use Rattle.tracker_machine.specs.Effect.{Effect, with_issue, with_group}
-use Rattle.tracker_machine.specs.Effect.Effect.{NewMoment, NewIssue, NewGroup}
+use Rattle.tracker_machine.specs.Effect.{Effect, with_issue, with_group, with_balance, with_moves}
+use Rattle.tracker_machine.specs.Effect.Effect.{NewMoment, NewIssue, NewGroup, NewRank, NewBalance, NewRanks}
 
 -- ---- parts
 
 abbrev pub setup_part : Machine → Part
 setup_part m = part.Setup m.text
 
--- where the tracker stands; as nothing has a rank yet, the balance is at rest
+-- where the tracker stands
 abbrev pub present_part : Machine → Part
-present_part m = part.Present (Idle 0) m.change First m.moment
+present_part m = part.Present m.balance m.change First m.moment
 
 -- an issue as it was created
 abbrev pub issue_part : History → Part
@@ -37,6 +40,9 @@ issue_part h = part.Issue h.no h.key h.change h.at h.author h.opening
 -- a change group of an issue
 abbrev pub group_part : History → Group → Part
 group_part h group = part.Group h.no group
+
+abbrev pub rank_part : IssueNo → RankParts → Part
+rank_part issue rank = part.Rank issue rank
 
 -- ---- the part of each kind and number
 
@@ -62,12 +68,17 @@ abbrev pub group_numbered : List History → ℕ → Option Part
 group_numbered [] number = None
 group_numbered (h ∷ hs) number = option_or (issue_group number h) (group_numbered hs number)
 
+-- the rank of the issue of a number
+abbrev pub rank_numbered : List Pair → ℕ → Option Part
+rank_numbered order number = option_map (rank_part (record { 0 = number })) (rank_in order number)
+
 unfoldable pub part_at : Machine → ℕ → ℕ → Option Part
 part_at m kind number =
     if (kind == 1) && (number == 0) then Some (setup_part m)
     else if (kind == 2) && (number == 0) then Some (present_part m)
     else if kind == 3 then option_map issue_part (issue_numbered m.histories number)
     else if kind == 4 then group_numbered m.histories number
+    else if kind == 5 then rank_numbered m.order number
     else None
 
 -- ---- rows
@@ -89,11 +100,18 @@ put_parts setup ps = map (put_part (names_in setup)) ps
 abbrev pub group_parts : List History → ℕ → Group → List Part
 group_parts histories place group = option_map_or (λ h. group_part h group ∷ []) (slice_get histories place) []
 
--- the parts that an effect changes or makes, by kind; the number of the last change is always in one of them
+-- the ranks that moves give
+abbrev pub rank_parts : List Move → List Part
+rank_parts moves = map (λ move. rank_part move.0 move.1) moves
+
+-- the parts that an effect changes or makes, by kind
 unfoldable pub parts_of : Effect → Machine → List Part
 parts_of (NewMoment to) m = present_part (record m { moment = to }) ∷ []
-parts_of (NewIssue h) m = present_part (with_issue m h) ∷ issue_part h ∷ []
+parts_of (NewIssue h rank) m = present_part (with_issue m h rank) ∷ issue_part h ∷ rank_part h.no rank ∷ []
 parts_of (NewGroup place group) m = present_part (with_group m place group) ∷ group_parts m.histories place group
+parts_of (NewRank issue rank) m = rank_part issue rank ∷ []
+parts_of (NewBalance balance) m = present_part (with_balance m balance) ∷ []
+parts_of (NewRanks moves) m = present_part (with_moves m moves) ∷ rank_parts moves
 
 -- the operations that keep an effect
 unfoldable pub ops_of : Effect → Machine → List RowOp

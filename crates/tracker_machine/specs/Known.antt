@@ -1,14 +1,14 @@
 -- What names stand for.
-use Rattle.std.specs.Prelude.{ℕ, suc, ◌+◌, ◌==◌, Bool, false, List, [], ◌∷◌, map, sum_by, slice_get, unwrap_or, Option, Some, None, option_map, option_and_then, if◌then◌else◌}
+use Rattle.std.specs.Prelude.{ℕ, suc, ◌+◌, ◌-◌, ◌==◌, Bool, false, List, [], ◌∷◌, map, sum_by, slice_get, unwrap_or, Option, Some, None, option_map, option_and_then, if◌then◌else◌}
 use Rattle.std.specs.Option.{is_some, option_map_or}
 use Rattle.std.specs.Str.{bytes_eq}
 use Rattle.field_values.specs.declared.field.Field.{Field}
-use Rattle.field_forms.specs.Cuts.{cut_at}
 use Rattle.field_forms.specs.Known.{field_named}
 use Rattle.field_forms.specs.Names.{place_named}
 use Rattle.field_values.specs.Parts.{Parts}
 use Rattle.fields.specs.Naming.{key_of}
 use Rattle.change_history.specs.History.{History}
+use Rattle.jql_meaning.specs.Comparison.{project_of}
 use Rattle.tracker_machine.specs.Machine.{Machine}
 
 abbrev pub project_keys : Parts → List (List ℕ)
@@ -38,9 +38,9 @@ place_of_issue name (h ∷ hs) = if bytes_eq h.key name then Some 0 else option_
 abbrev pub history_named : Machine → List ℕ → Option History
 history_named m name = option_and_then (λ place. slice_get m.histories place) (place_of_issue name m.histories)
 
--- the key of an issue's project, which stands before the first hyphen
-abbrev pub project_of : List ℕ → List ℕ
-project_of key = option_map_or (λ parts. parts.0) (cut_at 45 key) key
+-- the key of the issue of a number, which stands at the place before it
+abbrev pub key_numbered : List History → ℕ → List ℕ
+key_numbered histories number = option_map_or (λ h. h.key) (slice_get histories (number - 1)) []
 
 -- how many issues a project has
 abbrev pub issues_of : List ℕ → List History → ℕ

@@ -8,10 +8,14 @@ pub mod Tracker
 pub mod Effect
 pub mod Kept
 pub mod Meaning
+pub mod Rank
 pub mod Group
 pub mod Create
 pub mod Edit
 pub mod Transition
+pub mod Move
+pub mod Ranks
+pub mod Rebalance
 pub mod Show
 pub mod Entries
 pub mod Tick
@@ -20,3 +24,4 @@ pub mod Search
 pub mod Step
 pub mod Run
 pub mod Laws
+pub mod RankLaws

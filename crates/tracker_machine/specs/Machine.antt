@@ -2,6 +2,9 @@
 use Rattle.std.specs.Prelude.{ℕ, List, []}
 use Rattle.field_values.specs.Parts.{Parts}
 use Rattle.change_history.specs.History.{History}
+use Rattle.board.specs.Order.{Pair}
+use Rattle.rank_balancer.specs.declared.balance.Balance.{Balance}
+use Rattle.rank_balancer.specs.declared.balance.Balance.TheVariants.{Idle}
 
 pub record Machine : Type 0 where
   -- the text of the setup, and its parts
@@ -12,7 +15,18 @@ pub record Machine : Type 0 where
   pub change : ℕ
   -- the issues, by their numbers from 1
   pub histories : List History
+  -- their ranks, the top of a board first, and in which buckets these are
+  pub order : List Pair
+  pub balance : Balance
 
 -- a new tracker of this setup
 abbrev pub opening : List ℕ → Parts → Machine
-opening text setup = record { text = text; setup = setup; moment = 0; change = 0; histories = [] }
+opening text setup = record {
+  text = text;
+  setup = setup;
+  moment = 0;
+  change = 0;
+  histories = [];
+  order = [];
+  balance = Idle 0;
+}

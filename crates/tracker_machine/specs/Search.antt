@@ -1,13 +1,14 @@
 -- The call `search`: the issues of which a query holds now.
-use Rattle.std.specs.Prelude.{ℕ, Bool, ◌&&◌, List, [], map, filter, length, Option, Some, None, Result, Ok, Err}
-use Rattle.std.specs.Ordering.{is_lt}
-use Rattle.std.specs.declared.cmp.Ordering.TheVariants.{Equal}
+use Rattle.std.specs.Prelude.{ℕ, Bool, ◌&&◌, List, [], map, filter, length, Option, Result, Ok, Err}
+use Rattle.std.specs.Ordering.{is_lt, nat_cmp}
+use Rattle.std.specs.declared.cmp.Ordering.{Ordering}
 use Rattle.field_values.specs.declared.rules.Permission.TheVariants as permission
 use Rattle.field_values.specs.Parts.{Parts}
 use Rattle.field_values.specs.Words.{day_number}
 use Rattle.setup_drafts.specs.Offsets.{zone_of}
 use Rattle.fields.specs.SetupParts.{may}
 use Rattle.change_history.specs.History.{History}
+use Rattle.board.specs.Order.{Pair, places_before}
 use Rattle.workflow.specs.Conditions.{project_number}
 use Rattle.jql_syntax.specs.Either.{QueryOrFault, text_is, text_has}
 use Rattle.jql_syntax.specs.Fault.{number_of_kind as number_of_text_fault}
@@ -70,16 +71,20 @@ is_found m caller condition h =
 unfoldable pub found : Machine → ℕ → Option Condition → List History
 found m caller condition = filter (is_found m caller condition) m.histories
 
--- the issues in the order of the sort keys, and by number where none of these tells them apart; there are no ranks yet
-abbrev pub comes_before : Parts → List OrderKey → History → History → Bool
-comes_before setup keys one other = is_lt (issue_cmp setup keys Equal one other)
+-- how two issues stand in the order of ranks, the top of a board first
+abbrev pub ranks_cmp : List Pair → History → History → Ordering
+ranks_cmp order one other = nat_cmp (places_before order one.no.0) (places_before order other.no.0)
 
-unfoldable pub listed : Parts → List OrderKey → List History → List History
-listed setup keys histories = in_order (comes_before setup keys) histories
+-- the issues in the order of the sort keys, and by number where none of these tells them apart
+abbrev pub comes_before : Parts → List OrderKey → List Pair → History → History → Bool
+comes_before setup keys order one other = is_lt (issue_cmp setup keys (ranks_cmp order one other) one other)
+
+unfoldable pub listed : Parts → List OrderKey → List Pair → List History → List History
+listed setup keys order histories = in_order (comes_before setup keys order) histories
 
 abbrev pub search_answer : Machine → ℕ → Part → Query → Answer
 search_answer m caller part query =
-    answer.Search (map (λ h. h.key) (part_of part (listed m.setup query.keys (found m caller query.condition)))) (length (found m caller query.condition))
+    answer.Search (map (λ h. h.key) (part_of part (listed m.setup query.keys m.order (found m caller query.condition)))) (length (found m caller query.condition))
 
 -- the issues that a query finds, or its fault
 abbrev pub searched : Machine → ℕ → Part → Result Query Refusal → Meaning

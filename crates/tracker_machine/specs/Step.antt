@@ -6,12 +6,15 @@ use Rattle.tracker_calls.specs.declared.reply.Refusal.{Refusal}
 use Rattle.tracker_calls.specs.declared.reply.Reply.{Reply}
 use Rattle.tracker_machine.specs.Machine.{Machine}
 use Rattle.tracker_machine.specs.Known.{known_place}
-use Rattle.tracker_machine.specs.Checks.{caller_refusal, twins_refusal, part_refusal}
+use Rattle.tracker_machine.specs.Checks.{caller_refusal, twins_refusal, part_refusal, count_refusal, other_refusal}
 use Rattle.tracker_machine.specs.Meaning.{Meaning, unless, reply_to, next_after, allowance, Performs}
 use Rattle.tracker_machine.specs.Create.{create_meaning}
 use Rattle.tracker_machine.specs.Edit.{edit_meaning}
 use Rattle.tracker_machine.specs.Transition.{transition_meaning}
 use Rattle.tracker_machine.specs.Tick.{tick_meaning}
+use Rattle.tracker_machine.specs.Move.{move_before_meaning, move_after_meaning}
+use Rattle.tracker_machine.specs.Ranks.{ranks_meaning}
+use Rattle.tracker_machine.specs.Rebalance.{rebalance_start_meaning, rebalance_step_meaning, balance_meaning}
 use Rattle.tracker_machine.specs.Show.{show_meaning}
 use Rattle.tracker_machine.specs.Entries.{history_meaning}
 use Rattle.tracker_machine.specs.Search.{search_meaning}
@@ -25,6 +28,12 @@ meaning_for m user (call.Tick to) = tick_meaning m to
 meaning_for m user (call.Show issue) = show_meaning m user issue
 meaning_for m user (call.History issue part) = history_meaning m user issue part
 meaning_for m user (call.Search jql part) = search_meaning m user jql part
+meaning_for m user (call.MoveBefore issue other) = move_before_meaning m user issue other
+meaning_for m user (call.MoveAfter issue other) = move_after_meaning m user issue other
+meaning_for m user (call.Ranks part) = ranks_meaning m user part
+meaning_for m user call.RebalanceStart = rebalance_start_meaning m user
+meaning_for m user (call.RebalanceStep count) = rebalance_step_meaning m user count
+meaning_for m user call.Balance = balance_meaning m
 
 -- the fault of a call's form; a call that was read from a line has none
 unfoldable pub form_refusal : Call → Option Refusal
@@ -33,6 +42,10 @@ form_refusal (call.Edit issue set) = twins_refusal set
 form_refusal (call.Transition issue transition set) = twins_refusal set
 form_refusal (call.History issue part) = part_refusal 50 part
 form_refusal (call.Search jql part) = part_refusal 1_000 part
+form_refusal (call.MoveBefore issue other) = other_refusal issue other
+form_refusal (call.MoveAfter issue other) = other_refusal issue other
+form_refusal (call.Ranks part) = part_refusal 1_000 part
+form_refusal (call.RebalanceStep count) = count_refusal 1_000 count
 form_refusal _ = None
 
 -- the caller by place

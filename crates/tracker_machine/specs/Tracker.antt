@@ -16,6 +16,7 @@ use Rattle.workflow.specs.Laws.{AllFit}
 use Rattle.fields.specs.SetupParts.{names_in}
 use Rattle.fields.specs.Naming.{name_at, key_of}
 use Rattle.tracker_keeper.specs.Forms.{is_small, are_opening}
+use Rattle.tracker_ranks.specs.Ranked.{IsRanked}
 use Rattle.tracker_machine.specs.Machine.{Machine}
 use Rattle.tracker_machine.specs.Known.{project_keys, issues_of}
 use Rattle.tracker_machine.specs.Checks.{entries_kept, bytes_kept, history_bytes, entry_bytes}
@@ -96,6 +97,12 @@ abbrev pub AreKeyed : Parts → List History → List History → Type 0
 AreKeyed setup before [] = Unit {0}
 AreKeyed setup before (h ∷ hs) = IsNextKey setup before h.key × AreKeyed setup (before ++ h ∷ []) hs
 
+-- issues are numbered from 1; each has one rank, no two have the same, and the ranks agree with the balance
+pub record HasRanks (m : Machine) : Type 0 where
+  pub numbers : RunsFrom 1 (map (λ h. h.no.0) m.histories)
+  pub each : length m.order ≡ length m.histories
+  pub ranked : IsRanked m.order m.balance
+
 -- what holds of every tracker
 pub record IsTracker (m : Machine) : Type 0 where
   pub few_issues : length m.histories ≤ 50_000
@@ -103,8 +110,10 @@ pub record IsTracker (m : Machine) : Type 0 where
   pub few_bytes : bytes_kept m.histories ≤ 500_000_000
   -- now is in the year 2099 at the latest
   pub timely : m.moment ≤ last_second
-  -- issues are numbered from 1, and their keys are counted for each project
+  -- issues are numbered from 1, each has its rank, and their keys are counted for each project
   pub numbers : RunsFrom 1 (map (λ h. h.no.0) m.histories)
+  pub each : length m.order ≡ length m.histories
+  pub ranked : IsRanked m.order m.balance
   pub keys : AreKeyed m.setup [] m.histories
   -- the number of the last change is at most that of the issues and the groups, and the creations are by rising numbers
   pub numbered : m.change ≤ length m.histories + groups_kept m.histories

@@ -7,6 +7,7 @@ mod wanted;
 
 pub use laws::{
     effects_keep_trackers, first_name_is_least, keeper_text_is_its_own, memory_text_is_its_own,
-    operations_are_small, operations_keep_effects, parts_may_be_kept,
+    moves_are_of_one_issue, operations_are_small, operations_keep_effects, parts_may_be_kept,
+    ranks_stay_distinct, rebalancing_shows_in_ranks_alone, rebalancings_end,
 };
 pub use wanted::Wanted;

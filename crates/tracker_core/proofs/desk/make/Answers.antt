@@ -1,6 +1,6 @@
 use Rattle.std.proofs.Common.{subst}
 use Rattle.tracker_machine.specs.Kept.{rows_of}
-use Rattle.tracker_core.specs.Plan.{effect_of}
+use Rattle.tracker_state.specs.Plan.{effect_of}
 use Rattle.tracker_core.proofs.Desks.{small_ops, rows_after}
 use Rattle.tracker_core.proofs.desk.make.Goals as goal
 

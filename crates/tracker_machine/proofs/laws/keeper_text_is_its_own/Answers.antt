@@ -22,8 +22,10 @@ its_own (reply.Refused (refusal.Condition k)) e = absurd (apart 105 110 (lit< tt
 its_own (reply.Refused (refusal.Validator k)) e = absurd (apart 105 110 (lit< tt) (ap (λ l. slice_index l 13) e))
 its_own (reply.Refused (refusal.Unfit f)) e = absurd (apart 102 110 (lit< tt) (ap (λ l. slice_index l 13) e))
 its_own (reply.Refused (refusal.Query k p)) e = absurd (apart 107 110 (lit< tt) (ap (λ l. slice_index l 13) e))
+its_own (reply.Refused (refusal.NoRoom low high)) e = absurd (apart 104 110 (lit< tt) (ap (λ l. slice_index l 13) e))
 its_own (reply.Refused (refusal.Limit l)) e = absurd (apart 108 110 (lit< tt) (ap (λ l. slice_index l 13) e))
 its_own (reply.Refused (refusal.Earlier k)) e = absurd (apart 107 110 (lit< tt) (ap (λ l. slice_index l 13) e))
+its_own (reply.Refused (refusal.BalanceIs balance)) e = absurd (apart 107 110 (lit< tt) (ap (λ l. slice_index l 13) e))
 its_own (reply.Refused refusal.Keeper) e = refl
 its_own (reply.Refused refusal.Memory) e = absurd (apart 52 53 (lit< tt) (sym (ap (λ l. slice_index l 18) e)))
 

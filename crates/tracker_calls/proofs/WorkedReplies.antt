@@ -1,0 +1,48 @@
+-- Texts of replies about ranks and their balance.
+use Rattle.std.proofs.Common.{◌≡◌, [], ◌∷◌, codes, Some, None, true, false, refl}
+use Rattle.std.specs.Fmt.{digits}
+use Rattle.serde_json.proofs.OnLiterals.{serde_json_on_literals}
+use Rattle.tracker_calls.specs.Reply.{reply_text}
+use Rattle.tracker_calls.specs.declared.reply.Reply.TheVariants as reply
+use Rattle.tracker_calls.specs.declared.reply.Answer.TheVariants as answer
+use Rattle.tracker_calls.specs.declared.reply.Refusal.TheVariants as refusal
+use Rattle.tracker_calls.specs.declared.reply.BalanceState.TheVariants as state
+use Rattle.tracker_calls.specs.declared.reply.BalanceKept.TheVariants as kept
+
+pub a_move : reply_text (reply.Ok (answer.Move (codes "OPS-2") (codes "1|qzzncw:"))) ≡ codes "{\"ok\":{\"issue\":\"OPS-2\",\"rank\":\"1|qzzncw:\"}}"
+unfolding digits serde_json_on_literals reply_text
+a_move = refl
+
+pub some_ranks : reply_text (reply.Ok (answer.Ranks (record { issue = codes "OPS-2"; rank = codes "1|qzzncw:" } ∷ record { issue = codes "OPS-1"; rank = codes "1|r00000:" } ∷ []) 2))
+    ≡ codes "{\"ok\":{\"ranks\":[[\"OPS-2\",\"1|qzzncw:\"],[\"OPS-1\",\"1|r00000:\"]],\"total\":2}}"
+unfolding digits serde_json_on_literals reply_text
+some_ranks = refl
+
+pub a_start : reply_text (reply.Ok (answer.RebalanceStart 2 0)) ≡ codes "{\"ok\":{\"from\":2,\"to\":0}}"
+unfolding digits serde_json_on_literals reply_text
+a_start = refl
+
+pub a_step : reply_text (reply.Ok (answer.RebalanceStep 3 1000)) ≡ codes "{\"ok\":{\"left\":3,\"moved\":1000}}"
+unfolding digits serde_json_on_literals reply_text
+a_step = refl
+
+pub an_idle_balance : reply_text (reply.Ok (answer.Balance (state.Idle 1) 9 false)) ≡ codes "{\"ok\":{\"bucket\":1,\"longest\":9,\"offer\":false,\"state\":\"idle\"}}"
+unfolding digits serde_json_on_literals reply_text
+an_idle_balance = refl
+
+pub a_moving_balance : reply_text (reply.Ok (answer.Balance (state.Moving 0 7 1) 128 true))
+    ≡ codes "{\"ok\":{\"from\":0,\"left\":7,\"longest\":128,\"offer\":true,\"state\":\"moving\",\"to\":1}}"
+unfolding digits serde_json_on_literals reply_text
+a_moving_balance = refl
+
+pub no_room : reply_text (reply.Refused (refusal.NoRoom None (Some (codes "0|000001:")))) ≡ codes "{\"refused\":{\"high\":\"0|000001:\",\"low\":null,\"no\":8}}"
+unfolding digits serde_json_on_literals reply_text
+no_room = refl
+
+pub idle_already : reply_text (reply.Refused (refusal.BalanceIs (kept.Idle 1))) ≡ codes "{\"refused\":{\"kept\":\"idle 1\",\"no\":12}}"
+unfolding digits serde_json_on_literals reply_text
+idle_already = refl
+
+pub moving_already : reply_text (reply.Refused (refusal.BalanceIs (kept.Moving 0 1))) ≡ codes "{\"refused\":{\"kept\":\"moving 0 1\",\"no\":12}}"
+unfolding digits serde_json_on_literals reply_text
+moving_already = refl

@@ -1,0 +1,129 @@
+-- Calls whose effects change no rank.
+use Rattle.std.proofs.Common.{◌≡◌, ℕ, ◌==◌, Bool, true, false, List, [], ◌∷◌, ◌+◌, slice_get, set, Option, Some, None, Result, Ok, Err, refl, sym, subst, arith}
+use Rattle.std.specs.Prelude.{if◌then◌else◌}
+use Rattle.std.specs.Option.{option_map_or}
+use Rattle.std.proofs.lemmas.List.{length-set}
+use Rattle.field_values.specs.declared.rules.Permission.TheVariants as permission
+use Rattle.change_history.specs.declared.change.Change.{Change}
+use Rattle.change_history.specs.declared.entry.Group.{Group}
+use Rattle.change_history.specs.History.{History}
+use Rattle.tracker_calls.specs.declared.call.Part.{Part}
+use Rattle.tracker_calls.specs.declared.given.GivenField.{GivenField}
+use Rattle.tracker_calls.specs.declared.reply.Answer.{Answer}
+use Rattle.tracker_calls.specs.declared.reply.Answer.TheVariants as answer
+use Rattle.tracker_calls.specs.declared.reply.Refusal.{Refusal}
+use Rattle.tracker_machine.specs.Machine.{Machine}
+use Rattle.tracker_machine.specs.Known.{place_of_issue, history_named}
+use Rattle.tracker_machine.specs.Tracker.{RunsFrom, HasRanks}
+use Rattle.tracker_machine.specs.Effect.{Effect, applied, longer, with_group}
+use Rattle.tracker_machine.specs.Effect.Effect.{NewMoment, NewIssue, NewGroup, NewRank, NewBalance, NewRanks}
+use Rattle.tracker_machine.specs.Meaning.{Meaning, unless, next_after}
+use Rattle.tracker_machine.specs.Meaning.Meaning.{Refuses, Tells, Finds, Makes}
+use Rattle.tracker_machine.specs.Group.{grouped, grouped_at}
+use Rattle.tracker_machine.specs.Edit.{edit_meaning, edit_refusal, edit_answer, edit_news}
+use Rattle.tracker_machine.specs.Transition.{transition_meaning, transition_refusal, transition_answer, transition_news, transition_named}
+use Rattle.tracker_machine.specs.Tick.{tick_meaning, tick_refusal, ticked}
+use Rattle.tracker_machine.specs.Checks.{permission_refusal}
+use Rattle.tracker_machine.specs.Show.{show_meaning, show_refusal, show_answer_of}
+use Rattle.tracker_machine.specs.Entries.{history_meaning, history_refusal, history_answer_of}
+use Rattle.tracker_machine.specs.Ranks.{ranks_meaning, ranks_answer}
+use Rattle.tracker_machine.specs.Search.{Query, search_meaning, searched, asked}
+use Rattle.tracker_machine.proofs.Tracker.{stays}
+
+-- ---- what a call means
+
+abbrev IsPlainEffect : Effect → Type 0
+IsPlainEffect (NewMoment to) = Unit {0}
+IsPlainEffect (NewIssue h rank) = ⊥
+IsPlainEffect (NewGroup place group) = Unit {0}
+IsPlainEffect (NewRank issue rank) = ⊥
+IsPlainEffect (NewBalance balance) = ⊥
+IsPlainEffect (NewRanks moves) = ⊥
+
+abbrev pub IsPlain : Meaning → Type 0
+IsPlain (Refuses r) = Unit {0}
+IsPlain (Tells a) = Unit {0}
+IsPlain (Finds a) = Unit {0}
+IsPlain (Makes a effect) = IsPlainEffect effect
+
+pub unless_plain : (r : Option Refusal) (due : Meaning) → IsPlain due → IsPlain (unless r due)
+unless_plain None due plain = plain
+unless_plain (Some r) due plain = tt
+
+-- ---- calls
+
+grouped_plain : (to_answer : Option ℕ → Answer) (m : Machine) (caller place : ℕ) (h : History) (changes : List Change) → IsPlain (grouped to_answer m caller place h changes)
+grouped_plain to_answer m caller place h [] = tt
+grouped_plain to_answer m caller place h (c ∷ cs) = tt
+
+grouped_at_plain : (to_answer : Option ℕ → Answer) (m : Machine) (caller : ℕ) (place : Option ℕ) (h : Option History) (changes : List Change)
+    → IsPlain (grouped_at to_answer m caller place h changes)
+grouped_at_plain to_answer m caller None h changes = tt
+grouped_at_plain to_answer m caller (Some place) None changes = tt
+grouped_at_plain to_answer m caller (Some place) (Some h) changes = grouped_plain to_answer m caller place h changes
+
+pub edit_plain : (m : Machine) (caller : ℕ) (issue : List ℕ) (given : List GivenField) → IsPlain (edit_meaning m caller issue given)
+edit_plain m caller issue given =
+    unless_plain (edit_refusal m caller issue given)
+    (grouped_at (edit_answer issue) m caller (place_of_issue issue m.histories) (history_named m issue) (edit_news m given (history_named m issue)))
+    (grouped_at_plain (edit_answer issue) m caller (place_of_issue issue m.histories) (history_named m issue) (edit_news m given (history_named m issue)))
+
+pub transition_plain : (m : Machine) (caller : ℕ) (issue transition : List ℕ) (given : List GivenField) → IsPlain (transition_meaning m caller issue transition given)
+transition_plain m caller issue transition given =
+    let changes : List Change = transition_news m caller given (history_named m issue) (transition_named m transition) in
+    unless_plain (transition_refusal m caller issue transition given)
+    (grouped_at (transition_answer issue) m caller (place_of_issue issue m.histories) (history_named m issue) changes)
+    (grouped_at_plain (transition_answer issue) m caller (place_of_issue issue m.histories) (history_named m issue) changes)
+
+pub tick_plain : (m : Machine) (to : ℕ) → IsPlain (tick_meaning m to)
+tick_plain m to = unless_plain (tick_refusal m to) (ticked m to) (by (to == m.moment))
+  where
+    by : (there : Bool) → IsPlain (if there then Tells (answer.Tick to) else Makes (answer.Tick to) (NewMoment to))
+    by true = tt
+    by false = tt
+
+pub search_plain : (m : Machine) (caller : ℕ) (jql : List ℕ) (part : Part) → IsPlain (search_meaning m caller jql part)
+unfolding search_meaning
+search_plain m caller jql part = by (asked m.setup caller jql)
+  where
+    by : (query : Result Query Refusal) → IsPlain (searched m caller part query)
+    by (Err r) = tt
+    by (Ok query) = tt
+
+pub show_plain : (m : Machine) (caller : ℕ) (issue : List ℕ) → IsPlain (show_meaning m caller issue)
+show_plain m caller issue = unless_plain (show_refusal m caller issue) (Tells (show_answer_of m (history_named m issue))) tt
+
+pub history_plain : (m : Machine) (caller : ℕ) (issue : List ℕ) (part : Part) → IsPlain (history_meaning m caller issue part)
+history_plain m caller issue part = unless_plain (history_refusal m caller issue) (Tells (history_answer_of m part (history_named m issue))) tt
+
+pub ranks_plain : (m : Machine) (caller : ℕ) (part : Part) → IsPlain (ranks_meaning m caller part)
+ranks_plain m caller part = unless_plain (permission_refusal m caller permission.Administer None) (Tells (ranks_answer m part)) tt
+
+-- ---- ranks stay
+
+group_keeps : (m : Machine) (place : ℕ) (group : Group) → HasRanks m → HasRanks (with_group m place group)
+group_keeps m place group has = by (slice_get m.histories place) refl
+  where
+    by : (o : Option History) → slice_get m.histories place ≡ o
+        → HasRanks (record m { change = m.change + 1; histories = option_map_or (λ h. set m.histories place (longer h group.entries)) o m.histories })
+    by None at = record { numbers = has.numbers; each = has.each; ranked = has.ranked }
+    by (Some h) at = record {
+      numbers = subst (RunsFrom 1) (sym (stays (λ g. g.no.0) m.histories place h (longer h group.entries) at refl)) has.numbers;
+      each = omega (arith, length-set m.histories place (longer h group.entries), has.each);
+      ranked = has.ranked;
+    }
+
+effect_keeps : (effect : Effect) (m : Machine) → IsPlainEffect effect → HasRanks m → HasRanks (applied effect m)
+unfolding applied
+effect_keeps (NewMoment to) m plain has = record { numbers = has.numbers; each = has.each; ranked = has.ranked }
+effect_keeps (NewIssue h rank) m plain has = absurd plain
+effect_keeps (NewGroup place group) m plain has = group_keeps m place group has
+effect_keeps (NewRank issue rank) m plain has = absurd plain
+effect_keeps (NewBalance balance) m plain has = absurd plain
+effect_keeps (NewRanks moves) m plain has = absurd plain
+
+pub plain_keeps : (due : Meaning) (m : Machine) → IsPlain due → HasRanks m → HasRanks (next_after due m)
+plain_keeps (Refuses r) m plain has = has
+plain_keeps (Tells a) m plain has = has
+plain_keeps (Finds a) m plain has = has
+plain_keeps (Makes a effect) m plain has = effect_keeps effect m plain has

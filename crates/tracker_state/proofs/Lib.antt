@@ -1,0 +1,12 @@
+pub mod Bulk
+pub mod Counting
+pub mod Fitting
+pub mod Grouping
+pub mod Holding
+pub mod Means
+pub mod Named
+pub mod Ops
+pub mod Ranking
+pub mod Rebalancing
+pub mod Resolving
+pub mod States

@@ -1,0 +1,8 @@
+use Rattle.std.proofs.lemmas.Result.{IfOk-weaker}
+use Rattle.fields.specs.SetupParts.{names_in}
+use Rattle.tracker_state.proofs.edit.news.Goals as goal
+
+pub returns-clause-fitting : goal.returns-clause-fitting
+returns-clause-fitting c =
+    let names = names_in c.args.state.now.machine.setup in
+    IfOk-weaker c.news_of.result _ _ (λ net fits. fits names c.requires.fitting) c.news_of.ensures.fitting

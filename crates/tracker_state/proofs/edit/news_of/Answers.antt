@@ -1,0 +1,19 @@
+use Rattle.std.proofs.Common.{List, subst, sym}
+use Rattle.std.proofs.lemmas.Result.{IfOk-weaker}
+use Rattle.change_history.specs.declared.change.Change.{Change}
+use Rattle.change_history.specs.History.{present}
+use Rattle.workflow.specs.Difference.{AreNews}
+use Rattle.workflow.specs.Laws.{AllFit}
+use Rattle.workflow.proofs.Differing.{net_is}
+use Rattle.tracker_state.proofs.Fitting.{fits_net}
+use Rattle.tracker_state.proofs.edit.news_of.Goals as goal
+
+pub returns-clause-news : goal.returns-clause-news
+returns-clause-news c =
+    let before = present c.args.issue.now.history in
+    IfOk-weaker c.net_changes.result _ _ (λ net is. subst (λ (cs : List Change). AreNews before 0 cs) (sym is) (net_is before c.args.changes.items).news) c.net_changes.ensures
+
+pub returns-clause-fitting : goal.returns-clause-fitting
+returns-clause-fitting c =
+    let before = present c.args.issue.now.history in
+    IfOk-weaker c.net_changes.result _ _ (λ net is names fit. subst (λ (cs : List Change). AllFit names cs) (sym is) (fits_net names before c.args.changes.items fit)) c.net_changes.ensures

@@ -1,0 +1,7 @@
+pub mod Check
+pub mod Found
+pub mod Plan
+pub mod Resolved
+pub mod State
+pub mod Wants
+pub mod Weight

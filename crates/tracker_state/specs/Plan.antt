@@ -1,0 +1,114 @@
+-- What a prepared call has ready.
+use Rattle.std.specs.Prelude.{◌≡◌, ◌≢◌, ◌≤◌, ◌<◌, ℕ, List, map, length, sum_by, string_bytes, slice_get, IfSome, Option, Some, None, Result, Ok, Err}
+use Rattle.tracker_calls.specs.declared.reply.Answer.{Answer}
+use Rattle.tracker_calls.specs.declared.reply.Refusal.{Refusal}
+use Rattle.tracker_calls.specs.declared.reply.Refusal.TheVariants as refusal
+use Rattle.serde_json.specs.Written.{compact_text}
+use Rattle.rank_strings.specs.Rank.{RankParts}
+use Rattle.rank_strings.specs.Text.{rank_text}
+use Rattle.rank_balancer.specs.declared.balance.Balance.{Balance}
+use Rattle.rank_balancer.specs.Step.{Move}
+use Rattle.field_values.specs.declared.numbers.IssueNo.{IssueNo}
+use Rattle.tracker_keeper.specs.declared.part.Format.TheVariants.{First}
+use Rattle.tracker_keeper.specs.declared.row.RowOp.{RowOp}
+use Rattle.tracker_keeper.specs.declared.row.Row.{Row}
+use Rattle.field_forms.specs.Known.{Names}
+use Rattle.change_history.specs.declared.entry.Group.{Group}
+use Rattle.change_history.specs.History.{History}
+use Rattle.tracker_keeper.specs.declared.row.RowOp.TheVariants.{Put}
+use Rattle.tracker_keeper.specs.Bodies.{present_data, body_text}
+use Rattle.fields.specs.Naming.{name_at}
+use Rattle.tracker_machine.specs.Known.{project_keys, next_key}
+use Rattle.tracker_machine.specs.Checks.{history_bytes, entry_bytes}
+use Rattle.tracker_machine.specs.Effect.{Effect, IsAllowed}
+use Rattle.tracker_machine.specs.Effect.Effect.{NewMoment, NewIssue, NewGroup, NewRank, NewBalance, NewRanks}
+use Rattle.tracker_machine.specs.Meaning.{Meaning}
+use Rattle.tracker_machine.specs.Kept.{issue_part, group_part, ops_of}
+use Rattle.tracker_machine.specs.Meaning.Meaning.{Refuses, Tells, Finds, Makes}
+use Rattle.tracker_machine.specs.Edit.{edit_answer}
+use Rattle.tracker_machine.specs.Transition.{transition_answer}
+use Rattle.tracker_state.specs.declared.group.GroupCall.{GroupCall}
+use Rattle.tracker_state.specs.declared.group.GroupCall.TheVariants as call
+use Rattle.tracker_state.specs.declared.plan.IssuePlan.{IssuePlan}
+use Rattle.tracker_state.specs.declared.plan.GroupPlan.{GroupPlan}
+use Rattle.tracker_state.specs.declared.plan.Plan.{Plan}
+use Rattle.tracker_state.specs.declared.plan.Plan.TheVariants as plans
+use Rattle.tracker_state.specs.declared.plan.Prepared.{Prepared}
+use Rattle.tracker_state.specs.declared.plan.Prepared.TheVariants.{Tell, Make}
+use Rattle.tracker_state.specs.State.{Held}
+
+abbrev pub effect_of : Plan → Effect
+effect_of (plans.Moment to) = NewMoment to
+effect_of (plans.Issue new) = NewIssue new.issue.history new.rank
+effect_of (plans.Group new) = NewGroup new.place new.group
+effect_of (plans.Rank new) = NewRank new.issue new.rank
+effect_of (plans.Balance balance) = NewBalance balance
+effect_of (plans.Step moves) = NewRanks moves
+
+-- the answer of a call that changes an issue
+abbrev pub group_answer : GroupCall → List ℕ → Option ℕ → Answer
+group_answer call.Edit issue number = edit_answer issue number
+group_answer call.Transition issue number = transition_answer issue number
+
+-- there is room for the issue, its key is the next one of its project, and what is kept beside it is its own
+pub record IssueFits (s : Held) (new : IssuePlan) : Type 0 where
+  pub room : 1 ≤ s.room
+  pub ranks_room : length s.machine.order < s.ranks_room
+  pub key : string_bytes new.key ≡ new.issue.history.key
+  pub there : new.project.0 < length s.machine.setup.project
+  pub next : new.issue.history.key ≡ next_key s.machine (name_at (project_keys s.machine.setup) new.project.0)
+  pub bytes : new.bytes ≡ history_bytes new.issue.history
+
+-- the same of a group
+pub record GroupFits (s : Held) (new : GroupPlan) : Type 0 where
+  pub room : IfSome (slice_get s.rooms new.place) (λ room. length new.group.entries ≤ room)
+  pub bytes : new.bytes ≡ sum_by entry_bytes new.group.entries
+
+-- there is room for what the plan makes
+abbrev pub Fits : Held → Plan → Type 0
+Fits s (plans.Moment to) = Unit {0}
+Fits s (plans.Issue new) = IssueFits s new
+Fits s (plans.Group new) = GroupFits s new
+Fits s (plans.Rank new) = Unit {0}
+Fits s (plans.Balance balance) = Unit {0}
+Fits s (plans.Step moves) = Unit {0}
+
+-- the operation that keeps where the tracker stands
+abbrev pub present_op : Balance → ℕ → ℕ → RowOp
+present_op balance change moment = Put (record { kind = 2; no = 0; body = compact_text (present_data balance change First moment) })
+
+-- the row of an issue as it was created
+abbrev pub issue_row : Names → History → Row
+issue_row names h = record { kind = 3; no = h.no.0; body = body_text names (issue_part h) }
+
+-- and of a change group of an issue
+abbrev pub group_row : Names → History → Group → Row
+group_row names h group = record { kind = 4; no = group.change; body = body_text names (group_part h group) }
+
+-- the operation that keeps an issue's rank
+abbrev pub rank_op : IssueNo → RankParts → RowOp
+rank_op issue rank = Put (record { kind = 5; no = issue.0; body = rank_text rank })
+
+-- those of the ranks that moves give
+abbrev pub rank_ops : List Move → List RowOp
+rank_ops moves = map (λ move. rank_op move.0 move.1) moves
+
+-- a call that makes something has its answer ready, a plan of its effect, which may come and for which there is room, and the
+-- operations that keep it
+pub record IsReady (due : Meaning) (s : Held) (plan : Plan) (answer : Answer) (ops : List RowOp) : Type 0 where
+  pub means : due ≡ Makes answer (effect_of plan)
+  pub keeps : ops ≡ ops_of (effect_of plan) s.machine
+  pub allowed : IsAllowed (effect_of plan) s.machine
+  pub fits : Fits s plan
+
+-- what a call tells that makes nothing
+abbrev pub told : Meaning → Option Answer
+told (Tells a) = Some a
+told (Finds a) = Some a
+told _ = None
+
+-- what a call means is prepared, or there was not enough memory
+abbrev pub IsPrepared : Meaning → Held → Result Prepared Refusal → Type 0
+IsPrepared due s (Ok (Tell answer)) = told due ≡ Some answer
+IsPrepared due s (Ok (Make plan answer rows)) = IsReady due s plan answer rows.items
+IsPrepared due s (Err r) = (r ≢ refusal.Keeper) × (r ≢ refusal.Memory → due ≡ Refuses r)

@@ -1,0 +1,32 @@
+//! The tracker's state: what each call prepares, and how it is installed.
+#![tactic(auto)]
+
+mod check;
+mod create;
+mod edit;
+mod empty;
+mod group;
+mod history;
+mod moves;
+mod names;
+mod no_room;
+mod part;
+mod plan;
+mod preparing;
+mod ranks;
+mod rebalance;
+mod resolved;
+mod rows;
+mod search;
+mod show;
+mod state;
+mod tick;
+mod told;
+mod transition;
+mod wants;
+mod weight;
+
+pub use plan::{GroupPlan, IssuePlan, Plan, Prepared, RankPlan};
+pub use preparing::prepare;
+pub use rows::opening_ops;
+pub use state::State;

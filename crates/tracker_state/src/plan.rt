@@ -1,0 +1,62 @@
+// What is made ready before anything is kept.
+
+use change_history::{Group, Issue};
+use fields::{IssueNo, Moment, ProjectNo};
+use rank_balancer::{Balance, StepPlan};
+use rank_strings::Rank;
+use tracker_calls::Answer;
+use tracker_keeper::RowOp;
+
+/// A new issue with all that is kept of it.
+#[derive(Drop)]
+pub struct IssuePlan {
+    pub issue: Issue,
+    /// Its project.
+    pub project: ProjectNo,
+    /// The text of its key.
+    pub key: String,
+    /// Its text bytes.
+    pub bytes: u64,
+    /// Its rank, behind all others.
+    pub rank: Rank,
+}
+
+/// A change group of the issue at a place.
+#[derive(Drop)]
+pub struct GroupPlan {
+    pub place: usize,
+    pub group: Group,
+    /// The text bytes of its entries.
+    pub bytes: u64,
+}
+
+/// Another rank of an issue.
+#[derive(Drop)]
+pub struct RankPlan {
+    pub issue: IssueNo,
+    pub rank: Rank,
+}
+
+/// An effect with all that was allocated for it.
+#[derive(Drop)]
+pub enum Plan {
+    Moment(Moment),
+    Issue(IssuePlan),
+    Group(GroupPlan),
+    Rank(RankPlan),
+    /// A rebalancing begins, with this balance.
+    Balance(Balance),
+    /// A step of a rebalancing.
+    Step(StepPlan),
+}
+
+/// What comes of preparing a call: an answer alone, or a plan with its answer and the operations that keep it.
+#[derive(Drop)]
+pub enum Prepared {
+    Tell(Answer),
+    Make {
+        plan: Plan,
+        answer: Answer,
+        rows: Vec<RowOp>,
+    },
+}

@@ -1,0 +1,175 @@
+// What is done before anything is kept: looks, refusals, and all memory.
+ghost use Rattle.std.specs.Prelude.{◌≡◌, ◌≤◌, ◌<◌, ◌+◌, None, length, option_map, IfOk};
+ghost use Rattle.tracker_calls.specs.Part.{part_fault};
+ghost use Rattle.tracker_machine.specs.Checks.{count_refusal, other_refusal, twins_refusal};
+ghost use Rattle.tracker_machine.specs.Meaning.{allowance};
+ghost use Rattle.tracker_machine.specs.Step.{meaning, meaning_for, form_refusal};
+ghost use Rattle.tracker_state.specs.Plan.{IsPrepared};
+
+use crate::check::{malformed, unknown};
+use crate::create::create;
+use crate::edit::edit;
+use crate::history::history;
+use crate::moves::{move_after, move_before};
+use crate::plan::Prepared;
+use crate::ranks::ranks;
+use crate::rebalance::{balance, rebalance_start, rebalance_step};
+use crate::search::search;
+use crate::show::show;
+use crate::state::State;
+use crate::tick::tick;
+use crate::transition::transition;
+use fields::{Memory, Steps, UserNo};
+use std::alloc::Global;
+use std::sync::ledger::Ledger;
+use tracker_calls::{
+    Call, GivenField, MOST_ENTRIES, MOST_FROM, MOST_LISTED, Part, Refusal, Thing, UserName,
+    has_twins,
+};
+
+/// Prepares a call of somebody of that name: the tracker stays as it is, and there is room for what the call makes.
+#[tactic(auto, unfolding(tracker_machine::specs::Step::meaning))]
+pub fn prepare<L: Ledger>(
+    alloc: Global,
+    state: &mut State,
+    caller: &UserName,
+    call: &Call,
+    steps: &mut Steps<L>,
+) -> Result<Prepared, Refusal>
+    ensures same { state.new.machine ≡ state.old.machine }
+    ensures prepared { IsPrepared (meaning state.old.machine caller.now call.now) state.new result }
+    ensures steps { steps.new ≤ steps.old + allowance (meaning state.old.machine caller.now call.now) state.old.machine }
+{
+    match fault_of_form(alloc, call) {
+        Ok(None) => {}
+        Ok(Some(member)) => return Err(malformed(alloc, member)),
+        Err(_) => return Err(Refusal::Memory),
+    }
+    let Some(user) = state.user_named(caller.as_str()) else {
+        return Err(unknown(alloc, Thing::User, caller.as_str()));
+    };
+    prepare_for(alloc, state, user, call, steps)
+}
+
+// Prepares a call of that user.
+#[tactic(auto, unfolding(tracker_machine::specs::Step::meaning_for))]
+fn prepare_for<L: Ledger>(
+    alloc: Global,
+    state: &mut State,
+    user: UserNo,
+    call: &Call,
+    steps: &mut Steps<L>,
+) -> Result<Prepared, Refusal>
+    requires user { user.0 < length state.old.machine.setup.users }
+    requires form { form_refusal call.now ≡ None }
+    ensures same { state.new.machine ≡ state.old.machine }
+    ensures prepared { IsPrepared (meaning_for state.old.machine user.0 call.now) state.new result }
+    ensures steps { steps.new ≤ steps.old + allowance (meaning_for state.old.machine user.0 call.now) state.old.machine }
+{
+    match call {
+        Call::Create {
+            project,
+            issue_type,
+            summary,
+            set,
+        } => create(
+            alloc,
+            state,
+            user,
+            project.as_str(),
+            issue_type.as_str(),
+            summary.as_str(),
+            set.as_slice(),
+        ),
+        Call::Edit { issue, set } => edit(alloc, state, user, issue.as_str(), set.as_slice()),
+        Call::Transition {
+            issue,
+            transition: name,
+            set,
+        } => transition(
+            alloc,
+            state,
+            user,
+            issue.as_str(),
+            name.as_str(),
+            set.as_slice(),
+        ),
+        Call::Tick { to } => tick(alloc, state, *to),
+        Call::Show { issue } => show(alloc, state, user, issue.as_str()),
+        Call::History { issue, part } => history(alloc, state, user, issue.as_str(), *part),
+        Call::Search { jql, part } => search(alloc, state, user, jql.as_str(), *part, steps),
+        Call::MoveBefore { issue, other } => {
+            move_before(alloc, state, user, issue.as_str(), other.as_str())
+        }
+        Call::MoveAfter { issue, other } => {
+            move_after(alloc, state, user, issue.as_str(), other.as_str())
+        }
+        Call::Ranks { part } => ranks(alloc, state, user, *part),
+        Call::RebalanceStart => rebalance_start(alloc, state, user),
+        Call::RebalanceStep { count } => rebalance_step(alloc, state, user, *count),
+        Call::Balance => balance(state),
+    }
+}
+
+// The member of a part that is out of range, which no line gives.
+fn part_fault(part: Part, most: u32) -> Option<&'static str>
+    ensures { option_map (λ name. name.now) result ≡ part_fault most part }
+{
+    if part.from > MOST_FROM {
+        return Some("from");
+    }
+    if part.count < 1 || most < part.count {
+        return Some("count");
+    }
+    None
+}
+
+// Two names in `set` that differ in case alone, which no line gives.
+fn twins_fault(alloc: Global, set: &[GivenField]) -> Result<Option<&'static str>, Memory>
+    ensures { IfOk result (λ fault. option_map (λ name. Refusal.Form name.now) fault ≡ twins_refusal set.now) }
+{
+    if has_twins(alloc, set)? {
+        return Ok(Some("set"));
+    }
+    Ok(None)
+}
+
+// An issue that is to go beside itself, which no line asks for.
+fn other_fault(issue: &str, other: &str) -> Option<&'static str>
+    ensures { option_map (λ name. Refusal.Form name.now) result ≡ other_refusal issue.now other.now }
+{
+    if other == issue {
+        return Some("other");
+    }
+    None
+}
+
+// A number of picks that is out of range, which no line gives.
+fn count_fault(count: u32) -> Option<&'static str>
+    ensures { option_map (λ name. Refusal.Form name.now) result ≡ count_refusal 1000 count }
+{
+    if count < 1 || MOST_LISTED < count {
+        return Some("count");
+    }
+    None
+}
+
+// The first member of the call that isn't of its form.
+#[tactic(auto, unfolding(tracker_machine::specs::Step::form_refusal))]
+fn fault_of_form(alloc: Global, call: &Call) -> Result<Option<&'static str>, Memory>
+    ensures { IfOk result (λ fault. option_map (λ name. Refusal.Form name.now) fault ≡ form_refusal call.now) }
+{
+    match call {
+        Call::Create { set, .. } => twins_fault(alloc, set.as_slice()),
+        Call::Edit { set, .. } => twins_fault(alloc, set.as_slice()),
+        Call::Transition { set, .. } => twins_fault(alloc, set.as_slice()),
+        Call::History { part, .. } => Ok(part_fault(*part, MOST_ENTRIES)),
+        Call::Search { part, .. } => Ok(part_fault(*part, MOST_LISTED)),
+        Call::MoveBefore { issue, other } | Call::MoveAfter { issue, other } => {
+            Ok(other_fault(issue.as_str(), other.as_str()))
+        }
+        Call::Ranks { part } => Ok(part_fault(*part, MOST_LISTED)),
+        Call::RebalanceStep { count } => Ok(count_fault(*count)),
+        Call::Tick { .. } | Call::Show { .. } | Call::RebalanceStart | Call::Balance => Ok(None),
+    }
+}
