@@ -17,6 +17,10 @@ has_controls text = list_any is_control (chars text)
 abbrev pub is_name : List ℕ → Bool
 is_name text = is_from_to 1 60 (length text) && not (has_controls text)
 
+-- a name of a saved filter, a board or a sprint has 1 to 100 bytes and no control characters
+abbrev pub is_title : List ℕ → Bool
+is_title text = is_from_to 1 100 (length text) && not (has_controls text)
+
 -- a to z, 0 to 9, a point, an underscore or a hyphen
 abbrev pub is_user_byte : ℕ → Bool
 is_user_byte b = is_in_range 97 122 b || is_in_range 48 57 b || (b == 46) || (b == 95) || (b == 45)

@@ -5,7 +5,7 @@ ghost use Rattle.std.specs.Char.{is_control};
 ghost use Rattle.std.specs.Int.{is_in_range};
 ghost use Rattle.std.specs.Str.{chars, str_eq_ignore_ascii_case};
 ghost use Rattle.field_forms.specs.NameForms.{is_numbered_field, has_form};
-ghost use Rattle.field_forms.specs.Names.{has_controls, is_name, is_user_name, is_user_byte, is_project_key, place_named, is_among};
+ghost use Rattle.field_forms.specs.Names.{has_controls, is_name, is_title, is_user_name, is_user_byte, is_project_key, place_named, is_among};
 
 use crate::built_in::is_field_word;
 use field_values::digits::are_digits;
@@ -34,6 +34,13 @@ pub(crate) fn is_name(text: &str) -> bool
     ensures { result ≡ is_name text.now }
 {
     1 <= text.len() && text.len() <= 60 && !has_controls(text)
+}
+
+/// Whether the text has the form of a name of a saved filter, a board or a sprint: 1 to 100 bytes without control characters.
+pub fn is_title(text: &str) -> bool
+    ensures { result ≡ is_title text.now }
+{
+    1 <= text.len() && text.len() <= 100 && !has_controls(text)
 }
 
 fn is_user_byte(byte: u8) -> bool

@@ -5,7 +5,7 @@ use Rattle.std.proofs.lemmas.Bool.{and_parts}
 use Rattle.std.proofs.lemmas.Option.{cond_some, none-some, same_Some, option_and_then_some}
 use Rattle.field_values.specs.Parts.{Parts}
 use Rattle.field_values.specs.declared.numbers.UserNo.{UserNo}
-use Rattle.field_forms.specs.Names.{place_named}
+use Rattle.field_forms.specs.Names.{place_named, is_title}
 use Rattle.field_forms.proofs.Fits.{named_inside}
 use Rattle.request_lines.specs.Readings.{last_moment}
 use Rattle.rank_balancer.specs.Balance.{next_bucket}
@@ -17,7 +17,7 @@ use Rattle.serde_json.specs.Data.{Data, null, boolean, number, string, array, ob
 use Rattle.serde_json.specs.Find.{get}
 use Rattle.tracker_keeper.specs.declared.part.Part.{Part}
 use Rattle.tracker_keeper.specs.declared.part.Part.TheVariants as part
-use Rattle.tracker_keeper.specs.Forms.{IsNumber, IsStamp, HasStamps, is_balance, is_title, is_external, is_user}
+use Rattle.tracker_keeper.specs.Forms.{IsNumber, IsStamp, HasStamps, is_balance, is_external, is_user}
 use Rattle.tracker_keeper.specs.Kept.{IsPart, IsPartAt}
 use Rattle.tracker_keeper.specs.Looking.{number_in, natural_of, whole_of, moment_of, small_of, text_at, title_at, moment_at, small_at, whole_at, bucket_of, balance_of, format_at, pair_of, stamp_of, state_by, state_at, present_like, external_like, sprint_like, board_like, user_at, filter_like}
 

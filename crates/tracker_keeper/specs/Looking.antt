@@ -2,7 +2,7 @@
 -- afterwards, so nothing here looks for other members, other spellings or another order.
 use Rattle.std.specs.Prelude.{ℕ, ◌^◌, ◌==◌, ◌&&◌, List, Option, Some, None, codes, nat_le, nat_lt, option_map, option_and_then, if◌then◌else◌}
 use Rattle.field_values.specs.declared.numbers.UserNo.{UserNo}
-use Rattle.field_forms.specs.Names.{place_named}
+use Rattle.field_forms.specs.Names.{place_named, is_title}
 use Rattle.request_lines.specs.Readings.{last_moment}
 use Rattle.rank_balancer.specs.Balance.{next_bucket}
 use Rattle.rank_balancer.specs.declared.balance.Balance.{Balance}
@@ -15,7 +15,7 @@ use Rattle.tracker_keeper.specs.declared.part.Part.{Part}
 use Rattle.tracker_keeper.specs.declared.part.Part.TheVariants as part
 use Rattle.tracker_keeper.specs.declared.part.Format.{Format}
 use Rattle.tracker_keeper.specs.declared.part.Format.TheVariants.{First, Second}
-use Rattle.tracker_keeper.specs.Forms.{is_title, is_external}
+use Rattle.tracker_keeper.specs.Forms.{is_external}
 
 -- ---- numbers and texts
 

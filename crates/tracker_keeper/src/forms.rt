@@ -1,25 +1,11 @@
-// The forms of titles and of external ids.
+// The forms of external ids and of balances.
 ghost use Rattle.std.specs.Prelude.{◌≡◌, ◌<◌};
 ghost use Rattle.std.specs.List.{list_all};
 ghost use Rattle.std.specs.Int.{is_in_range};
-ghost use Rattle.field_forms.specs.Names.{has_controls};
 ghost use Rattle.rank_balancer.specs.Balance.{next_bucket};
-ghost use Rattle.tracker_keeper.specs.Forms.{is_title, is_external, is_balance};
+ghost use Rattle.tracker_keeper.specs.Forms.{is_external, is_balance};
 
 use rank_balancer::Balance;
-
-fn has_controls(text: &str) -> bool
-    ensures { result ≡ has_controls text.now }
-{
-    text.chars().any(|c| c.is_control())
-}
-
-/// Whether a filter, a board or a sprint may have that name.
-pub(crate) fn is_title(text: &str) -> bool
-    ensures { result ≡ is_title text.now }
-{
-    1 <= text.len() && text.len() <= 100 && !has_controls(text)
-}
 
 fn has_printable_bytes(bytes: &[u8]) -> bool
     ensures { result ≡ list_all (λ b. is_in_range 32 126 b) bytes.now }

@@ -6,8 +6,9 @@ ghost use Rattle.serde_json.specs.Read.{read};
 ghost use Rattle.serde_json.specs.View.{view};
 ghost use Rattle.tracker_keeper.specs.Looking.{number_in, text_at, title_at, moment_of, moment_at, whole_of, whole_at, pair_of, stamp_of, state_by, state_at, format_at, small_of, small_at, user_at, bucket_of, balance_of, present_like, external_like, filter_like, board_like, sprint_like};
 
-use crate::forms::{is_external, is_title, next_bucket};
+use crate::forms::{is_external, next_bucket};
 use crate::part::{Format, Part};
+use field_forms::name_form::is_title;
 use field_values::{BoardNo, FilterNo, IssueNo, Memory, Moment, SprintNo, Text, UserNo};
 use fields::Setup;
 use rank_balancer::Balance;

@@ -120,7 +120,7 @@ fn put_start(out: &mut BodyText, state: &SprintState) -> Result<(), Memory>
 
 /// The body of a saved filter.
 #[tactic(auto, using(crate::proofs::Texts::whole))]
-pub(crate) fn filter_text(alloc: Global, jql: &str, name: &str, owner: &str) -> Result<Text, Memory>
+pub fn filter_text(alloc: Global, jql: &str, name: &str, owner: &str) -> Result<Text, Memory>
     ensures { IfOk result (λ text. text ≡ compact_text (filter_data jql.now name.now owner.now)) }
 {
     let mut out = BodyText::new(alloc)?;
@@ -141,7 +141,7 @@ fn put_filter(out: &mut BodyText, jql: &str, name: &str, owner: &str) -> Result<
 
 /// The body of a board.
 #[tactic(auto, using(crate::proofs::Texts::whole))]
-pub(crate) fn board_text(alloc: Global, filter: FilterNo, name: &str) -> Result<Text, Memory>
+pub fn board_text(alloc: Global, filter: FilterNo, name: &str) -> Result<Text, Memory>
     ensures { IfOk result (λ text. text ≡ compact_text (board_data filter.0 name.now)) }
 {
     let mut out = BodyText::new(alloc)?;
