@@ -4,6 +4,7 @@ ghost use Rattle.board.specs.Board.{AreRows};
 
 use crate::order::Order;
 use field_values::{BoardNo, FilterNo, IssueNo, Memory, Text};
+use rising_numbers::Numbered;
 
 /// A board shows the issues of a saved filter.
 #[derive(Drop)]
@@ -11,6 +12,14 @@ pub struct Board {
     pub no: BoardNo,
     pub name: Text,
     pub filter: FilterNo,
+}
+
+impl Numbered for Board {
+    ghost number = { λ b. b.no.0 };
+
+    fn number(&self) -> u32 {
+        self.no.0
+    }
 }
 
 impl Board {

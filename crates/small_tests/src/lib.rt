@@ -1,4 +1,4 @@
-//! Tests of days, local time and the date terms of queries, of saved filters, of ranks, their order, its balance, of sprints and their burndown,
+//! Tests of days, local time and the date terms of queries, of saved filters and boards, of ranks, their order, its balance, of sprints and their burndown,
 //! and of a turn that threads share.
 #![tactic(auto)]
 

@@ -1,4 +1,5 @@
 mod balancing;
+mod boards;
 mod orders;
 mod placing;
 mod ranked;

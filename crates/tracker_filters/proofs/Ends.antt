@@ -19,11 +19,11 @@ use Rattle.filter_views.specs.Grid.{IsGrid}
 use Rattle.filter_views.specs.Counts.{is_over, due}
 use Rattle.filter_views.proofs.DueCells.{settling_takes_one_off, none_is_due_before_the_next, ends_are_of_cells}
 use Rattle.tracker_filters.specs.declared.filter.Filter.{Filter}
-use Rattle.tracker_filters.specs.ByNumber.{by_number}
+use Rattle.rising_numbers.specs.ByNumber.{by_number}
 use Rattle.tracker_filters.specs.Saved.{number, condition_of}
 use Rattle.tracker_filters.specs.Watched.{CellIsRight, AreCellsOf}
 use Rattle.tracker_filters.specs.Cells.{IsDue, NoneIsDue}
-use Rattle.tracker_filters.proofs.Numbered.{is_unlisted}
+use Rattle.rising_numbers.proofs.Listed.{is_unlisted}
 
 -- where a truth stays, its end is later
 lasts : (holds : ℕ → Bool) (Critical : ℕ → Type 0) (to : ℕ) (end : Option ℕ) → Stays holds Critical to end → is_over to end ≡ false

@@ -1,10 +1,9 @@
 pub mod Lists
-pub mod Numbered
+pub mod Numbers
 pub mod Named
 pub mod Rights
 pub mod Shapes
 pub mod Members
-pub mod Search
 pub mod Settling
 pub mod Ends
 pub mod Made

@@ -11,10 +11,10 @@ use Rattle.jql_meaning.specs.Truth.{query_holds}
 use Rattle.filter_views.specs.Cell.{Cell, FilterCells, Views, unset, cells_in, cell_of, members_from, issues_held, filters as numbers_in}
 use Rattle.filter_views.specs.Grid.{IsGrid}
 use Rattle.tracker_filters.specs.declared.filter.Filter.{Filter}
-use Rattle.tracker_filters.specs.ByNumber.{by_number}
+use Rattle.rising_numbers.specs.ByNumber.{by_number}
 use Rattle.tracker_filters.specs.Saved.{number, condition_of}
 use Rattle.tracker_filters.specs.Watched.{AreRight, AreCellsOf, holders_from}
-use Rattle.tracker_filters.proofs.Numbered.{is_listed}
+use Rattle.rising_numbers.proofs.Listed.{is_listed}
 
 -- cells that tell the truth of each issue list just those of which the query holds
 listed : (n : ℕ) (around : Surroundings) (moment : ℕ) (query : Option Condition) (cells : List Cell) (hs : List History) → length cells ≡ length hs

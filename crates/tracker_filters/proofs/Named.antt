@@ -6,7 +6,7 @@ use Rattle.std.proofs.lemmas.Slice.Eq.{bytes_eq-Decides}
 use Rattle.std.proofs.lemmas.Bool.Decides.{nat_tests, Decides-and, Decides-eqb, Decides-like, same_from_decides}
 use Rattle.std.proofs.lemmas.Option.{none-some, same_Some}
 use Rattle.field_values.specs.declared.numbers.UserNo.{UserNo}
-use Rattle.tracker_filters.specs.ByNumber.{RiseFrom, put_by_number, without_number}
+use Rattle.rising_numbers.specs.ByNumber.{RiseFrom, put_by_number, without_number}
 use Rattle.tracker_filters.specs.declared.filter.Filter.{Filter}
 use Rattle.tracker_filters.specs.Saved.{number, is_named, by_owner, HaveOwnNames}
 

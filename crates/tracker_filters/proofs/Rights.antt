@@ -13,13 +13,13 @@ use Rattle.filter_views.specs.Cell.{Cell, Views, cell_of}
 use Rattle.filter_views.specs.Views.{Settles, RemovesFilter}
 use Rattle.filter_views.specs.Counts.{is_over}
 use Rattle.tracker_filters.specs.declared.filter.Filter.{Filter}
-use Rattle.tracker_filters.specs.ByNumber.{RiseFrom, by_number, put_by_number, without_number}
+use Rattle.rising_numbers.specs.ByNumber.{RiseFrom, by_number, put_by_number, without_number}
 use Rattle.tracker_filters.specs.Saved.{number, condition_of}
 use Rattle.tracker_filters.specs.Watched.{CellIsRight, AreRight}
 use Rattle.tracker_filters.specs.Ready.{AreVerdicts}
 use Rattle.tracker_filters.specs.Cells.{SettlesIssue, SettlesFilter, cell_from, NoneIsDue, ArePending}
 use Rattle.tracker_filters.proofs.Lists.{get_pushed, get_set, get_beside}
-use Rattle.tracker_filters.proofs.Numbered.{by_put, by_without}
+use Rattle.rising_numbers.proofs.ByNumber.{by_put, by_without}
 
 module _ (around : Surroundings) (moment : ℕ) where
   -- the same cell is right as well

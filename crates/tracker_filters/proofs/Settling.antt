@@ -9,11 +9,12 @@ use Rattle.jql_eval.specs.Told.{Told}
 use Rattle.filter_views.specs.Cell.{Cell, Views, cell_of, is_there, filters as numbers_in}
 use Rattle.filter_views.specs.Views.{Shape, shape, Settles}
 use Rattle.tracker_filters.specs.declared.filter.Filter.{Filter}
-use Rattle.tracker_filters.specs.ByNumber.{RiseFrom}
+use Rattle.rising_numbers.specs.ByNumber.{RiseFrom}
 use Rattle.tracker_filters.specs.Saved.{number}
 use Rattle.tracker_filters.specs.Watched.{CellIsRight}
 use Rattle.tracker_filters.specs.Cells.{SettlesIssue, SettlesFilter, cell_from}
-use Rattle.tracker_filters.proofs.Numbered.{rising_between, found_at, listed_at}
+use Rattle.rising_numbers.proofs.Listed.{listed_at}
+use Rattle.rising_numbers.proofs.Placed.{found_at, rising_between}
 
 -- the first filters' cells of the issue are right, and no other issue's cell has changed
 pub record SettledFilters (around : Surroundings) (moment : ℕ) (fs : List Filter) (h : History) (issue count : ℕ) (old new : Views) : Type 0 where

@@ -5,10 +5,11 @@ use Rattle.change_history.specs.History.{History}
 use Rattle.filter_views.specs.Cell.{Views, filters as numbers_in}
 use Rattle.filter_views.specs.Views.{Shape, shape, AddsFilter, AddsIssue, RemovesFilter, with_filter, without_filter}
 use Rattle.tracker_filters.specs.declared.filter.Filter.{Filter}
-use Rattle.tracker_filters.specs.ByNumber.{RiseFrom, by_number, put_by_number, without_number}
+use Rattle.rising_numbers.specs.ByNumber.{RiseFrom, by_number, put_by_number, without_number}
 use Rattle.tracker_filters.specs.Saved.{number}
 use Rattle.tracker_filters.specs.Watched.{AreCellsOf}
-use Rattle.tracker_filters.proofs.Numbered.{numbers_put_new, numbers_put_again, numbers_without}
+use Rattle.rising_numbers.proofs.Listed.{numbers_put_again}
+use Rattle.tracker_filters.proofs.Numbers.{numbers_put_new, numbers_without}
 
 pub cells_same : (fs : List Filter) (hs : List History) (v w : Views) → shape w ≡ shape v → AreCellsOf fs hs v → AreCellsOf fs hs w
 cells_same fs hs v w same cells = record {

@@ -13,7 +13,7 @@ use Rattle.jql_eval.proofs.Rights.{right_elsewhere}
 use Rattle.filter_views.specs.Cell.{Views, cell_of}
 use Rattle.filter_views.specs.Views.{shape}
 use Rattle.tracker_filters.specs.declared.filter.Filter.{Filter}
-use Rattle.tracker_filters.specs.ByNumber.{by_number}
+use Rattle.rising_numbers.specs.ByNumber.{by_number}
 use Rattle.tracker_filters.specs.Saved.{number, condition_of}
 use Rattle.tracker_filters.specs.Watched.{CellIsRight, AreWatched}
 use Rattle.tracker_filters.specs.Cells.{SettlesIssue}

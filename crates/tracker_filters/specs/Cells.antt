@@ -7,7 +7,7 @@ use Rattle.filter_views.specs.Cell.{Cell, Views, cell_of}
 use Rattle.filter_views.specs.Views.{shape}
 use Rattle.filter_views.specs.Counts.{is_over}
 use Rattle.tracker_filters.specs.declared.filter.Filter.{Filter}
-use Rattle.tracker_filters.specs.ByNumber.{by_number}
+use Rattle.rising_numbers.specs.ByNumber.{by_number}
 use Rattle.tracker_filters.specs.Saved.{number}
 use Rattle.tracker_filters.specs.Watched.{CellIsRight}
 

@@ -1,9 +1,6 @@
-pub mod ByNumber
-pub mod Places
 pub mod Saved
 pub mod Watched
 pub mod Cells
 pub mod Ready
 pub mod Sprint
 pub mod Rows
-pub mod Laws

@@ -2,7 +2,7 @@
 use Rattle.std.specs.Prelude.{ℕ, ◌≡◌, List, [], ◌∷◌, Some, None, codes, refl}
 use Rattle.field_values.specs.declared.numbers.UserNo.{UserNo}
 use Rattle.tracker_filters.specs.declared.filter.Filter.{Filter}
-use Rattle.tracker_filters.specs.ByNumber.{by_number, put_by_number, without_number, free_from}
+use Rattle.rising_numbers.specs.ByNumber.{by_number, put_by_number, without_number, free_from}
 use Rattle.tracker_filters.specs.Saved.{number, by_owner}
 
 abbrev anna : UserNo

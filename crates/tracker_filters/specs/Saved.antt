@@ -1,29 +1,14 @@
 -- Saved filters.
 use Rattle.std.specs.Prelude.{ℕ, ◌≡◌, ◌≤◌, ◌<◌, ◌==◌, ◌&&◌, Bool, List, [], ◌∷◌, length, Option, Some, None, option_map, IfSome, if◌then◌else◌}
 use Rattle.std.specs.Str.{bytes_eq}
-use Rattle.field_values.specs.declared.numbers.FilterNo.{FilterNo}
 use Rattle.field_values.specs.declared.numbers.UserNo.{UserNo}
 use Rattle.jql_bound.specs.Condition.{Condition, view}
-use Rattle.jql_bound.specs.declared.order.OrderKey.{OrderKey}
 use Rattle.tracker_filters.specs.declared.filter.Filter.{Filter}
-use Rattle.tracker_filters.specs.ByNumber.{RiseFrom, by_number}
-
--- a saved filter as plain data: its number, owner, name and text as given, and what the text asks for, a condition, if any, and
--- sort keys
-pub record SavedFilter : Type 0 where
-  pub no : FilterNo
-  pub owner : UserNo
-  pub name : List ℕ
-  pub text : List ℕ
-  pub condition : Option Condition
-  pub keys : List OrderKey
+use Rattle.rising_numbers.specs.ByNumber.{RiseFrom, by_number}
 
 -- the condition of a filter; one without a condition holds of every issue
 abbrev pub condition_of : Filter → Option Condition
 condition_of f = option_map view f.query.cond
-
-abbrev pub saved : Filter → SavedFilter
-saved f = record { no = f.no; owner = f.owner; name = f.name; text = f.text; condition = condition_of f; keys = f.query.order.keys }
 
 abbrev pub number : Filter → ℕ
 number f = f.no.0

@@ -10,7 +10,7 @@ use Rattle.jql_meaning.specs.Truth.{query_holds}
 use Rattle.jql_eval.specs.Right.{IsRight}
 use Rattle.filter_views.specs.Cell.{Cell, Views, cell_of, filters as numbers_in}
 use Rattle.tracker_filters.specs.declared.filter.Filter.{Filter}
-use Rattle.tracker_filters.specs.ByNumber.{by_number}
+use Rattle.rising_numbers.specs.ByNumber.{by_number}
 use Rattle.tracker_filters.specs.Saved.{number, condition_of, AreSaved}
 
 -- the filters by number, their cells, for how many filters and issues there is room, and what the cells have seen: the issues'

@@ -3,17 +3,17 @@ ghost use Rattle.std.specs.Prelude.{◌≡◌, ◌<◌, ◌+◌, ◌^◌, ℕ, t
 ghost use Rattle.jql_meaning.specs.Surroundings.{surroundings_of};
 ghost use Rattle.filter_views.specs.FilterRow.{HasNumber};
 ghost use Rattle.filter_views.specs.Cell.{filters as numbers_in, is_there, cell_of};
-ghost use Rattle.tracker_filters.specs.ByNumber.{RiseFrom, by_number, put_by_number};
+ghost use Rattle.rising_numbers.specs.ByNumber.{RiseFrom, by_number, put_by_number};
 ghost use Rattle.tracker_filters.specs.Saved.{number};
 ghost use Rattle.tracker_filters.specs.Cells.{SettlesIssue, SettlesFilter};
 
 use crate::filter::Filter;
-use crate::lookup::put_in;
 use change_history::Issue;
 use field_values::{FilterNo, IssueNo, Moment, Steps};
 use filter_views::FilterViews;
 use jql_bound::Context;
 use jql_eval::{Verdict, evaluate};
+use rising_numbers::put_in;
 use std::sync::ledger::Ledger;
 
 /// Puts the filter into the list, with a row of cells where no filter had its number. It takes no memory.

@@ -4,18 +4,18 @@ ghost use Rattle.jql_meaning.specs.Surroundings.{surroundings_of};
 ghost use Rattle.filter_views.specs.Views.{shape};
 ghost use Rattle.filter_views.specs.Grid.{IsGrid};
 ghost use Rattle.filter_views.specs.Counts.{due};
-ghost use Rattle.tracker_filters.specs.ByNumber.{RiseFrom};
+ghost use Rattle.rising_numbers.specs.ByNumber.{RiseFrom};
 ghost use Rattle.tracker_filters.specs.Saved.{number};
 ghost use Rattle.tracker_filters.specs.Watched.{AreCellsOf, AreRight, histories_of};
 ghost use Rattle.tracker_filters.specs.Cells.{IsDue, NoneIsDue, ArePending};
 
 use crate::filter::Filter;
-use crate::lookup::find;
 use change_history::Issue;
 use field_values::{FilterNo, IssueNo, Moment, Steps};
 use filter_views::FilterViews;
 use jql_bound::Context;
 use jql_eval::evaluate;
+use rising_numbers::find;
 use std::sync::ledger::Ledger;
 
 /// A cell whose end has come by then, the one with the least end.
@@ -57,7 +57,7 @@ fn settle_due<L: Ledger>(
     ensures steps { steps.new ≡ steps.old + 1 }
 {
     let (no, issue) = cell;
-    if let Some(filter) = find(filters, no) {
+    if let Some(filter) = find(filters, no.0) {
         let verdict = evaluate(
             &filter.query,
             &issues[issue.0 as usize - 1],

@@ -1,6 +1,9 @@
 //! One saved filter.
+ghost use Rattle.tracker_filters.specs.Saved.{number};
+
 use field_values::{FilterNo, Text, UserNo};
 use jql_bound::Bound;
+use rising_numbers::Numbered;
 
 /// A saved filter. A user has no two of one name.
 pub struct Filter {
@@ -11,6 +14,14 @@ pub struct Filter {
     pub text: Text,
     /// What the text asks for when the owner asks it.
     pub query: Bound,
+}
+
+impl Numbered for Filter {
+    ghost number = { number };
+
+    fn number(&self) -> u32 {
+        self.no.0
+    }
 }
 
 // Written by hand, so that whoever lets one go makes one call, and its proof takes one step there.

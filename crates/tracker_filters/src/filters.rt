@@ -6,7 +6,7 @@ ghost use Rattle.jql_meaning.specs.Truth.{query_holds};
 ghost use Rattle.jql_meaning.specs.Sprints.{DifferInOneSprint};
 ghost use Rattle.filter_views.specs.FilterRow.{HasNumber};
 ghost use Rattle.filter_views.specs.Counts.{due};
-ghost use Rattle.tracker_filters.specs.ByNumber.{by_number, put_by_number, without_number, free_from};
+ghost use Rattle.rising_numbers.specs.ByNumber.{by_number, put_by_number, without_number, free_from};
 ghost use Rattle.tracker_filters.specs.Saved.{number, condition_of, by_owner, AreSaved, MayPut};
 ghost use Rattle.tracker_filters.specs.Watched.{HasFilterRoom, HasIssueRoom, AreWatched, histories_of, holders_from};
 ghost use Rattle.tracker_filters.specs.Ready.{AreVerdicts};
@@ -15,17 +15,21 @@ ghost use Rattle.tracker_filters.specs.Sprint.{AreNumbered, HoldOneSprint, sprin
 use crate::cells::{put_row, settle_filter, settle_issue};
 use crate::due::catch_up;
 use crate::filter::Filter;
-use crate::lookup::{find, find_named, free_number, take_out};
+use crate::lookup::find_named;
 use crate::ready::ReadyFilter;
 use crate::sprint::settle_sprint;
 use change_history::Issue;
 use field_values::{FilterNo, IssueNo, Memory, Moment, SprintNo, Steps, UserNo};
 use filter_views::FilterViews;
 use jql_bound::Context;
+use rising_numbers::{find, free_number, take_out};
 use std::alloc::Global;
 use std::marker::Model;
 use std::snapshot::Snapshot;
 use std::sync::ledger::Ledger;
+
+/// How many filters a tracker has at most.
+pub const MOST_FILTERS: usize = 200;
 
 /// The saved filters by number, and for each of them whether it holds of each issue, and until when.
 ///
@@ -101,7 +105,7 @@ impl Filters {
     pub fn get(&self, no: FilterNo) -> Option<&Filter>
         ensures { option_copied result ≡ by_number number no.0 self.now.filters }
     {
-        find(&self.list, no)
+        find(&self.list, no.0)
     }
 
     /// The user's filter of that name; `None` exactly where there is none.
@@ -115,7 +119,7 @@ impl Filters {
     pub fn free_number(&self) -> FilterNo
         ensures { result.0 ≡ free_from number 1 self.now.filters }
     {
-        free_number(&self.list)
+        FilterNo(free_number(&self.list))
     }
 
     /// Whether the filter holds of the issue, as its cell says.
@@ -188,7 +192,7 @@ impl Filters {
         ensures around { self.new.around ≡ self.old.around }
         ensures moment { self.new.moment ≡ self.old.moment }
     {
-        take_out(&mut self.list, no);
+        take_out(&mut self.list, no.0);
         self.views.remove_filter(no);
     }
 

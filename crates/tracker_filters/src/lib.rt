@@ -5,11 +5,10 @@ mod cells;
 mod due;
 mod filter;
 mod filters;
-pub mod laws;
 mod lookup;
 mod ready;
 mod sprint;
 
 pub use filter::Filter;
-pub use filters::Filters;
+pub use filters::{Filters, MOST_FILTERS};
 pub use ready::ReadyFilter;

@@ -3,7 +3,7 @@ ghost use Rattle.std.specs.Prelude.{◌≡◌, ◌+◌, MatchBool, length, map};
 ghost use Rattle.jql_meaning.specs.Surroundings.{surroundings_of};
 ghost use Rattle.filter_views.specs.FilterRow.{HasNumber};
 ghost use Rattle.filter_views.specs.Cell.{filters as numbers_in};
-ghost use Rattle.tracker_filters.specs.ByNumber.{RiseFrom};
+ghost use Rattle.rising_numbers.specs.ByNumber.{RiseFrom};
 ghost use Rattle.tracker_filters.specs.Saved.{number};
 ghost use Rattle.tracker_filters.specs.Watched.{histories_of};
 ghost use Rattle.tracker_filters.specs.Cells.{SettlesIssue};

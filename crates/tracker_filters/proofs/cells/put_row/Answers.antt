@@ -1,7 +1,7 @@
 use Rattle.std.proofs.Common.{◌≡◌, false, nat_eq, sym, subst}
 use Rattle.std.specs.List.{list_any}
 use Rattle.tracker_filters.specs.Saved.{number}
-use Rattle.tracker_filters.proofs.Numbered.{is_unlisted}
+use Rattle.rising_numbers.proofs.Listed.{is_unlisted}
 use Rattle.tracker_filters.proofs.Shapes.{rows_put_new, rows_put_again}
 use Rattle.tracker_filters.proofs.cells.put_row.Goals as goal
 

@@ -2,7 +2,7 @@ use Rattle.std.proofs.Common.{◌≡◌, IfSome, subst}
 use Rattle.jql_meaning.specs.Surroundings.{surroundings_of, numbered}
 use Rattle.jql_meaning.specs.Truth.{query_holds}
 use Rattle.filter_views.specs.Cell.{cell_of}
-use Rattle.tracker_filters.specs.ByNumber.{by_number}
+use Rattle.rising_numbers.specs.ByNumber.{by_number}
 use Rattle.tracker_filters.specs.Saved.{number, condition_of}
 use Rattle.tracker_filters.specs.Watched.{WatchedFilters, histories_in}
 use Rattle.tracker_filters.proofs.Watching.{holds_told}

@@ -2,7 +2,7 @@ use Rattle.std.proofs.Common.{◌≡◌, OnOk, IfSome, subst}
 use Rattle.std.proofs.lemmas.Result.{on_ok_weaker}
 use Rattle.jql_meaning.specs.Surroundings.{surroundings_of}
 use Rattle.tracker_filters.specs.contracts.filters.Filters.{the_view}
-use Rattle.tracker_filters.specs.ByNumber.{by_number}
+use Rattle.rising_numbers.specs.ByNumber.{by_number}
 use Rattle.tracker_filters.specs.Saved.{number, condition_of}
 use Rattle.tracker_filters.specs.Watched.{WatchedFilters, holders_from}
 use Rattle.tracker_filters.proofs.Watching.{members_told}

@@ -1,0 +1,7 @@
+use Rattle.std.proofs.Common.{rules}
+use Rattle.std.proofs.lemmas.Fn.{filter_same}
+use Rattle.tracker_boards.proofs.boards.retain_others.Goals as goal
+
+-- the closure asks for another filter's number
+pub returns-clause-items : goal.returns-clause-items
+returns-clause-items c = filter_same _ _ _ (λ x b f' k. search rules) _ _ c.retain.ensures.filtered

@@ -1,0 +1,6 @@
+//! The boards of a tracker, as one part of a desk's state.
+#![tactic(auto)]
+
+mod boards;
+
+pub use boards::{Boards, MOST_BOARDS};
