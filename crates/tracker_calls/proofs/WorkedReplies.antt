@@ -1,4 +1,4 @@
--- Texts of replies about ranks and their balance.
+-- Texts of replies about ranks and their balance, saved filters and boards.
 use Rattle.std.proofs.Common.{◌≡◌, [], ◌∷◌, codes, Some, None, true, false, refl}
 use Rattle.std.specs.Fmt.{digits}
 use Rattle.serde_json.proofs.OnLiterals.{serde_json_on_literals}
@@ -8,6 +8,8 @@ use Rattle.tracker_calls.specs.declared.reply.Answer.TheVariants as answer
 use Rattle.tracker_calls.specs.declared.reply.Refusal.TheVariants as refusal
 use Rattle.tracker_calls.specs.declared.reply.BalanceState.TheVariants as state
 use Rattle.tracker_calls.specs.declared.reply.BalanceKept.TheVariants as kept
+use Rattle.tracker_calls.specs.declared.reply.Limit.TheVariants as limit
+use Rattle.tracker_calls.specs.declared.reply.Thing.TheVariants as thing
 
 pub a_move : reply_text (reply.Ok (answer.Move (codes "OPS-2") (codes "1|qzzncw:"))) ≡ codes "{\"ok\":{\"issue\":\"OPS-2\",\"rank\":\"1|qzzncw:\"}}"
 unfolding digits serde_json_on_literals reply_text
@@ -46,3 +48,50 @@ idle_already = refl
 pub moving_already : reply_text (reply.Refused (refusal.BalanceIs (kept.Moving 0 1))) ≡ codes "{\"refused\":{\"kept\":\"moving 0 1\",\"no\":12}}"
 unfolding digits serde_json_on_literals reply_text
 moving_already = refl
+
+pub a_saved_filter : reply_text (reply.Ok (answer.SaveFilter (record { 0 = 1 }) 2)) ≡ codes "{\"ok\":{\"filter\":1,\"members\":2}}"
+unfolding digits serde_json_on_literals reply_text
+a_saved_filter = refl
+
+pub a_dropped_filter : reply_text (reply.Ok (answer.DropFilter (record { 0 = 1 }))) ≡ codes "{\"ok\":{\"filter\":1}}"
+unfolding digits serde_json_on_literals reply_text
+a_dropped_filter = refl
+
+pub a_part_of_a_filter : reply_text (reply.Ok (answer.Filter (codes "OPS-3" ∷ []) 1)) ≡ codes "{\"ok\":{\"issues\":[\"OPS-3\"],\"total\":1}}"
+unfolding digits serde_json_on_literals reply_text
+a_part_of_a_filter = refl
+
+pub a_made_board : reply_text (reply.Ok (answer.MakeBoard (record { 0 = 1 }))) ≡ codes "{\"ok\":{\"board\":1}}"
+unfolding digits serde_json_on_literals reply_text
+a_made_board = refl
+
+pub a_dropped_board : reply_text (reply.Ok (answer.DropBoard (record { 0 = 1 }))) ≡ codes "{\"ok\":{\"board\":1}}"
+unfolding digits serde_json_on_literals reply_text
+a_dropped_board = refl
+
+-- a column without issues is told too
+pub a_board : reply_text (reply.Ok (answer.Board
+    (record { issues = codes "OPS-3" ∷ []; status = codes "Open" }
+    ∷ record { issues = []; status = codes "In Progress" }
+    ∷ record { issues = []; status = codes "In Review" }
+    ∷ record { issues = []; status = codes "Done" }
+    ∷ []) 1))
+    ≡ codes "{\"ok\":{\"columns\":[{\"issues\":[\"OPS-3\"],\"status\":\"Open\"},{\"issues\":[],\"status\":\"In Progress\"},{\"issues\":[],\"status\":\"In Review\"},{\"issues\":[],\"status\":\"Done\"}],\"total\":1}}"
+unfolding digits serde_json_on_literals reply_text
+a_board = refl
+
+pub no_more_filters : reply_text (reply.Refused (refusal.Limit limit.Filters)) ≡ codes "{\"refused\":{\"limit\":\"filters\",\"no\":10,\"number\":200}}"
+unfolding digits serde_json_on_literals reply_text
+no_more_filters = refl
+
+pub no_more_boards : reply_text (reply.Refused (refusal.Limit limit.Boards)) ≡ codes "{\"refused\":{\"limit\":\"boards\",\"no\":10,\"number\":200}}"
+unfolding digits serde_json_on_literals reply_text
+no_more_boards = refl
+
+pub no_such_filter : reply_text (reply.Refused (refusal.Unknown thing.Filter (codes "7"))) ≡ codes "{\"refused\":{\"kind\":\"filter\",\"name\":\"7\",\"no\":2}}"
+unfolding digits serde_json_on_literals reply_text
+no_such_filter = refl
+
+pub no_such_board : reply_text (reply.Refused (refusal.Unknown thing.Board (codes "7"))) ≡ codes "{\"refused\":{\"kind\":\"board\",\"name\":\"7\",\"no\":2}}"
+unfolding digits serde_json_on_literals reply_text
+no_such_board = refl

@@ -4,10 +4,11 @@ use Rattle.std.specs.Str.{is_utf8, bytes_eq}
 use Rattle.serde_json.specs.Data.{Data, Members, member, no_members}
 use Rattle.serde_json.specs.Find.{get, as_str, as_number, as_u64, as_object}
 use Rattle.serde_json.specs.Read.{read}
+use Rattle.field_forms.specs.Names.{is_title}
 use Rattle.tracker_calls.specs.Given.{set_at, set_if_there}
 use Rattle.tracker_calls.specs.declared.call.Call.{Call}
-use Rattle.tracker_calls.specs.declared.call.Call.TheVariants.{Create, Edit, Transition, Tick, MoveBefore, MoveAfter, RebalanceStart, RebalanceStep, Show, History, Search, Ranks, Balance}
-use Rattle.tracker_calls.specs.Part.{from_if_there, count_if_there, count_at}
+use Rattle.tracker_calls.specs.declared.call.Call.TheVariants.{Create, Edit, Transition, Tick, MoveBefore, MoveAfter, RebalanceStart, RebalanceStep, SaveFilter, DropFilter, MakeBoard, DropBoard, Show, History, Search, Ranks, Balance, Filter, Board}
+use Rattle.tracker_calls.specs.Part.{whole_within, from_if_there, count_if_there, count_at}
 use Rattle.tracker_calls.specs.declared.call.CallKind.{CallKind}
 use Rattle.tracker_calls.specs.declared.call.CallKind.TheVariants as kind
 use Rattle.tracker_calls.specs.declared.reply.Refusal.{Refusal}
@@ -40,6 +41,14 @@ no_other (Some name) next = Err (Form name)
 abbrev pub text_at : List ℕ → Data → Option (List ℕ)
 text_at name d = option_and_then as_str (get name d)
 
+-- the name of a saved filter or a board
+abbrev pub title_at : List ℕ → Data → Option (List ℕ)
+title_at name d = option_and_then (λ text. if is_title text then Some text else None) (text_at name d)
+
+-- the number of a saved filter or a board
+abbrev pub number_at : List ℕ → Data → Option ℕ
+number_at name d = option_and_then (whole_within 0 4_294_967_295) (get name d)
+
 -- an issue isn't moved beside itself
 abbrev pub other_than : List ℕ → Data → Option (List ℕ)
 other_than issue d = option_and_then (λ other. if bytes_eq other issue then None else Some other) (text_at (codes "other") d)
@@ -67,11 +76,17 @@ kind_named name =
     (if bytes_eq name (codes "move_after") then Some kind.MoveAfter else
     (if bytes_eq name (codes "rebalance_start") then Some kind.RebalanceStart else
     (if bytes_eq name (codes "rebalance_step") then Some kind.RebalanceStep else
+    (if bytes_eq name (codes "save_filter") then Some kind.SaveFilter else
+    (if bytes_eq name (codes "drop_filter") then Some kind.DropFilter else
+    (if bytes_eq name (codes "make_board") then Some kind.MakeBoard else
+    (if bytes_eq name (codes "drop_board") then Some kind.DropBoard else
     (if bytes_eq name (codes "show") then Some kind.Show else
     (if bytes_eq name (codes "history") then Some kind.History else
     (if bytes_eq name (codes "search") then Some kind.Search else
     (if bytes_eq name (codes "ranks") then Some kind.Ranks else
-    (if bytes_eq name (codes "balance") then Some kind.Balance else None))))))))))))
+    (if bytes_eq name (codes "balance") then Some kind.Balance else
+    (if bytes_eq name (codes "filter") then Some kind.Filter else
+    (if bytes_eq name (codes "board") then Some kind.Board else None))))))))))))))))))
 
 abbrev pub call_members : CallKind → List (List ℕ)
 call_members kind.Create = codes "call" ∷ codes "project" ∷ codes "set" ∷ codes "summary" ∷ codes "type" ∷ codes "user" ∷ []
@@ -82,11 +97,17 @@ call_members kind.MoveBefore = codes "call" ∷ codes "issue" ∷ codes "other" 
 call_members kind.MoveAfter = codes "call" ∷ codes "issue" ∷ codes "other" ∷ codes "user" ∷ []
 call_members kind.RebalanceStart = codes "call" ∷ codes "user" ∷ []
 call_members kind.RebalanceStep = codes "call" ∷ codes "count" ∷ codes "user" ∷ []
+call_members kind.SaveFilter = codes "call" ∷ codes "jql" ∷ codes "name" ∷ codes "user" ∷ []
+call_members kind.DropFilter = codes "call" ∷ codes "filter" ∷ codes "user" ∷ []
+call_members kind.MakeBoard = codes "call" ∷ codes "filter" ∷ codes "name" ∷ codes "user" ∷ []
+call_members kind.DropBoard = codes "board" ∷ codes "call" ∷ codes "user" ∷ []
 call_members kind.Show = codes "call" ∷ codes "issue" ∷ codes "user" ∷ []
 call_members kind.History = codes "call" ∷ codes "count" ∷ codes "from" ∷ codes "issue" ∷ codes "user" ∷ []
 call_members kind.Search = codes "call" ∷ codes "count" ∷ codes "from" ∷ codes "jql" ∷ codes "user" ∷ []
 call_members kind.Ranks = codes "call" ∷ codes "count" ∷ codes "from" ∷ codes "user" ∷ []
 call_members kind.Balance = codes "call" ∷ codes "user" ∷ []
+call_members kind.Filter = codes "call" ∷ codes "count" ∷ codes "filter" ∷ codes "from" ∷ codes "user" ∷ []
+call_members kind.Board = codes "board" ∷ codes "call" ∷ codes "count" ∷ codes "from" ∷ codes "user" ∷ []
 
 abbrev pub is_member : CallKind → List ℕ → Bool
 is_member kind name = is_among name (call_members kind)
@@ -140,6 +161,28 @@ rebalance_step_of d members user =
     need (count_at 1000 d) (codes "count") (λ count.
     no_other (first_other kind.RebalanceStep (names_of members)) (Ok (user, RebalanceStep count)))
 
+abbrev pub save_filter_of : Data → Members → List ℕ → Asked
+save_filter_of d members user =
+    need (title_at (codes "name") d) (codes "name") (λ name.
+    need (text_at (codes "jql") d) (codes "jql") (λ jql.
+    no_other (first_other kind.SaveFilter (names_of members)) (Ok (user, SaveFilter name jql))))
+
+abbrev pub drop_filter_of : Data → Members → List ℕ → Asked
+drop_filter_of d members user =
+    need (number_at (codes "filter") d) (codes "filter") (λ filter.
+    no_other (first_other kind.DropFilter (names_of members)) (Ok (user, DropFilter (record { 0 = filter }))))
+
+abbrev pub make_board_of : Data → Members → List ℕ → Asked
+make_board_of d members user =
+    need (title_at (codes "name") d) (codes "name") (λ name.
+    need (number_at (codes "filter") d) (codes "filter") (λ filter.
+    no_other (first_other kind.MakeBoard (names_of members)) (Ok (user, MakeBoard name (record { 0 = filter })))))
+
+abbrev pub drop_board_of : Data → Members → List ℕ → Asked
+drop_board_of d members user =
+    need (number_at (codes "board") d) (codes "board") (λ board.
+    no_other (first_other kind.DropBoard (names_of members)) (Ok (user, DropBoard (record { 0 = board }))))
+
 abbrev pub show_of : Data → Members → List ℕ → Asked
 show_of d members user =
     need (text_at (codes "issue") d) (codes "issue") (λ issue.
@@ -168,6 +211,20 @@ ranks_of d members user =
 abbrev pub balance_of : Members → List ℕ → Asked
 balance_of members user = no_other (first_other kind.Balance (names_of members)) (Ok (user, Balance))
 
+abbrev pub filter_of : Data → Members → List ℕ → Asked
+filter_of d members user =
+    need (number_at (codes "filter") d) (codes "filter") (λ filter.
+    need (from_if_there d) (codes "from") (λ from.
+    need (count_if_there 1000 d) (codes "count") (λ count.
+    no_other (first_other kind.Filter (names_of members)) (Ok (user, Filter (record { 0 = filter }) (record { from = from; count = count }))))))
+
+abbrev pub board_of : Data → Members → List ℕ → Asked
+board_of d members user =
+    need (number_at (codes "board") d) (codes "board") (λ board.
+    need (from_if_there d) (codes "from") (λ from.
+    need (count_if_there 1000 d) (codes "count") (λ count.
+    no_other (first_other kind.Board (names_of members)) (Ok (user, Board (record { 0 = board }) (record { from = from; count = count }))))))
+
 abbrev pub asked_by : CallKind → Data → Members → List ℕ → Asked
 asked_by kind.Create d members user = create_of d members user
 asked_by kind.Edit d members user = edit_of d members user
@@ -177,11 +234,17 @@ asked_by kind.MoveBefore d members user = move_of kind.MoveBefore MoveBefore d m
 asked_by kind.MoveAfter d members user = move_of kind.MoveAfter MoveAfter d members user
 asked_by kind.RebalanceStart d members user = rebalance_start_of members user
 asked_by kind.RebalanceStep d members user = rebalance_step_of d members user
+asked_by kind.SaveFilter d members user = save_filter_of d members user
+asked_by kind.DropFilter d members user = drop_filter_of d members user
+asked_by kind.MakeBoard d members user = make_board_of d members user
+asked_by kind.DropBoard d members user = drop_board_of d members user
 asked_by kind.Show d members user = show_of d members user
 asked_by kind.History d members user = history_of d members user
 asked_by kind.Search d members user = search_of d members user
 asked_by kind.Ranks d members user = ranks_of d members user
 asked_by kind.Balance d members user = balance_of members user
+asked_by kind.Filter d members user = filter_of d members user
+asked_by kind.Board d members user = board_of d members user
 
 -- the user and the call, or the first fault in the order of the members
 abbrev pub call_of : Data → Asked

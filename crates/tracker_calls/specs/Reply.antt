@@ -12,6 +12,7 @@ use Rattle.tracker_calls.specs.declared.reply.Shown.TheVariants as shown
 use Rattle.tracker_calls.specs.declared.reply.ShownField.{ShownField}
 use Rattle.tracker_calls.specs.declared.reply.ToldEntry.{ToldEntry}
 use Rattle.tracker_calls.specs.declared.reply.RankedKey.{RankedKey}
+use Rattle.tracker_calls.specs.declared.reply.Column.{Column}
 use Rattle.tracker_calls.specs.declared.reply.BalanceState.{BalanceState}
 use Rattle.tracker_calls.specs.declared.reply.BalanceState.TheVariants as state
 use Rattle.tracker_calls.specs.declared.reply.BalanceKept.{BalanceKept}
@@ -32,17 +33,23 @@ thing_name thing.Issue = codes "issue"
 thing_name thing.Transition = codes "transition"
 thing_name thing.Sprint = codes "sprint"
 thing_name thing.Field = codes "field"
+thing_name thing.Filter = codes "filter"
+thing_name thing.Board = codes "board"
 
 abbrev pub limit_name : Limit → List ℕ
 limit_name limit.Issues = codes "issues"
 limit_name limit.Entries = codes "entries"
 limit_name limit.TextBytes = codes "text_bytes"
+limit_name limit.Filters = codes "filters"
+limit_name limit.Boards = codes "boards"
 
 -- how many are kept at most
 abbrev pub limit_number : Limit → ℕ
 limit_number limit.Issues = 50_000
 limit_number limit.Entries = 2_000_000
 limit_number limit.TextBytes = 500_000_000
+limit_number limit.Filters = 200
+limit_number limit.Boards = 200
 
 abbrev pub permission_name : Permission → List ℕ
 permission_name permission.Browse = codes "browse"
@@ -147,6 +154,24 @@ balance_data (state.Moving from left to) longest offer = object
     (member (codes "state") (string (codes "moving"))
     (member (codes "to") (natural to) no_members))))))
 
+abbrev pub save_filter_data : ℕ → ℕ → Data
+save_filter_data filter members = object (member (codes "filter") (natural filter) (member (codes "members") (natural members) no_members))
+
+-- answers that tell a filter or a board by its number
+abbrev pub filter_number_data : ℕ → Data
+filter_number_data filter = object (member (codes "filter") (natural filter) no_members)
+
+abbrev pub board_number_data : ℕ → Data
+board_number_data board = object (member (codes "board") (natural board) no_members)
+
+-- a status with the issues that have it
+abbrev pub column_data : Column → Data
+column_data c = object (member (codes "issues") (texts_data c.issues) (member (codes "status") (string c.status) no_members))
+
+abbrev pub board_data : List Column → ℕ → Data
+board_data columns total = object
+    (member (codes "columns") (array (items_of (map column_data columns))) (member (codes "total") (natural total) no_members))
+
 abbrev pub answer_data : Answer → Data
 answer_data (answer.Create already change issue) = create_data already change issue
 answer_data (answer.Edit change issue) = edit_data change issue
@@ -160,6 +185,12 @@ answer_data (answer.Ranks ranks total) = ranks_data ranks total
 answer_data (answer.RebalanceStart from to) = rebalance_start_data from to
 answer_data (answer.RebalanceStep left moved) = rebalance_step_data left moved
 answer_data (answer.Balance state longest offer) = balance_data state longest offer
+answer_data (answer.SaveFilter filter members) = save_filter_data filter.0 members
+answer_data (answer.DropFilter filter) = filter_number_data filter.0
+answer_data (answer.Filter issues total) = search_data issues total
+answer_data (answer.MakeBoard board) = board_number_data board.0
+answer_data (answer.DropBoard board) = board_number_data board.0
+answer_data (answer.Board columns total) = board_data columns total
 
 -- the members under `refused`
 abbrev pub form_data : List ℕ → Data

@@ -5,11 +5,13 @@ ghost use Rattle.tracker_calls.specs.Taken.{asked_in};
 use crate::call::{Call, CallKind, MOST_ENTRIES, MOST_LISTED, Part};
 use crate::given::{take_set, take_set_if_there};
 use crate::members::{
-    count_at, count_if_there, first_other, from_if_there, misses, moment_at, other_than, text_at,
+    count_at, count_if_there, first_other, from_if_there, misses, moment_at, number_at, other_than,
+    text_at, title_at,
 };
 use crate::reply::Refusal;
 use crate::taken::{take_text, take_user};
 use crate::user_name::UserName;
+use field_values::{BoardNo, FilterNo};
 use serde_json::{Map, Value};
 use std::alloc::Global;
 
@@ -30,11 +32,17 @@ pub fn asked_in(
         CallKind::MoveAfter => move_after_of(alloc, members),
         CallKind::RebalanceStart => rebalance_start_of(alloc, members),
         CallKind::RebalanceStep => rebalance_step_of(alloc, members),
+        CallKind::SaveFilter => save_filter_of(alloc, members),
+        CallKind::DropFilter => drop_filter_of(alloc, members),
+        CallKind::MakeBoard => make_board_of(alloc, members),
+        CallKind::DropBoard => drop_board_of(alloc, members),
         CallKind::Show => show_of(alloc, members),
         CallKind::History => history_of(alloc, members),
         CallKind::Search => search_of(alloc, members),
         CallKind::Ranks => ranks_of(alloc, members),
         CallKind::Balance => balance_of(alloc, members),
+        CallKind::Filter => filter_of(alloc, members),
+        CallKind::Board => board_of(alloc, members),
     }
 }
 
@@ -209,6 +217,97 @@ fn rebalance_step_of(
 }
 
 #[tactic(auto, using(crate::proofs::Taking::text_at_without))]
+fn save_filter_of(
+    alloc: Global,
+    members: &mut Map<String, Value>,
+) -> Result<(UserName, Call), Refusal>
+    ensures { UnlessMemory result (asked_in CallKind.SaveFilter members.old) }
+{
+    let Some(_) = title_at(members, "name") else {
+        return misses(alloc, "name");
+    };
+    let Some(_) = text_at(members, "jql") else {
+        return misses(alloc, "jql");
+    };
+    if let Some(other) = first_other(CallKind::SaveFilter, members) {
+        return misses(alloc, other);
+    }
+    let name = take_text(alloc, members, "name");
+    let jql = take_text(alloc, members, "jql");
+    let user = take_user(alloc, members);
+    Ok((user, Call::SaveFilter { name, jql }))
+}
+
+fn drop_filter_of(
+    alloc: Global,
+    members: &mut Map<String, Value>,
+) -> Result<(UserName, Call), Refusal>
+    ensures { UnlessMemory result (asked_in CallKind.DropFilter members.old) }
+{
+    let Some(number) = number_at(members, "filter") else {
+        return misses(alloc, "filter");
+    };
+    if let Some(other) = first_other(CallKind::DropFilter, members) {
+        return misses(alloc, other);
+    }
+    let user = take_user(alloc, members);
+    Ok((
+        user,
+        Call::DropFilter {
+            filter: FilterNo(number),
+        },
+    ))
+}
+
+#[tactic(auto, using(crate::proofs::Taking::text_at_without))]
+fn make_board_of(
+    alloc: Global,
+    members: &mut Map<String, Value>,
+) -> Result<(UserName, Call), Refusal>
+    ensures { UnlessMemory result (asked_in CallKind.MakeBoard members.old) }
+{
+    let Some(_) = title_at(members, "name") else {
+        return misses(alloc, "name");
+    };
+    let Some(number) = number_at(members, "filter") else {
+        return misses(alloc, "filter");
+    };
+    if let Some(other) = first_other(CallKind::MakeBoard, members) {
+        return misses(alloc, other);
+    }
+    let name = take_text(alloc, members, "name");
+    let user = take_user(alloc, members);
+    Ok((
+        user,
+        Call::MakeBoard {
+            name,
+            filter: FilterNo(number),
+        },
+    ))
+}
+
+fn drop_board_of(
+    alloc: Global,
+    members: &mut Map<String, Value>,
+) -> Result<(UserName, Call), Refusal>
+    ensures { UnlessMemory result (asked_in CallKind.DropBoard members.old) }
+{
+    let Some(number) = number_at(members, "board") else {
+        return misses(alloc, "board");
+    };
+    if let Some(other) = first_other(CallKind::DropBoard, members) {
+        return misses(alloc, other);
+    }
+    let user = take_user(alloc, members);
+    Ok((
+        user,
+        Call::DropBoard {
+            board: BoardNo(number),
+        },
+    ))
+}
+
+#[tactic(auto, using(crate::proofs::Taking::text_at_without))]
 fn show_of(alloc: Global, members: &mut Map<String, Value>) -> Result<(UserName, Call), Refusal>
     ensures { UnlessMemory result (asked_in CallKind.Show members.old) }
 {
@@ -306,4 +405,54 @@ fn balance_of(alloc: Global, members: &mut Map<String, Value>) -> Result<(UserNa
     }
     let user = take_user(alloc, members);
     Ok((user, Call::Balance))
+}
+
+fn filter_of(alloc: Global, members: &mut Map<String, Value>) -> Result<(UserName, Call), Refusal>
+    ensures { UnlessMemory result (asked_in CallKind.Filter members.old) }
+{
+    let Some(number) = number_at(members, "filter") else {
+        return misses(alloc, "filter");
+    };
+    let Some(from) = from_if_there(members) else {
+        return misses(alloc, "from");
+    };
+    let Some(count) = count_if_there(members, MOST_LISTED) else {
+        return misses(alloc, "count");
+    };
+    if let Some(other) = first_other(CallKind::Filter, members) {
+        return misses(alloc, other);
+    }
+    let user = take_user(alloc, members);
+    Ok((
+        user,
+        Call::Filter {
+            filter: FilterNo(number),
+            part: Part { from, count },
+        },
+    ))
+}
+
+fn board_of(alloc: Global, members: &mut Map<String, Value>) -> Result<(UserName, Call), Refusal>
+    ensures { UnlessMemory result (asked_in CallKind.Board members.old) }
+{
+    let Some(number) = number_at(members, "board") else {
+        return misses(alloc, "board");
+    };
+    let Some(from) = from_if_there(members) else {
+        return misses(alloc, "from");
+    };
+    let Some(count) = count_if_there(members, MOST_LISTED) else {
+        return misses(alloc, "count");
+    };
+    if let Some(other) = first_other(CallKind::Board, members) {
+        return misses(alloc, other);
+    }
+    let user = take_user(alloc, members);
+    Ok((
+        user,
+        Call::Board {
+            board: BoardNo(number),
+            part: Part { from, count },
+        },
+    ))
 }

@@ -3,7 +3,7 @@ ghost use Rattle.std.specs.Prelude.{◌≡◌, map};
 ghost use Rattle.tracker_calls.specs.Asked.{kind_named, call_members};
 
 use crate::given::GivenFields;
-use field_values::{Moment, Text};
+use field_values::{BoardNo, FilterNo, Moment, Text};
 
 /// What a line asks for.
 pub enum Call {
@@ -54,6 +54,30 @@ pub enum Call {
         count: u32,
     },
 
+    /// The user's filter of that name is to be this query, or a new one is.
+    SaveFilter {
+        /// 1 to 100 bytes without control characters.
+        name: Text,
+        jql: Text,
+    },
+
+    /// The filter is to be kept no longer.
+    DropFilter {
+        filter: FilterNo,
+    },
+
+    /// A new board of that name is to show the issues of the filter.
+    MakeBoard {
+        /// 1 to 100 bytes without control characters.
+        name: Text,
+        filter: FilterNo,
+    },
+
+    /// The board is to be kept no longer.
+    DropBoard {
+        board: BoardNo,
+    },
+
     /// The issue's present values.
     Show {
         issue: Text,
@@ -78,6 +102,18 @@ pub enum Call {
 
     /// Whether ranks are on the way to another bucket, and how long the longest is.
     Balance,
+
+    /// A part of the issues of which the filter's query holds.
+    Filter {
+        filter: FilterNo,
+        part: Part,
+    },
+
+    /// A part of the board's issues, each in the column of its status.
+    Board {
+        board: BoardNo,
+        part: Part,
+    },
 }
 
 // Written by hand, so that whoever lets one go makes one call, and its proof takes one step there.
@@ -101,11 +137,17 @@ impl Drop for Call {
             | Call::MoveAfter { issue: _, other: _ }
             | Call::RebalanceStart
             | Call::RebalanceStep { count: _ }
+            | Call::SaveFilter { name: _, jql: _ }
+            | Call::DropFilter { filter: _ }
+            | Call::MakeBoard { name: _, filter: _ }
+            | Call::DropBoard { board: _ }
             | Call::Show { issue: _ }
             | Call::History { issue: _, part: _ }
             | Call::Search { jql: _, part: _ }
             | Call::Ranks { part: _ }
-            | Call::Balance => {}
+            | Call::Balance
+            | Call::Filter { filter: _, part: _ }
+            | Call::Board { board: _, part: _ } => {}
         }
     }
 }
@@ -139,11 +181,17 @@ pub enum CallKind {
     MoveAfter,
     RebalanceStart,
     RebalanceStep,
+    SaveFilter,
+    DropFilter,
+    MakeBoard,
+    DropBoard,
     Show,
     History,
     Search,
     Ranks,
     Balance,
+    Filter,
+    Board,
 }
 
 /// The call of that name.
@@ -159,11 +207,17 @@ pub fn kind_named(name: &str) -> Option<CallKind>
         "move_after" => Some(CallKind::MoveAfter),
         "rebalance_start" => Some(CallKind::RebalanceStart),
         "rebalance_step" => Some(CallKind::RebalanceStep),
+        "save_filter" => Some(CallKind::SaveFilter),
+        "drop_filter" => Some(CallKind::DropFilter),
+        "make_board" => Some(CallKind::MakeBoard),
+        "drop_board" => Some(CallKind::DropBoard),
         "show" => Some(CallKind::Show),
         "history" => Some(CallKind::History),
         "search" => Some(CallKind::Search),
         "ranks" => Some(CallKind::Ranks),
         "balance" => Some(CallKind::Balance),
+        "filter" => Some(CallKind::Filter),
+        "board" => Some(CallKind::Board),
         _ => None,
     }
 }
@@ -181,10 +235,16 @@ pub fn call_members(kind: CallKind) -> &'static [&'static str]
         CallKind::MoveAfter => &["call", "issue", "other", "user"],
         CallKind::RebalanceStart => &["call", "user"],
         CallKind::RebalanceStep => &["call", "count", "user"],
+        CallKind::SaveFilter => &["call", "jql", "name", "user"],
+        CallKind::DropFilter => &["call", "filter", "user"],
+        CallKind::MakeBoard => &["call", "filter", "name", "user"],
+        CallKind::DropBoard => &["board", "call", "user"],
         CallKind::Show => &["call", "issue", "user"],
         CallKind::History => &["call", "count", "from", "issue", "user"],
         CallKind::Search => &["call", "count", "from", "jql", "user"],
         CallKind::Ranks => &["call", "count", "from", "user"],
         CallKind::Balance => &["call", "user"],
+        CallKind::Filter => &["call", "count", "filter", "from", "user"],
+        CallKind::Board => &["board", "call", "count", "from", "user"],
     }
 }

@@ -4,6 +4,7 @@
 
 mod asked;
 mod call;
+mod filters_json;
 mod given;
 mod history_json;
 mod json_text;
@@ -20,8 +21,8 @@ pub use call::{Call, CallKind, MOST_ENTRIES, MOST_FROM, MOST_LISTED, Part};
 pub use given::{Given, GivenField, GivenFields, has_twins};
 pub use line::read_line;
 pub use reply::{
-    Answer, BalanceKept, BalanceState, Limit, RankedKey, RankedKeys, Refusal, Reply, Shown,
-    ShownField, ShownFields, Thing, ToldEntries, ToldEntry,
+    Answer, BalanceKept, BalanceState, Column, Columns, Limit, RankedKey, RankedKeys, Refusal,
+    Reply, Shown, ShownField, ShownFields, Thing, ToldEntries, ToldEntry,
 };
 pub use reply_json::{KEEPER_TEXT, MEMORY_TEXT, reply_text};
 pub use request_lines::{

@@ -2,12 +2,13 @@
 ghost use Rattle.std.specs.Prelude.{◌≡◌, map, option_map, Err};
 ghost use Rattle.serde_json.specs.Find.{get_member};
 ghost use Rattle.serde_json.specs.View.{view, members_view};
-ghost use Rattle.tracker_calls.specs.Asked.{text_at, moment_at, other_than, first_other, is_among, is_member, call_members, names_of, UnlessMemory};
+ghost use Rattle.tracker_calls.specs.Asked.{text_at, title_at, number_at, moment_at, other_than, first_other, is_among, is_member, call_members, names_of, UnlessMemory};
 ghost use Rattle.tracker_calls.specs.Taken.{object_of};
 ghost use Rattle.tracker_calls.specs.Part.{whole_within, whole_or, from_if_there, count_if_there, count_at};
 
 use crate::call::{CallKind, MOST_FROM, call_members};
 use crate::reply::Refusal;
+use field_forms::name_form::is_title;
 use field_values::{Moment, Text};
 use serde_json::{Map, Value};
 use std::alloc::Global;
@@ -34,6 +35,21 @@ pub fn text_at<'v>(members: &'v Map<String, Value>, name: &str) -> Option<&'v st
     ensures { option_map (λ text. text.now) result ≡ text_at name.now (object_of members.now) }
 {
     member(members, name).and_then(Value::as_str)
+}
+
+/// The text of that name, where it has the form of a name of a saved filter or a board.
+pub fn title_at<'v>(members: &'v Map<String, Value>, name: &str) -> Option<&'v str>
+    ensures { option_map (λ text. text.now) result ≡ title_at name.now (object_of members.now) }
+{
+    let text = text_at(members, name)?;
+    if is_title(text) { Some(text) } else { None }
+}
+
+/// The number of a saved filter or a board.
+pub fn number_at(members: &Map<String, Value>, name: &str) -> Option<u32>
+    ensures { result ≡ number_at name.now (object_of members.now) }
+{
+    whole_within(member(members, name)?, 0, u32::MAX)
 }
 
 /// The member `other`, where it is a text and not this one.

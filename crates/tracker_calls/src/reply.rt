@@ -1,7 +1,7 @@
 ghost use Rattle.std.specs.Prelude.{◌≡◌, ◌∷◌, ◌++◌, [], OnOk, OnErr};
 ghost use Rattle.tracker_calls.specs.declared.reply.Refusal.TheVariants.{Memory as OutOfMemory};
 
-use field_values::{Memory, Moment, Names, Permission, Sequence, Text};
+use field_values::{BoardNo, FilterNo, Memory, Moment, Names, Permission, Sequence, Text};
 use std::alloc::Global;
 use std::marker::Model;
 
@@ -97,7 +97,50 @@ pub enum Answer {
         longest: u64,
         offer: bool,
     },
+
+    /// The filter's number, and of how many issues its query holds.
+    SaveFilter {
+        filter: FilterNo,
+        members: u64,
+    },
+
+    /// The number that the filter had.
+    DropFilter {
+        filter: FilterNo,
+    },
+
+    /// The keys of some of the issues of which the filter's query holds, and of how many it holds.
+    Filter {
+        issues: Names,
+        total: u64,
+    },
+
+    /// The board's number.
+    MakeBoard {
+        board: BoardNo,
+    },
+
+    /// The number that the board had.
+    DropBoard {
+        board: BoardNo,
+    },
+
+    /// Some of the board's issues in their columns, and how many issues it has.
+    Board {
+        columns: Columns,
+        total: u64,
+    },
 }
+
+/// A column of a board: a status, and the keys of issues that have it.
+#[derive(Drop)]
+pub struct Column {
+    pub issues: Names,
+    pub status: Text,
+}
+
+/// The columns that an answer tells.
+pub type Columns = Sequence<Column>;
 
 /// An issue's key and its rank.
 #[derive(Drop)]
@@ -293,6 +336,8 @@ pub enum Thing {
     Transition,
     Sprint,
     Field,
+    Filter,
+    Board,
 }
 
 /// What the tracker keeps no more of than a number.
@@ -302,6 +347,9 @@ pub enum Limit {
     Entries,
     /// The bytes of texts and labels, and some for each version.
     TextBytes,
+    /// Saved filters.
+    Filters,
+    Boards,
 }
 
 impl From<Memory> for Refusal {

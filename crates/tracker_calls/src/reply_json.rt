@@ -3,6 +3,9 @@ ghost use Rattle.std.specs.Prelude.{◌≡◌, IfOk, OnOk};
 ghost use Rattle.tracker_calls.specs.Written.{after};
 ghost use Rattle.tracker_calls.specs.Reply.{reply_text, reply_data, answer_data, create_data, edit_data, tick_data, search_data, refusal_data, form_data, unknown_data, forbidden_data, index_data, permission_name, unfit_data, query_data, limit_data, earlier_data, no_room_data, balance_text, balance_is_data, number_data, thing_name, limit_name, limit_number};
 
+use crate::filters_json::{
+    write_board, write_board_number, write_filter_number, write_save_filter,
+};
 use crate::history_json::write_history;
 use crate::json_text::JsonText;
 use crate::ranks_json::{
@@ -75,6 +78,12 @@ fn write_answer(alloc: Global, out: &mut JsonText, answer: &Answer) -> Result<()
             longest,
             offer,
         } => write_balance(out, *state, *longest, *offer),
+        Answer::SaveFilter { filter, members } => write_save_filter(out, *filter, *members),
+        Answer::DropFilter { filter } => write_filter_number(out, *filter),
+        Answer::Filter { issues, total } => write_search(out, issues.as_slice(), *total),
+        Answer::MakeBoard { board } => write_board_number(out, *board),
+        Answer::DropBoard { board } => write_board_number(out, *board),
+        Answer::Board { columns, total } => write_board(out, columns.as_slice(), *total),
     }
 }
 
@@ -289,6 +298,8 @@ impl Thing {
             Thing::Transition => "transition",
             Thing::Sprint => "sprint",
             Thing::Field => "field",
+            Thing::Filter => "filter",
+            Thing::Board => "board",
         }
     }
 }
@@ -302,6 +313,8 @@ impl Limit {
             Limit::Issues => "issues",
             Limit::Entries => "entries",
             Limit::TextBytes => "text_bytes",
+            Limit::Filters => "filters",
+            Limit::Boards => "boards",
         }
     }
 
@@ -313,6 +326,8 @@ impl Limit {
             Limit::Issues => 50_000,
             Limit::Entries => 2_000_000,
             Limit::TextBytes => 500_000_000,
+            Limit::Filters => 200,
+            Limit::Boards => 200,
         }
     }
 }
