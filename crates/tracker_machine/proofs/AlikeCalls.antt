@@ -3,12 +3,16 @@ use Rattle.std.proofs.Common.{◌≡◌, ℕ, ◌+◌, ◌∷◌, ◌++◌, [], 
 use Rattle.std.specs.Prelude.{if◌then◌else◌}
 use mathlib.Core.Path.{fun_ext}
 use Rattle.std.proofs.lemmas.List.{map-append}
+use Rattle.std.specs.Option.{option_map_or}
 use Rattle.std.specs.Ordering.{is_lt, nat_cmp}
+use Rattle.field_values.specs.declared.numbers.BoardNo.{BoardNo}
+use Rattle.field_values.specs.declared.numbers.FilterNo.{FilterNo}
 use Rattle.field_values.specs.declared.numbers.IssueNo.{IssueNo}
 use Rattle.field_values.specs.Parts.{Parts}
 use Rattle.change_history.specs.declared.change.Change.{Change}
 use Rattle.change_history.specs.History.{History}
 use Rattle.rank_strings.specs.Rank.{RankParts}
+use Rattle.board.specs.declared.board.Board.{Board}
 use Rattle.board.specs.declared.place.Place.{Place}
 use Rattle.board.specs.declared.place.Place.TheVariants.{Before, After}
 use Rattle.board.specs.Order.{Pair}
@@ -41,15 +45,19 @@ use Rattle.tracker_machine.specs.Wanted.{changes_of}
 use Rattle.tracker_machine.specs.Move.{move_meaning, move_refusal, move_answer, moved_beside, newly_ranked}
 use Rattle.tracker_machine.specs.Ranks.{ranks_answer}
 use Rattle.tracker_machine.specs.Rebalance.{balance_answer}
-use Rattle.tracker_machine.specs.Search.{Query, asked, comes_before, found, listed, search_answer, searched, search_meaning}
+use Rattle.tracker_machine.specs.Query.{Query, asked}
+use Rattle.tracker_machine.specs.Search.{comes_before, found, listed, search_answer, searched, search_meaning}
+use Rattle.tracker_machine.specs.Saved.{SavedFilter, saved_query}
+use Rattle.tracker_machine.specs.Filters.{filter_numbered, shown, filter_answer, filter_told, filter_meaning}
+use Rattle.tracker_machine.specs.Boards.{by_rank, board_issues, board_numbered, columns_from, board_answer, board_told, board_meaning}
 use Rattle.tracker_machine.specs.Checks.{caller_refusal}
 use Rattle.tracker_machine.specs.Step.{meaning, meaning_for, form_refusal, user_of}
 use Rattle.tracker_machine.specs.RankLaws.{MovesOneIssue, rebalances, without_ranks}
-use Rattle.tracker_machine.proofs.Plain.{IsPlain, edit_plain, transition_plain, tick_plain, show_plain, history_plain}
+use Rattle.tracker_machine.proofs.Plain.{IsPlain, edit_plain, transition_plain, tick_plain, show_plain, history_plain, save_filter_plain, drop_filter_plain, make_board_plain, drop_board_plain}
 use Rattle.tracker_machine.proofs.Placed.{apart, are_numbered}
 use Rattle.tracker_machine.proofs.MovedIssue.{moves_are_of_one_issue}
 use Rattle.tracker_machine.proofs.Alike.{reranked, GoesAlike, AreAlike, plain_alike, tells_alike, unless_alike, given_alike}
-use Rattle.tracker_machine.proofs.SameMeaning.{edit_same, transition_same, show_same, history_same, move_refusal_same}
+use Rattle.tracker_machine.proofs.SameMeaning.{edit_same, transition_same, show_same, history_same, move_refusal_same, save_filter_same, drop_filter_same, make_board_same, drop_board_same}
 
 -- whichever of two meanings it is, the reply is that of either
 ranked_reply : (m : Machine) (name : List ℕ) (issue : IssueNo) (rank : RankParts) → reply_to (newly_ranked m name issue rank) ≡ reply.Ok (move_answer name rank)
@@ -144,6 +152,53 @@ module _ (m : Machine) (order : List Pair) (balance : Balance) (has : HasRanks m
           subst (λ a. Alike (Finds (search_answer m caller part query)) (Finds a)) (sym (answer_same caller part query))
           (λ room more. plain_alike m order balance same (Finds (search_answer m caller part query)) tt)
 
+  -- ---- a filter and a board go by places too
+
+  filter_answer_same : (caller : ℕ) (part : Part) (f : SavedFilter) → filter_answer new caller part f ≡ filter_answer m caller part f
+  unfolding found listed shown
+  filter_answer_same caller part f =
+      sym (ap (λ before. answer.Filter (map (λ h. h.key) (part_of part (in_order before (shown m caller f)))) (length (shown m caller f)))
+      (before_same m.setup (saved_query m.setup f).keys))
+
+  filter_alike : (caller : ℕ) (filter_no : FilterNo) (part : Part) → Alike (filter_meaning m caller filter_no part) (filter_meaning new caller filter_no part)
+  unfolding filter_meaning
+  filter_alike caller filter_no part = by (filter_numbered m filter_no)
+    where
+      by : (o : Option SavedFilter) → Alike (filter_told m caller filter_no part o) (filter_told new caller filter_no part o)
+      by None = λ room more. plain_alike m order balance same (filter_told m caller filter_no part None) tt
+      by (Some f) =
+          subst (λ a. Alike (Tells (filter_answer m caller part f)) (Tells a)) (sym (filter_answer_same caller part f))
+          (λ room more. plain_alike m order balance same (Tells (filter_answer m caller part f)) tt)
+
+  by_rank_same : (histories : List History) → by_rank m.order histories ≡ by_rank order histories
+  unfolding by_rank
+  by_rank_same histories =
+      ap (λ before. in_order before histories)
+      (fun_ext (λ (one : History). fun_ext (λ (other : History). ap₂ (λ i j. is_lt (nat_cmp i j)) (places.before one.no.0) (places.before other.no.0))))
+
+  issues_same : (caller : ℕ) (b : Board) → board_issues new caller b ≡ board_issues m caller b
+  unfolding shown
+  issues_same caller b = by (filter_numbered m b.filter)
+    where
+      by : (o : Option SavedFilter) → option_map_or (shown new caller) o [] ≡ option_map_or (shown m caller) o []
+      by None = refl
+      by (Some f) = refl
+
+  board_answer_same : (caller : ℕ) (part : Part) (b : Board) → board_answer new caller part b ≡ board_answer m caller part b
+  board_answer_same caller part b =
+      ap (λ issues. answer.Board (columns_from 0 m.setup.status (part_of part (by_rank order issues))) (length issues)) (issues_same caller b)
+      ∙ sym (ap (λ listed. answer.Board (columns_from 0 m.setup.status (part_of part listed)) (length (board_issues m caller b))) (by_rank_same (board_issues m caller b)))
+
+  board_alike : (caller : ℕ) (board_no : BoardNo) (part : Part) → Alike (board_meaning m caller board_no part) (board_meaning new caller board_no part)
+  unfolding board_meaning
+  board_alike caller board_no part = by (board_numbered m board_no)
+    where
+      by : (o : Option Board) → Alike (board_told m caller board_no part o) (board_told new caller board_no part o)
+      by None = λ room more. plain_alike m order balance same (board_told m caller board_no part None) tt
+      by (Some b) =
+          subst (λ a. Alike (Tells (board_answer m caller part b)) (Tells a)) (sym (board_answer_same caller part b))
+          (λ room more. plain_alike m order balance same (Tells (board_answer m caller part b)) tt)
+
   -- ---- each call
 
   same_alike : (due other : Meaning) → other ≡ due → IsPlain due → Alike due other
@@ -172,6 +227,13 @@ module _ (m : Machine) (order : List Pair) (balance : Balance) (has : HasRanks m
   call_alike user call.RebalanceStart form other = absurd (cc)
   call_alike user (call.RebalanceStep count) form other = absurd (cc)
   call_alike user call.Balance form other = λ room more. tells_alike m order balance same (balance_answer m) (balance_answer new) refl
+  call_alike user (call.SaveFilter name jql) form other = same_alike _ _ (save_filter_same m order balance user name jql) (save_filter_plain m user name jql)
+  call_alike user (call.DropFilter filter_no) form other = same_alike _ _ (drop_filter_same m order balance user filter_no) (drop_filter_plain m user filter_no)
+  call_alike user (call.Filter filter_no part) form other = filter_alike user filter_no part
+  call_alike user (call.MakeBoard name filter_no) form other =
+      same_alike _ _ (make_board_same m order balance user name filter_no) (make_board_plain m user name filter_no)
+  call_alike user (call.DropBoard board_no) form other = same_alike _ _ (drop_board_same m order balance user board_no) (drop_board_plain m user board_no)
+  call_alike user (call.Board board_no part) form other = board_alike user board_no part
 
   pub meaning_alike : (caller : List ℕ) (c : Call) → rebalances c ≡ false → Alike (meaning m caller c) (meaning new caller c)
   unfolding meaning

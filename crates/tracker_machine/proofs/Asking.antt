@@ -14,7 +14,7 @@ use Rattle.jql_syntax.proofs.Total.{text_decided}
 use Rattle.jql_grammar.specs.Binding.{bound_in}
 use Rattle.jql_grammar.specs.Scope.{Scope, scope_by}
 use Rattle.tracker_calls.specs.declared.reply.Refusal.TheVariants as refusal
-use Rattle.tracker_machine.specs.Search.{asked, asked_by, bound_or_fault}
+use Rattle.tracker_machine.specs.Query.{asked, asked_by, bound_or_fault}
 
 abbrev scope : Parts → ℕ → Scope
 scope setup user = scope_by setup (record { 0 = user })

@@ -8,6 +8,8 @@ use Rattle.std.proofs.lemmas.List.{length-append, length-map}
 use Rattle.std.proofs.lemmas.List.Elements.{All-nil, All-cons}
 use Rattle.std.proofs.lemmas.List.Sums.{sum_by-cons}
 use Rattle.std.proofs.lemmas.Option.{same_Some, none-some}
+use Rattle.rising_numbers.specs.ByNumber.{by_number}
+use Rattle.rising_numbers.proofs.ByNumber.{above}
 use Rattle.field_values.specs.declared.numbers.FieldNo.{FieldNo}
 use Rattle.field_values.specs.declared.numbers.UserNo.{UserNo}
 use Rattle.field_values.specs.declared.value.Value.{Value}
@@ -21,6 +23,7 @@ use Rattle.change_history.specs.declared.change.Change.{Change}
 use Rattle.change_history.specs.declared.entry.Entry.{Entry}
 use Rattle.change_history.specs.declared.entry.Group.{Group}
 use Rattle.change_history.specs.History.{History, MayAdd, opening_value, put_value, AreChanges, AreInOrder, FollowEachOther}
+use Rattle.board.specs.declared.board.Board.{Board}
 use Rattle.tracker_ranks.proofs.Keeping.{new_issues_go_last}
 use Rattle.tracker_keeper.specs.declared.part.Part.{Part}
 use Rattle.tracker_keeper.specs.Forms.{IsNumber, is_small, is_filled, may_hold, are_among, are_opening, IsIssueKey, IsGroupEntry}
@@ -30,10 +33,13 @@ use Rattle.jql_meaning.specs.Comparison.{project_of}
 use Rattle.tracker_machine.specs.Known.{project_keys, issues_of}
 use Rattle.tracker_machine.specs.Chronicle.{HasEntry}
 use Rattle.tracker_machine.specs.Tracker.{Holds, AllEntriesHold, AllEntriesFit, AllSmall, AreByUsers, IsSettled, RunsFrom, IsNextKey, AreKeyed, IsTracker, MayOpen, MayGroup}
+use Rattle.tracker_machine.specs.Saved.{SavedFilter, filter_number, board_number, IsFilter, IsBoard}
 use Rattle.tracker_machine.specs.Effect.{Effect, applied, IsAllowed, with_issue, longer, with_group, with_new_rank, with_balance, with_moves}
-use Rattle.tracker_machine.specs.Effect.Effect.{NewMoment, NewIssue, NewGroup, NewRank, NewBalance, NewRanks}
-use Rattle.tracker_machine.specs.Kept.{setup_part, present_part, issue_part, group_part, rank_part, issue_numbered, entries_of_change, group_of, issue_group, group_numbered, part_at, group_parts, rank_parts, parts_of, opening_parts}
+use Rattle.tracker_machine.specs.Effect.Effect.{NewMoment, NewIssue, NewGroup, NewRank, NewBalance, NewRanks, NewFilter, NoFilter, NewBoard, NoBoard}
+use Rattle.tracker_machine.specs.Kept.{Kind, lone, part_in, kinds, filter_part, board_part, setup_part, present_part, issue_part, group_part, rank_part, issue_numbered, entries_of_change, group_of, issue_group, group_numbered, part_at, group_parts, rank_parts, parts_of, opening_parts}
 use Rattle.tracker_machine.proofs.Chronicle.{few_groups}
+use Rattle.tracker_machine.proofs.Puts.{saved_kinds, other_kinds}
+use Rattle.tracker_machine.proofs.Saved.{all_found, found_number, found_there}
 use Rattle.tracker_machine.proofs.Settled.{at_place, from_found, settled_at}
 use Rattle.tracker_machine.proofs.Tracker.{tracker_opening, tracker_applied}
 use Rattle.tracker_machine.proofs.Kept.{issue_found, group_found, next_is_none}
@@ -333,29 +339,67 @@ setup_kept : (m : Machine) → IsSetupText m.text → IsPartAt m.setup 1 0 (setu
 unfolding IsPart
 setup_kept m read = record { is_part = read; kind_is = refl; number_is = refl }
 
-alone : (P : ℕ → ℕ → Type 0) (kind k n : ℕ) → (k == kind) && (n == 0) ≡ true → P kind 0 → P k n
-alone P kind k n here p =
-    let parts = and_parts (k == kind) (n == 0) here in
-    subst (λ i. P i n) (sym (eqb-true k kind parts.0)) (subst (P kind) (sym (eqb-true n 0 parts.1)) p)
+-- the lone part of a kind has number 0
+lone_kept : (setup : Parts) (kind n : ℕ) (own p : Part) → IsPartAt setup kind 0 own → lone own n ≡ Some p → IsPartAt setup kind n p
+lone_kept setup kind n own p kept is = by (n == 0) refl is
+  where
+    by : (b : Bool) → (n == 0) ≡ b → (if b then Some own else None) ≡ Some p → IsPartAt setup kind n p
+    by true first same = subst (λ i. IsPartAt setup kind i p) (sym (eqb-true n 0 first)) (subst (IsPartAt setup kind 0) (same_Some own p same) kept)
+    by false other same = absurd (none-some p same)
+
+filter_kept : (setup : Parts) (f : SavedFilter) → 1 ≤ f.no.0 → IsFilter setup f → IsPart setup (filter_part f)
+unfolding IsPart
+filter_kept setup f positive is =
+    record { numbered = (positive, is.small); owned = lt-ltb f.owner.0 (length setup.users) is.owned; named = is.named }
+
+filter_part_kept : (m : Machine) (n : ℕ) (p : Part) → IsTracker m → option_map filter_part (by_number filter_number n m.filters) ≡ Some p → IsPartAt m.setup 8 n p
+filter_part_kept m n p is p_is = by_found (by_number filter_number n m.filters) refl p_is where
+  by_found : (o : Option SavedFilter) → by_number filter_number n m.filters ≡ o → option_map filter_part o ≡ Some p → IsPartAt m.setup 8 n p
+  by_found None found more = absurd (none-some p more)
+  by_found (Some f) found more =
+      let number = found_number filter_number n f m.filters found in
+      let low = above filter_number 1 n f m.filters is.saved.rising found in
+      let kept = filter_kept m.setup f (omega (arith, low, number)) (all_found filter_number (IsFilter m.setup) n f m.filters found is.saved.each) in
+      subst (IsPartAt m.setup 8 n) (same_Some (filter_part f) p more) (record { is_part = kept; kind_is = refl; number_is = number })
+
+-- a board's filter is there, so that its number is small
+board_kept : (m : Machine) (b : Board) → IsTracker m → 1 ≤ b.no.0 → IsBoard m.filters b → IsPart m.setup (board_part b)
+unfolding IsPart
+board_kept m b is positive on =
+    let f = found_there filter_number b.filter.0 m.filters on.there in
+    let small = (all_found filter_number (IsFilter m.setup) b.filter.0 f.0 m.filters f.2 is.saved.each).small in
+    record { numbered = (positive, on.small); named = on.named; small = omega (arith, small, f.1) }
+
+board_part_kept : (m : Machine) (n : ℕ) (p : Part) → IsTracker m → option_map board_part (by_number board_number n m.boards) ≡ Some p → IsPartAt m.setup 9 n p
+board_part_kept m n p is p_is = by_found (by_number board_number n m.boards) refl p_is where
+  by_found : (o : Option Board) → by_number board_number n m.boards ≡ o → option_map board_part o ≡ Some p → IsPartAt m.setup 9 n p
+  by_found None found more = absurd (none-some p more)
+  by_found (Some b) found more =
+      let number = found_number board_number n b m.boards found in
+      let low = above board_number 1 n b m.boards is.saved.rising_boards found in
+      let kept = board_kept m b is (omega (arith, low, number)) (all_found board_number (IsBoard m.filters) n b m.boards found is.saved.each_board) in
+      subst (IsPartAt m.setup 9 n) (same_Some (board_part b) p more) (record { is_part = kept; kind_is = refl; number_is = number })
+
+-- each part of each of these kinds may be kept
+abbrev AreKept : Parts → ℕ → Part → List Kind → Type 0
+AreKept setup n p [] = Unit {0}
+AreKept setup n p (x ∷ xs) = (x.parts n ≡ Some p → IsPartAt setup x.kind n p) × AreKept setup n p xs
+
+found_kept : (setup : Parts) (k n : ℕ) (p : Part) (xs : List Kind) → AreKept setup n p xs → part_in xs k n ≡ Some p → IsPartAt setup k n p
+found_kept setup k n p [] are is = absurd (none-some p is)
+found_kept setup k n p (x ∷ xs) are is = by (k == x.kind) refl is (found_kept setup k n p xs are.1)
+  where
+    by : (b : Bool) → (k == x.kind) ≡ b → (if b then x.parts n else part_in xs k n) ≡ Some p → (part_in xs k n ≡ Some p → IsPartAt setup k n p) → IsPartAt setup k n p
+    by true same found rest = subst (λ i. IsPartAt setup i n p) (sym (eqb-true k x.kind same)) (are.0 found)
+    by false other found rest = rest found
 
 pub part_kept : (m : Machine) (k n : ℕ) (p : Part) → IsSetupText m.text → IsTracker m → part_at m k n ≡ Some p → IsPartAt m.setup k n p
 unfolding part_at
-part_kept m k n p read is p_is = elim (cases_Bool ((k == 1) && (n == 0))) [
-  | inl first ↦ alone (λ i j. IsPartAt m.setup i j p) 1 k n first (subst (IsPartAt m.setup 1 0) (same_Some (setup_part m) p (rw first at p_is)) (setup_kept m read))
-  | inr no1 ↦ elim (cases_Bool ((k == 2) && (n == 0))) [
-    | inl second ↦ alone (λ i j. IsPartAt m.setup i j p) 2 k n second (subst (IsPartAt m.setup 2 0) (same_Some (present_part m) p (rw (no1, second) at p_is)) (present_kept m is))
-    | inr no2 ↦ elim (cases_Bool (k == 3)) [
-      | inl third ↦ subst (λ i. IsPartAt m.setup i n p) (sym (eqb-true k 3 third)) (issue_part_kept m n p is (rw (no1, no2, third) at p_is))
-      | inr no3 ↦ elim (cases_Bool (k == 4)) [
-        | inl fourth ↦ subst (λ i. IsPartAt m.setup i n p) (sym (eqb-true k 4 fourth)) (group_part_kept m n p is (rw (no1, no2, no3, fourth) at p_is))
-        | inr no4 ↦ elim (cases_Bool (k == 5)) [
-          | inl fifth ↦ subst (λ i. IsPartAt m.setup i n p) (sym (eqb-true k 5 fifth)) (rank_part_kept m n p is (rw (no1, no2, no3, no4, fifth) at p_is))
-          | inr no5 ↦ absurd (none-some p (rw (no1, no2, no3, no4, no5) at p_is))
-        ]
-      ]
-    ]
-  ]
-]
+part_kept m k n p read is p_is =
+    let saved : AreKept m.setup n p (saved_kinds m) = (filter_part_kept m n p is, (board_part_kept m n p is, tt)) in
+    let others : AreKept m.setup n p (other_kinds m) = (issue_part_kept m n p is, (group_part_kept m n p is, (rank_part_kept m n p is, saved))) in
+    found_kept m.setup k n p (kinds m)
+    (lone_kept m.setup 1 n (setup_part m) p (setup_kept m read), (lone_kept m.setup 2 n (present_part m) p (present_kept m is), others)) p_is
 
 -- ---- the parts that are put
 
@@ -415,6 +459,10 @@ parts_kept (NewRanks moves) m may is =
     let now = present_kept (with_moves m moves) (tracker_applied (NewRanks moves) m may is) in
     All-cons (IsPart m.setup) (present_part (with_moves m moves)) (rank_parts moves) now.is_part
     (ranks_kept m moves is (moves_are_numbered m.order m.balance moves is.ranked may.0 may.1))
+parts_kept (NewFilter f) m may is = one_part m.setup (filter_part f) (filter_kept m.setup f may.positive may.filter)
+parts_kept (NoFilter filter_no) m may is = All-nil (IsPart m.setup)
+parts_kept (NewBoard b) m may is = one_part m.setup (board_part b) (board_kept m b is may.positive may.board)
+parts_kept (NoBoard board_no) m may is = All-nil (IsPart m.setup)
 
 pub opening_kept : (text : List ℕ) (setup : Parts) → IsSetupText text → All (IsPart setup) (opening_parts (opening text setup))
 opening_kept text setup read =

@@ -1,5 +1,5 @@
 -- An effect's operations keep what the effect does.
-use Rattle.std.proofs.Common.{◌≡◌, ℕ, zero, suc, ◌+◌, ◌<◌, ◌≤◌, ◌^◌, ◌==◌, ◌&&◌, Bool, false, List, [], ◌∷◌, ◌++◌, length, slice_get, set, map, Option, Some, None, option_map, refl, sym, ap, ◌∙◌, subst, arith, inl, inr, append-nil, eq-eqb}
+use Rattle.std.proofs.Common.{◌≡◌, ℕ, zero, suc, ◌+◌, ◌<◌, ◌≤◌, ◌^◌, ◌==◌, ◌&&◌, ◌≢◌, Bool, true, false, List, [], ◌∷◌, ◌++◌, length, slice_get, set, map, filter, Option, Some, None, option_map, refl, sym, ap, ◌∙◌, subst, arith, inl, inr, append-nil, eq-eqb}
 use Rattle.std.specs.Prelude.{if◌then◌else◌}
 use Rattle.std.specs.List.{All, find}
 use Rattle.std.specs.Option.{option_or, option_map_or}
@@ -7,7 +7,10 @@ use Rattle.std.proofs.lemmas.Bool.{eqb-true, cases_Bool}
 use Rattle.std.proofs.lemmas.List.Elements.{All-nil, All-cons, All-head, All-tail, filter-append}
 use Rattle.std.proofs.lemmas.Option.{same_Some}
 use mathlib.Core.Path.{fun_ext}
+use Rattle.rising_numbers.specs.ByNumber.{by_number, put_by_number, without_number}
+use Rattle.field_values.specs.declared.numbers.BoardNo.{BoardNo}
 use Rattle.field_values.specs.declared.numbers.FieldNo.{FieldNo}
+use Rattle.field_values.specs.declared.numbers.FilterNo.{FilterNo}
 use Rattle.field_values.specs.declared.numbers.UserNo.{UserNo}
 use Rattle.field_values.specs.declared.value.Value.{Value}
 use Rattle.field_values.specs.Parts.{Parts}
@@ -15,21 +18,27 @@ use Rattle.fields.specs.SetupParts.{names_in}
 use Rattle.change_history.specs.declared.entry.Entry.{Entry}
 use Rattle.change_history.specs.declared.entry.Group.{Group}
 use Rattle.change_history.specs.History.{History, present, AreGroupEntries, MayAdd}
+use Rattle.field_forms.specs.Known.{Names}
+use Rattle.board.specs.declared.board.Board.{Board}
 use Rattle.rank_strings.specs.Rank.{RankParts}
 use Rattle.rank_balancer.specs.Step.{Move}
-use Rattle.tracker_ranks.specs.Ranked.{IsNext}
+use Rattle.tracker_ranks.specs.Ranked.{IsNext, with_last}
 use Rattle.tracker_keeper.specs.declared.part.Part.{Part}
 use Rattle.tracker_keeper.specs.declared.row.RowOp.{RowOp}
+use Rattle.tracker_keeper.specs.declared.row.RowOp.TheVariants.{Drop}
 use Rattle.tracker_keeper.specs.Rows.{no_rows, with_ops, number_of}
 use Rattle.tracker_machine.specs.Machine.{Machine, opening}
 use Rattle.tracker_machine.specs.Chronicle.{HasEntry}
 use Rattle.tracker_machine.specs.Tracker.{RunsFrom, IsTracker, MayOpen, MayGroup}
-use Rattle.tracker_machine.specs.Effect.{Effect, applied, IsAllowed, with_issue, longer, with_group}
-use Rattle.tracker_machine.specs.Effect.Effect.{NewMoment, NewIssue, NewGroup, NewRank, NewBalance, NewRanks}
-use Rattle.tracker_machine.specs.Kept.{setup_part, present_part, issue_part, group_part, rank_part, issue_numbered, entries_of_change, group_of, issue_group, group_numbered, rank_numbered, part_at, rows_of, put_parts, group_parts, rank_parts, parts_of, ops_of, opening_parts, opening_ops}
-use Rattle.tracker_machine.proofs.Puts.{with_parts, texts, parts_put, present_put, issue_put, group_put, rank_put, opening_put}
+use Rattle.tracker_machine.specs.Saved.{SavedFilter, filter_number, board_number, is_board_of, IsFilter, IsBoard}
+use Rattle.tracker_machine.specs.Effect.{Effect, applied, IsAllowed, with_issue, longer, with_group, without_filter, without_board}
+use Rattle.tracker_machine.specs.Effect.Effect.{NewMoment, NewIssue, NewGroup, NewRank, NewBalance, NewRanks, NewFilter, NoFilter, NewBoard, NoBoard}
+use Rattle.tracker_machine.specs.Kept.{Kind, kind_of, lone, part_in, filter_part, board_part, board_drops, drops_of, setup_part, present_part, issue_part, group_part, rank_part, issue_numbered, entries_of_change, group_of, issue_group, group_numbered, rank_numbered, part_at, rows_of, put_parts, group_parts, rank_parts, parts_of, ops_of, opening_parts, opening_ops}
+use Rattle.tracker_machine.proofs.Puts.{with_at, with_parts, texts, parts_put, part_dropped, part_set, lone_new, lone_kind, issue_kind, group_kind, rank_kind, filter_kind, board_kind, kinds_before, saved_kinds, other_kinds, present_set}
 use Rattle.tracker_machine.proofs.Ranks.{IsNumbered, moves_are_numbered}
 use Rattle.tracker_machine.proofs.RankRows.{rank_added, rank_applied, balance_applied, moves_applied}
+use Rattle.tracker_machine.proofs.Saved.{all_found, all_filter, found_there}
+use Rattle.tracker_machine.proofs.SavedRows.{part_put, part_without, boards_dropped, others_left}
 use Rattle.tracker_machine.proofs.Settled.{at_place, from_found}
 use Rattle.tracker_machine.proofs.Chronicle.{few_groups}
 
@@ -158,44 +167,66 @@ group_applied : (m : Machine) (place : ℕ) (g : Group) (h : History) → IsTrac
 unfolding part_at
 group_applied m place g h is may at k n =
     let added : AreOf h g = from_found (slice_get m.histories place) h (λ i. AreOf i g) at may.group in
+    let setup : Part = setup_part m in
     let now : Part = present_part (with_group m place g) in
-    let issue : Option Part = option_map issue_part (issue_numbered m.histories n) in
-    let old : Option Part = group_numbered m.histories n in
-    let ranks : Option Part = if k == 5 then rank_numbered m.order n else None in
-    rw (at, issue_stays m.histories place h g.entries n at, groups_found m.histories place h g n at (next_is_none m g.change is may.change) added)
-    (group_put k n g.change (Some (setup_part m)) (Some now) issue (Some (group_part h g)) old ranks
-    ∙ ap (λ (o : Option Part). if (4 == k) && (g.change == n) then Some (group_part h g) else o)
-    (present_put k n (Some (setup_part m)) (Some (present_part m)) (Some now) (if k == 3 then issue else (if k == 4 then old else ranks))))
+    let later : List History = set m.histories place (longer h g.entries) in
+    rw at
+    (ap (λ (o : Option Part). part_in (lone_kind 1 setup ∷ lone_kind 2 now ∷ kind_of 3 (λ i. o) ∷ group_kind later ∷ rank_kind m.order ∷ saved_kinds m) k n)
+    (issue_stays m.histories place h g.entries n at)
+    ∙ (part_set (lone_kind 1 setup ∷ lone_kind 2 now ∷ issue_kind m.histories ∷ []) (rank_kind m.order ∷ saved_kinds m) 4 g.change
+    (group_numbered m.histories) (group_numbered later) (Some (group_part h g)) k n refl (groups_found m.histories place h g n at (next_is_none m g.change is may.change) added)
+    ∙ ap (λ (o : Option Part). if (4 == k) && (g.change == n) then Some (group_part h g) else o) (present_set setup (present_part m) now (other_kinds m) k n)))
 
 -- the parts after a new issue
 issue_applied : (m : Machine) (h : History) (rank : RankParts) → IsTracker m → MayOpen m h → IsNext m.order m.balance h.no rank → (k n : ℕ)
     → part_at (with_issue m h rank) k n ≡ with_parts (present_part (with_issue m h rank) ∷ issue_part h ∷ rank_part h.no rank ∷ []) (part_at m) k n
 unfolding part_at
 issue_applied m h rank is may next k n =
+    let setup : Part = setup_part m in
     let now : Part = present_part (with_issue m h rank) in
-    let old : Option Part = option_map issue_part (issue_numbered m.histories n) in
-    let new : Option Part = if h.no.0 == n then Some (issue_part h) else old in
-    let group : Option Part = group_numbered m.histories n in
-    let ranks : Option Part = rank_numbered m.order n in
-    let setup : Option Part = Some (setup_part m) in
-    rw (issue_found m.histories h n is.numbers may.no, no_group_more m.histories h n may.entries, rank_added m.order m.balance h.no rank n is.ranked next)
-    (rank_put k n h.no.0 setup (Some now) new group (Some (rank_part h.no rank)) ranks None
+    let later : List History = m.histories ++ h ∷ [] in
+    part_set (lone_kind 1 setup ∷ lone_kind 2 now ∷ issue_kind later ∷ group_kind later ∷ []) (saved_kinds m) 5 h.no.0
+    (rank_numbered m.order) (rank_numbered (with_last m.order h.no rank)) (Some (rank_part h.no rank)) k n refl (rank_added m.order m.balance h.no rank n is.ranked next)
     ∙ ap (λ (o : Option Part). if (5 == k) && (h.no.0 == n) then Some (rank_part h.no rank) else o)
-    (issue_put k n h.no.0 setup (Some now) (Some (issue_part h)) old (if k == 4 then group else (if k == 5 then ranks else None))
+    (part_set (lone_kind 1 setup ∷ lone_kind 2 now ∷ []) (group_kind later ∷ rank_kind m.order ∷ saved_kinds m) 3 h.no.0
+    (λ i. option_map issue_part (issue_numbered m.histories i)) (λ i. option_map issue_part (issue_numbered later i)) (Some (issue_part h)) k n refl
+    (issue_found m.histories h n is.numbers may.no)
     ∙ ap (λ (o : Option Part). if (3 == k) && (h.no.0 == n) then Some (issue_part h) else o)
-    (present_put k n setup (Some (present_part m)) (Some now) (if k == 3 then old else (if k == 4 then group else (if k == 5 then ranks else None))))))
+    (ap (λ (o : Option Part). part_in (lone_kind 1 setup ∷ lone_kind 2 now ∷ issue_kind m.histories ∷ kind_of 4 (λ i. o) ∷ rank_kind m.order ∷ saved_kinds m) k n)
+    (no_group_more m.histories h n may.entries)
+    ∙ present_set setup (present_part m) now (other_kinds m) k n))
 
--- the parts after an effect are those before it, with those that it puts
-parts_applied : (e : Effect) (m : Machine) → IsAllowed e m → IsTracker m → (k n : ℕ) → part_at (applied e m) k n ≡ with_parts (parts_of e m) (part_at m) k n
+-- the parts of filters and of boards
+abbrev filter_parts : List SavedFilter → ℕ → Option Part
+filter_parts filters n = option_map filter_part (by_number filter_number n filters)
+
+abbrev board_parts : List Board → ℕ → Option Part
+board_parts boards n = option_map board_part (by_number board_number n boards)
+
+-- the effect ends nothing
+abbrev PutsParts : Effect → Type 0
+PutsParts (NoFilter filter_no) = ⊥
+PutsParts (NoBoard board_no) = ⊥
+PutsParts _ = Unit {0}
+
+-- the parts after an effect that puts some are those before it, with these
+parts_applied : (e : Effect) (m : Machine) → IsAllowed e m → IsTracker m → PutsParts e → (k n : ℕ) → part_at (applied e m) k n ≡ with_parts (parts_of e m) (part_at m) k n
 unfolding applied IsAllowed part_at parts_of
-parts_applied (NewMoment to) m may is k n =
-    present_put k n (Some (setup_part m)) (Some (present_part m)) (Some (present_part (record m { moment = to }))) _
-parts_applied (NewIssue h rank) m may is k n = issue_applied m h rank is may.0 may.1 k n
-parts_applied (NewGroup place g) m may is k n =
+parts_applied (NewMoment to) m may is puts k n = present_set (setup_part m) (present_part m) (present_part (record m { moment = to })) (other_kinds m) k n
+parts_applied (NewIssue h rank) m may is puts k n = issue_applied m h rank is may.0 may.1 k n
+parts_applied (NewGroup place g) m may is puts k n =
     let found = at_place m.histories place may.there in group_applied m place g found.0 is may found.1 k n
-parts_applied (NewRank issue rank) m may is k n = rank_applied m issue rank k n
-parts_applied (NewBalance balance) m may is k n = balance_applied m balance k n
-parts_applied (NewRanks moves) m may is k n = ap (λ (parts : ℕ → ℕ → Option Part). parts k n) (moves_applied m moves)
+parts_applied (NewRank issue rank) m may is puts k n = rank_applied m issue rank k n
+parts_applied (NewBalance balance) m may is puts k n = balance_applied m balance k n
+parts_applied (NewRanks moves) m may is puts k n = ap (λ (parts : ℕ → ℕ → Option Part). parts k n) (moves_applied m moves)
+parts_applied (NewFilter f) m may is puts k n =
+    part_set (kinds_before m) (board_kind m.boards ∷ []) 8 f.no.0 (filter_parts m.filters) (filter_parts (put_by_number filter_number f m.filters)) (Some (filter_part f)) k n refl
+    (part_put filter_number filter_part f m.filters n)
+parts_applied (NewBoard b) m may is puts k n =
+    part_set (kinds_before m ++ filter_kind m.filters ∷ []) [] 9 b.no.0 (board_parts m.boards) (board_parts (put_by_number board_number b m.boards)) (Some (board_part b)) k n refl
+    (part_put board_number board_part b m.boards n)
+parts_applied (NoFilter filter_no) m may is puts k n = absurd puts
+parts_applied (NoBoard board_no) m may is puts k n = absurd puts
 
 setup_stays : (e : Effect) (m : Machine) → (applied e m).setup ≡ m.setup
 unfolding applied
@@ -205,23 +236,104 @@ setup_stays (NewGroup place g) m = refl
 setup_stays (NewRank issue rank) m = refl
 setup_stays (NewBalance balance) m = refl
 setup_stays (NewRanks moves) m = refl
+setup_stays (NewFilter f) m = refl
+setup_stays (NoFilter filter_no) m = refl
+setup_stays (NewBoard b) m = refl
+setup_stays (NoBoard board_no) m = refl
+
+-- the rows after it are those before it, with what it puts
+rows_put : (e : Effect) (m : Machine) → IsAllowed e m → IsTracker m → PutsParts e → rows_of (applied e m) ≡ with_ops (put_parts m.setup (parts_of e m)) (rows_of m)
+unfolding rows_of
+rows_put e m may is puts =
+    ap (λ setup. texts (names_in setup) (part_at (applied e m))) (setup_stays e m)
+    ∙ (ap (texts (names_in m.setup)) (fun_ext (λ k. fun_ext (λ n. parts_applied e m may is puts k n)))
+    ∙ sym (parts_put (names_in m.setup) (parts_of e m) (part_at m)))
+
+-- the kinds before boards where a filter is gone
+abbrev kinds_without : Machine → FilterNo → List Kind
+kinds_without m filter_no = kinds_before m ++ filter_kind (without_number filter_number filter_no.0 m.filters) ∷ []
+
+filter_gone : (m : Machine) (filter_no : FilterNo) → IsTracker m → (k n : ℕ)
+    → part_in (kinds_without m filter_no ++ board_kind m.boards ∷ []) k n ≡ with_at 8 filter_no.0 None (part_at m) k n
+unfolding part_at
+filter_gone m filter_no is k n =
+    part_set (kinds_before m) (board_kind m.boards ∷ []) 8 filter_no.0 (filter_parts m.filters) (filter_parts (without_number filter_number filter_no.0 m.filters)) None k n refl
+    (part_without filter_number filter_part 1 filter_no.0 m.filters n is.saved.rising)
+
+board_gone : (m : Machine) (board_no : BoardNo) → IsTracker m → (k n : ℕ) → part_at (without_board m board_no) k n ≡ with_at 9 board_no.0 None (part_at m) k n
+unfolding part_at
+board_gone m board_no is k n =
+    part_set (kinds_before m ++ filter_kind m.filters ∷ []) [] 9 board_no.0 (board_parts m.boards) (board_parts (without_number board_number board_no.0 m.boards)) None k n refl
+    (part_without board_number board_part 1 board_no.0 m.boards n is.saved.rising_boards)
+
+-- a filter's row is dropped, and then those of its boards
+filter_rows : (m : Machine) (filter_no : FilterNo) → IsTracker m → rows_of (without_filter m filter_no) ≡ with_ops (Drop 8 filter_no.0 ∷ board_drops filter_no m.boards) (rows_of m)
+unfolding rows_of part_at
+filter_rows m filter_no is =
+    let names : Names = names_in m.setup in
+    let before : List Kind = kinds_without m filter_no in
+    let gone : List Board = filter (is_board_of filter_no) m.boards in
+    ap (λ (parts : ℕ → Option Part). texts names (part_in (before ++ kind_of 9 parts ∷ []))) (sym (fun_ext (λ n. others_left filter_no m.boards n is.saved.rising_boards)))
+    ∙ (sym (boards_dropped names before [] gone (board_parts m.boards) refl)
+    ∙ ap (with_ops (board_drops filter_no m.boards))
+    (ap (texts names) (fun_ext (λ k. fun_ext (λ n. filter_gone m filter_no is k n))) ∙ sym (part_dropped names 8 filter_no.0 (part_at m))))
+
+board_rows : (m : Machine) (board_no : BoardNo) → IsTracker m → rows_of (without_board m board_no) ≡ with_ops (Drop 9 board_no.0 ∷ []) (rows_of m)
+unfolding rows_of
+board_rows m board_no is =
+    ap (texts (names_in m.setup)) (fun_ext (λ k. fun_ext (λ n. board_gone m board_no is k n))) ∙ sym (part_dropped (names_in m.setup) 9 board_no.0 (part_at m))
 
 -- the rows after an effect are the rows before it, with its operations
 pub rows_applied : (e : Effect) (m : Machine) → IsAllowed e m → IsTracker m → rows_of (applied e m) ≡ with_ops (ops_of e m) (rows_of m)
-unfolding rows_of ops_of
-rows_applied e m may is =
-    ap (λ setup. texts (names_in setup) (part_at (applied e m))) (setup_stays e m)
-    ∙ (ap (texts (names_in m.setup)) (fun_ext (λ k. fun_ext (λ n. parts_applied e m may is k n)))
-    ∙ sym (parts_put (names_in m.setup) (parts_of e m) (part_at m)))
+unfolding ops_of drops_of applied
+rows_applied (NewMoment to) m may is = rows_put (NewMoment to) m may is tt
+rows_applied (NewIssue h rank) m may is = rows_put (NewIssue h rank) m may is tt
+rows_applied (NewGroup place g) m may is = rows_put (NewGroup place g) m may is tt
+rows_applied (NewRank issue rank) m may is = rows_put (NewRank issue rank) m may is tt
+rows_applied (NewBalance balance) m may is = rows_put (NewBalance balance) m may is tt
+rows_applied (NewRanks moves) m may is = rows_put (NewRanks moves) m may is tt
+rows_applied (NewFilter f) m may is = rows_put (NewFilter f) m may is tt
+rows_applied (NoFilter filter_no) m may is = filter_rows m filter_no is
+rows_applied (NewBoard b) m may is = rows_put (NewBoard b) m may is tt
+rows_applied (NoBoard board_no) m may is = board_rows m board_no is
 
 -- ---- a new tracker
 
+abbrev AreEmpty : ℕ → List Kind → Type 0
+AreEmpty n [] = Unit {0}
+AreEmpty n (x ∷ xs) = (x.parts n ≡ None) × AreEmpty n xs
+
+none_in : (xs : List Kind) (k n : ℕ) → AreEmpty n xs → part_in xs k n ≡ None
+none_in [] k n empty = refl
+none_in (x ∷ xs) k n empty = by (k == x.kind) (none_in xs k n empty.1)
+  where
+    by : (b : Bool) → part_in xs k n ≡ None → (if b then x.parts n else part_in xs k n) ≡ None
+    by true rest = empty.0
+    by false rest = rest
+
+abbrev no_parts : ℕ → Option Part
+no_parts n = None
+
+-- the parts of a new tracker are its setup and where it stands
+opening_are : (text : List ℕ) (setup : Parts) (k n : ℕ)
+    → part_at (opening text setup) k n ≡ with_parts (opening_parts (opening text setup)) (λ i j. None) k n
+unfolding part_at
+opening_are text setup k n =
+    let first : Part = setup_part (opening text setup) in
+    let now : Part = present_part (opening text setup) in
+    let others : List Kind = issue_kind [] ∷ group_kind [] ∷ rank_kind [] ∷ filter_kind [] ∷ board_kind [] ∷ [] in
+    part_set (lone_kind 1 first ∷ []) others 2 0 no_parts (lone now) (Some now) k n refl (lone_new now n)
+    ∙ ap (λ (o : Option Part). if (2 == k) && (0 == n) then Some now else o)
+    (part_set [] (kind_of 2 no_parts ∷ others) 1 0 no_parts (lone first) (Some first) k n refl (lone_new first n)
+    ∙ ap (λ (o : Option Part). if (1 == k) && (0 == n) then Some first else o)
+    (none_in (kind_of 1 no_parts ∷ kind_of 2 no_parts ∷ others) k n (refl, (refl, (refl, (refl, (refl, (refl, (refl, tt)))))))))
+
 -- the rows of a new tracker are its setup's and its moment's
 pub rows_opening : (text : List ℕ) (setup : Parts) → with_ops (opening_ops (opening text setup)) no_rows ≡ rows_of (opening text setup)
-unfolding rows_of opening_ops part_at
+unfolding rows_of opening_ops
 rows_opening text setup =
     parts_put (names_in setup) (opening_parts (opening text setup)) (λ k n. None)
-    ∙ ap (texts (names_in setup)) (fun_ext (λ k. fun_ext (λ n. opening_put k n (Some (setup_part (opening text setup))) (Some (present_part (opening text setup))) None)))
+    ∙ sym (ap (texts (names_in setup)) (fun_ext (λ k. fun_ext (λ n. opening_are text setup k n))))
 
 -- ---- numbers of rows
 
@@ -250,9 +362,24 @@ rank_ops setup count (move ∷ moves) few numbered =
     let here = All-head (IsNumbered count) move moves numbered in
     All-cons IsSmallOp _ _ (omega (arith, here.0, few)) (rank_ops setup count moves few (All-tail (IsNumbered count) move moves numbered))
 
+-- what is there has its number
+filter_there : (m : Machine) (filter_no : FilterNo) → by_number filter_number filter_no.0 m.filters ≢ None
+    → (f : SavedFilter) × (f.no.0 ≡ filter_no.0) × (by_number filter_number filter_no.0 m.filters ≡ Some f)
+filter_there m filter_no there = found_there filter_number filter_no.0 m.filters there
+
+board_there : (m : Machine) (board_no : BoardNo) → by_number board_number board_no.0 m.boards ≢ None
+    → (b : Board) × (b.no.0 ≡ board_no.0) × (by_number board_number board_no.0 m.boards ≡ Some b)
+board_there m board_no there = found_there board_number board_no.0 m.boards there
+
+board_drops_small : (fs : List SavedFilter) (bs : List Board) → All (IsBoard fs) bs → All IsSmallOp (map (λ b. Drop 9 (board_number b)) bs)
+board_drops_small fs [] all = All-nil IsSmallOp
+board_drops_small fs (b ∷ bs) all =
+    let here = All-head (IsBoard fs) b bs all in
+    All-cons IsSmallOp _ _ (omega (arith, here.small)) (board_drops_small fs bs (All-tail (IsBoard fs) b bs all))
+
 -- each number is one that a table can hold
 pub ops_small : (e : Effect) (m : Machine) → IsAllowed e m → IsTracker m → All (λ op. number_of op < 2 ^ 63) (ops_of e m)
-unfolding ops_of parts_of IsAllowed
+unfolding ops_of parts_of drops_of IsAllowed
 ops_small (NewMoment to) m may is = one_op _ (omega arith)
 ops_small (NewIssue h rank) m may is =
     three_ops _ _ _ (omega arith) (omega (arith, may.0.no, may.0.few)) (omega (arith, may.0.no, may.0.few))
@@ -262,6 +389,16 @@ ops_small (NewBalance balance) m may is = one_op _ (omega arith)
 ops_small (NewRanks moves) m may is =
     All-cons IsSmallOp _ _ (omega arith)
     (rank_ops m.setup (length m.order) moves (omega (arith, is.each, is.few_issues)) (moves_are_numbered m.order m.balance moves is.ranked may.0 may.1))
+ops_small (NewFilter f) m may is = one_op _ (omega (arith, may.filter.small))
+ops_small (NoFilter filter_no) m may is =
+    let found = filter_there m filter_no may in
+    All-cons IsSmallOp _ _ (omega (arith, found.1, (all_found filter_number (IsFilter m.setup) filter_no.0 found.0 m.filters found.2 is.saved.each).small))
+    (board_drops_small m.filters (filter (is_board_of filter_no) m.boards)
+    (all_filter (IsBoard m.filters) (IsBoard m.filters) (is_board_of filter_no) m.boards (λ b passes on. on) is.saved.each_board))
+ops_small (NewBoard b) m may is = one_op _ (omega (arith, may.board.small))
+ops_small (NoBoard board_no) m may is =
+    let found = board_there m board_no may in
+    one_op _ (omega (arith, found.1, (all_found board_number (IsBoard m.filters) board_no.0 found.0 m.boards found.2 is.saved.each_board).small))
 
 pub opening_small : (m : Machine) → All (λ op. number_of op < 2 ^ 63) (opening_ops m)
 unfolding opening_ops

@@ -3,10 +3,13 @@ use Rattle.std.proofs.Common.{◌≡◌, ℕ, ◌==◌, Bool, true, false, List,
 use Rattle.std.specs.Prelude.{if◌then◌else◌}
 use Rattle.std.specs.Option.{option_map_or}
 use Rattle.std.proofs.lemmas.List.{length-set}
+use Rattle.field_values.specs.declared.numbers.BoardNo.{BoardNo}
+use Rattle.field_values.specs.declared.numbers.FilterNo.{FilterNo}
 use Rattle.field_values.specs.declared.rules.Permission.TheVariants as permission
 use Rattle.change_history.specs.declared.change.Change.{Change}
 use Rattle.change_history.specs.declared.entry.Group.{Group}
 use Rattle.change_history.specs.History.{History}
+use Rattle.board.specs.declared.board.Board.{Board}
 use Rattle.tracker_calls.specs.declared.call.Part.{Part}
 use Rattle.tracker_calls.specs.declared.given.GivenField.{GivenField}
 use Rattle.tracker_calls.specs.declared.reply.Answer.{Answer}
@@ -16,7 +19,7 @@ use Rattle.tracker_machine.specs.Machine.{Machine}
 use Rattle.tracker_machine.specs.Known.{place_of_issue, history_named}
 use Rattle.tracker_machine.specs.Tracker.{RunsFrom, HasRanks}
 use Rattle.tracker_machine.specs.Effect.{Effect, applied, longer, with_group}
-use Rattle.tracker_machine.specs.Effect.Effect.{NewMoment, NewIssue, NewGroup, NewRank, NewBalance, NewRanks}
+use Rattle.tracker_machine.specs.Effect.Effect.{NewMoment, NewIssue, NewGroup, NewRank, NewBalance, NewRanks, NewFilter, NoFilter, NewBoard, NoBoard}
 use Rattle.tracker_machine.specs.Meaning.{Meaning, unless, next_after}
 use Rattle.tracker_machine.specs.Meaning.Meaning.{Refuses, Tells, Finds, Makes}
 use Rattle.tracker_machine.specs.Group.{grouped, grouped_at}
@@ -27,7 +30,11 @@ use Rattle.tracker_machine.specs.Checks.{permission_refusal}
 use Rattle.tracker_machine.specs.Show.{show_meaning, show_refusal, show_answer_of}
 use Rattle.tracker_machine.specs.Entries.{history_meaning, history_refusal, history_answer_of}
 use Rattle.tracker_machine.specs.Ranks.{ranks_meaning, ranks_answer}
-use Rattle.tracker_machine.specs.Search.{Query, search_meaning, searched, asked}
+use Rattle.tracker_machine.specs.Query.{Query, asked}
+use Rattle.tracker_machine.specs.Search.{search_meaning, searched}
+use Rattle.tracker_machine.specs.Saved.{SavedFilter}
+use Rattle.tracker_machine.specs.Filters.{filters_refusal, filter_for, is_kept, save_answer, saved, save_filter_meaning, drop_filter_refusal, drop_filter_meaning, filter_numbered, filter_told, filter_meaning}
+use Rattle.tracker_machine.specs.Boards.{make_board_refusal, made_board, make_board_meaning, drop_board_refusal, drop_board_meaning, board_numbered, board_told, board_meaning}
 use Rattle.tracker_machine.proofs.Tracker.{stays}
 
 -- ---- what a call means
@@ -39,6 +46,10 @@ IsPlainEffect (NewGroup place group) = Unit {0}
 IsPlainEffect (NewRank issue rank) = ⊥
 IsPlainEffect (NewBalance balance) = ⊥
 IsPlainEffect (NewRanks moves) = ⊥
+IsPlainEffect (NewFilter f) = Unit {0}
+IsPlainEffect (NoFilter filter_no) = Unit {0}
+IsPlainEffect (NewBoard b) = Unit {0}
+IsPlainEffect (NoBoard board_no) = Unit {0}
 
 abbrev pub IsPlain : Meaning → Type 0
 IsPlain (Refuses r) = Unit {0}
@@ -99,6 +110,47 @@ history_plain m caller issue part = unless_plain (history_refusal m caller issue
 pub ranks_plain : (m : Machine) (caller : ℕ) (part : Part) → IsPlain (ranks_meaning m caller part)
 ranks_plain m caller part = unless_plain (permission_refusal m caller permission.Administer None) (Tells (ranks_answer m part)) tt
 
+pub save_filter_plain : (m : Machine) (caller : ℕ) (name text : List ℕ) → IsPlain (save_filter_meaning m caller name text)
+unfolding save_filter_meaning
+save_filter_plain m caller name text =
+    unless_plain (filters_refusal m caller name) (saved m caller name text (asked m.setup caller text)) (by (asked m.setup caller text))
+  where
+    by_kept : (query : Query) (b : Bool)
+        → IsPlain (if b then Finds (save_answer m caller name query) else Makes (save_answer m caller name query) (NewFilter (filter_for m caller name text)))
+    by_kept query true = tt
+    by_kept query false = tt
+
+    by : (query : Result Query Refusal) → IsPlain (saved m caller name text query)
+    by (Err r) = tt
+    by (Ok query) = by_kept query (is_kept m caller name text)
+
+pub drop_filter_plain : (m : Machine) (caller : ℕ) (filter_no : FilterNo) → IsPlain (drop_filter_meaning m caller filter_no)
+drop_filter_plain m caller filter_no =
+    unless_plain (drop_filter_refusal m caller filter_no) (Makes (answer.DropFilter filter_no) (NoFilter filter_no)) tt
+
+pub filter_plain : (m : Machine) (caller : ℕ) (filter_no : FilterNo) (part : Part) → IsPlain (filter_meaning m caller filter_no part)
+unfolding filter_meaning
+filter_plain m caller filter_no part = by (filter_numbered m filter_no)
+  where
+    by : (o : Option SavedFilter) → IsPlain (filter_told m caller filter_no part o)
+    by None = tt
+    by (Some f) = tt
+
+pub make_board_plain : (m : Machine) (caller : ℕ) (name : List ℕ) (filter_no : FilterNo) → IsPlain (make_board_meaning m caller name filter_no)
+make_board_plain m caller name filter_no = unless_plain (make_board_refusal m caller filter_no) (made_board m name filter_no) tt
+
+pub drop_board_plain : (m : Machine) (caller : ℕ) (board_no : BoardNo) → IsPlain (drop_board_meaning m caller board_no)
+drop_board_plain m caller board_no =
+    unless_plain (drop_board_refusal m caller board_no) (Makes (answer.DropBoard board_no) (NoBoard board_no)) tt
+
+pub board_plain : (m : Machine) (caller : ℕ) (board_no : BoardNo) (part : Part) → IsPlain (board_meaning m caller board_no part)
+unfolding board_meaning
+board_plain m caller board_no part = by (board_numbered m board_no)
+  where
+    by : (o : Option Board) → IsPlain (board_told m caller board_no part o)
+    by None = tt
+    by (Some b) = tt
+
 -- ---- ranks stay
 
 group_keeps : (m : Machine) (place : ℕ) (group : Group) → HasRanks m → HasRanks (with_group m place group)
@@ -121,6 +173,10 @@ effect_keeps (NewGroup place group) m plain has = group_keeps m place group has
 effect_keeps (NewRank issue rank) m plain has = absurd plain
 effect_keeps (NewBalance balance) m plain has = absurd plain
 effect_keeps (NewRanks moves) m plain has = absurd plain
+effect_keeps (NewFilter f) m plain has = record { numbers = has.numbers; each = has.each; ranked = has.ranked }
+effect_keeps (NoFilter filter_no) m plain has = record { numbers = has.numbers; each = has.each; ranked = has.ranked }
+effect_keeps (NewBoard b) m plain has = record { numbers = has.numbers; each = has.each; ranked = has.ranked }
+effect_keeps (NoBoard board_no) m plain has = record { numbers = has.numbers; each = has.each; ranked = has.ranked }
 
 pub plain_keeps : (due : Meaning) (m : Machine) → IsPlain due → HasRanks m → HasRanks (next_after due m)
 plain_keeps (Refuses r) m plain has = has

@@ -1,20 +1,31 @@
--- A part that is put stands among those of its kind, and all others stay.
-use Rattle.std.proofs.Common.{◌≡◌, ℕ, ◌==◌, ◌&&◌, Bool, true, false, List, [], ◌∷◌, map, Option, Some, option_map, refl, ap, ◌∙◌, arith}
+-- A row that is put or dropped stands among those of its kind, and all others stay.
+use Rattle.std.proofs.Common.{◌≡◌, ℕ, ◌==◌, ◌&&◌, Bool, true, false, List, [], ◌∷◌, ◌++◌, map, Option, Some, None, option_map, refl, ap, ◌∙◌, arith, inl, inr}
 use Rattle.std.specs.Prelude.{if◌then◌else◌}
-use Rattle.std.proofs.lemmas.Bool.{eqb-true}
+use Rattle.std.proofs.lemmas.Bool.{eqb-true, cases_Bool, true≢false}
 use mathlib.Core.Path.{fun_ext}
+use Rattle.rising_numbers.specs.ByNumber.{by_number}
 use Rattle.field_forms.specs.Known.{Names}
+use Rattle.change_history.specs.History.{History}
+use Rattle.board.specs.Order.{Pair}
+use Rattle.board.specs.declared.board.Board.{Board}
 use Rattle.tracker_keeper.specs.declared.part.Part.{Part}
+use Rattle.tracker_keeper.specs.declared.row.RowOp.TheVariants.{Drop}
 use Rattle.tracker_keeper.specs.Parts.{part_kind, part_number}
 use Rattle.tracker_keeper.specs.Bodies.{body_text}
 use Rattle.tracker_keeper.specs.Rows.{Rows, with_op, with_ops}
-use Rattle.tracker_machine.specs.Kept.{put_part}
+use Rattle.tracker_machine.specs.Machine.{Machine}
+use Rattle.tracker_machine.specs.Saved.{SavedFilter, filter_number, board_number}
+use Rattle.tracker_machine.specs.Kept.{Kind, kind_of, lone, part_in, put_part, setup_part, present_part, issue_part, issue_numbered, group_numbered, rank_numbered, filter_part, board_part}
 
 -- ---- parts that are put
 
+-- these parts, with that one, or none, at a kind and a number
+abbrev pub with_at : ℕ → ℕ → Option Part → (ℕ → ℕ → Option Part) → ℕ → ℕ → Option Part
+with_at kind number o parts k n = if (kind == k) && (number == n) then o else parts k n
+
 -- these parts, with one more where it belongs
 abbrev pub with_part : Part → (ℕ → ℕ → Option Part) → ℕ → ℕ → Option Part
-with_part p parts k n = if (part_kind p == k) && (part_number p == n) then Some p else parts k n
+with_part p parts = with_at (part_kind p) (part_number p) (Some p) parts
 
 abbrev pub with_parts : List Part → (ℕ → ℕ → Option Part) → ℕ → ℕ → Option Part
 with_parts [] parts = parts
@@ -35,89 +46,84 @@ pub parts_put : (names : Names) (ps : List Part) (parts : ℕ → ℕ → Option
 parts_put names [] parts = refl
 parts_put names (p ∷ ps) parts = ap (with_ops (map (put_part names) ps)) (part_put names p parts) ∙ parts_put names ps (with_part p parts)
 
--- ---- the rows of each kind
+option_dropped : {X Y : Type 0} (f : X → Y) (b : Bool) (o : Option X) → (if b then None else option_map f o) ≡ option_map f (if b then None else o)
+option_dropped f true o = refl
+option_dropped f false o = refl
+
+-- no part is left where a row is dropped
+pub part_dropped : (names : Names) (kind number : ℕ) (parts : ℕ → ℕ → Option Part) → with_op (Drop kind number) (texts names parts) ≡ texts names (with_at kind number None parts)
+part_dropped names kind number parts = fun_ext (λ k. fun_ext (λ n. option_dropped (body_text names) ((kind == k) && (number == n)) (parts k n)))
+
+-- ---- the parts of each kind
+
+-- one of these is of the kind
+abbrev pub has_kind : ℕ → List Kind → Bool
+has_kind kind [] = false
+has_kind kind (x ∷ xs) = if kind == x.kind then true else has_kind kind xs
 
 -- the other way round
 turned : (k n : ℕ) → (k == n) ≡ (n == k)
 turned k n = grind arith
 
+first_apart : (kind : ℕ) (x : Kind) (xs : List Kind) → has_kind kind (x ∷ xs) ≡ false → (kind == x.kind) ≡ false
+first_apart kind x xs free = elim (cases_Bool (kind == x.kind)) [ inl is ↦ absurd (true≢false (rw is at free)) | inr other ↦ other ]
+
+rest_apart : (kind : ℕ) (x : Kind) (xs : List Kind) → has_kind kind (x ∷ xs) ≡ false → has_kind kind xs ≡ false
+rest_apart kind x xs free = rw (first_apart kind x xs free) at free
+
+-- where another part, or none, stands at a number of a kind, it is found there, and all others are as before
+pub part_set : (before after : List Kind) (kind number : ℕ) (old new : ℕ → Option Part) (o : Option Part) (k n : ℕ) → has_kind kind before ≡ false
+    → new n ≡ (if number == n then o else old n)
+    → part_in (before ++ kind_of kind new ∷ after) k n ≡ with_at kind number o (part_in (before ++ kind_of kind old ∷ after)) k n
+part_set [] after kind number old new o k n free is = elim (cases_Bool (k == kind)) [
+  | inl same ↦ rw (same, turned kind k, same) is
+  | inr other ↦ rw (other, turned kind k, other) refl
+]
+part_set (x ∷ xs) after kind number old new o k n free is = elim (cases_Bool (k == x.kind)) [
+  | inl same ↦ rw (same, ap (λ j. kind == j) (eqb-true k x.kind same), first_apart kind x xs free) refl
+  | inr other ↦ rw other (part_set xs after kind number old new o k n (rest_apart kind x xs free) is)
+]
+
+-- another part is the lone one of its kind
+pub lone_set : (old new : Part) (n : ℕ) → lone new n ≡ (if 0 == n then Some new else lone old n)
+lone_set old new n = elim (cases_Bool (n == 0)) [ inl is ↦ rw (turned 0 n, is) refl | inr other ↦ rw (turned 0 n, other) refl ]
+
+-- and where there was none
+pub lone_new : (new : Part) (n : ℕ) → lone new n ≡ (if 0 == n then Some new else None)
+lone_new new n = rw (turned 0 n) refl
+
+-- ---- the kinds of a tracker
+
+abbrev pub lone_kind : ℕ → Part → Kind
+lone_kind kind p = kind_of kind (lone p)
+
+abbrev pub issue_kind : List History → Kind
+issue_kind histories = kind_of 3 (λ n. option_map issue_part (issue_numbered histories n))
+
+abbrev pub group_kind : List History → Kind
+group_kind histories = kind_of 4 (group_numbered histories)
+
+abbrev pub rank_kind : List Pair → Kind
+rank_kind order = kind_of 5 (rank_numbered order)
+
+abbrev pub filter_kind : List SavedFilter → Kind
+filter_kind filters = kind_of 8 (λ n. option_map filter_part (by_number filter_number n filters))
+
+abbrev pub board_kind : List Board → Kind
+board_kind boards = kind_of 9 (λ n. option_map board_part (by_number board_number n boards))
+
+-- those before filters and boards, and these
+abbrev pub kinds_before : Machine → List Kind
+kinds_before m = lone_kind 1 (setup_part m) ∷ lone_kind 2 (present_part m) ∷ issue_kind m.histories ∷ group_kind m.histories ∷ rank_kind m.order ∷ []
+
+abbrev pub saved_kinds : Machine → List Kind
+saved_kinds m = filter_kind m.filters ∷ board_kind m.boards ∷ []
+
+-- those behind setup and present
+abbrev pub other_kinds : Machine → List Kind
+other_kinds m = issue_kind m.histories ∷ group_kind m.histories ∷ rank_kind m.order ∷ saved_kinds m
+
 -- present is put anew
-pub present_put : {X : Type 0} (k n : ℕ) (s p new rest : X)
-    → (if (k == 1) && (n == 0) then s else (if (k == 2) && (n == 0) then new else rest))
-    ≡ (if (2 == k) && (0 == n) then new else (if (k == 1) && (n == 0) then s else (if (k == 2) && (n == 0) then p else rest)))
-present_put k n s p new rest = rw (turned 2 k, turned 0 n) (cases (k == 1) (k == 2) (n == 0) refl refl) where
-  cases : (one? two? none? : Bool) → (k == 1) ≡ one? → (k == 2) ≡ two?
-      → (if one? && none? then s else (if two? && none? then new else rest))
-      ≡ (if two? && none? then new else (if one? && none? then s else (if two? && none? then p else rest)))
-  cases true true none? is1 is2 = absurd (omega (arith, eqb-true k 1 is1, eqb-true k 2 is2))
-  cases true false true is1 is2 = refl
-  cases true false false is1 is2 = refl
-  cases false true true is1 is2 = refl
-  cases false true false is1 is2 = refl
-  cases false false none? is1 is2 = refl
-
--- a row of kind 3 is put, behind those of kinds 1 and 2
-pub issue_put : {X : Type 0} (k n at : ℕ) (s p new old rest : X)
-    → (if (k == 1) && (n == 0) then s else (if (k == 2) && (n == 0) then p else (if k == 3 then (if at == n then new else old) else rest)))
-    ≡ (if (3 == k) && (at == n) then new else (if (k == 1) && (n == 0) then s else (if (k == 2) && (n == 0) then p else (if k == 3 then old else rest))))
-issue_put k n at s p new old rest = rw (turned 3 k) (cases (k == 1) (k == 2) (k == 3) (n == 0) (at == n) refl refl refl) where
-  cases : (one? two? three? none? at? : Bool) → (k == 1) ≡ one? → (k == 2) ≡ two? → (k == 3) ≡ three?
-      → (if one? && none? then s else (if two? && none? then p else (if three? then (if at? then new else old) else rest)))
-      ≡ (if three? && at? then new else (if one? && none? then s else (if two? && none? then p else (if three? then old else rest))))
-  cases true two? true none? at? is1 is2 is3 = absurd (omega (arith, eqb-true k 1 is1, eqb-true k 3 is3))
-  cases one? true true none? at? is1 is2 is3 = absurd (omega (arith, eqb-true k 2 is2, eqb-true k 3 is3))
-  cases false false true none? true is1 is2 is3 = refl
-  cases false false true none? false is1 is2 is3 = refl
-  cases one? two? false none? at? is1 is2 is3 = refl
-
--- a row of kind 4 is put, behind those of kinds 1 to 3
-pub group_put : {X : Type 0} (k n at : ℕ) (s p i new old rest : X)
-    → (if (k == 1) && (n == 0) then s else (if (k == 2) && (n == 0) then p else (if k == 3 then i else (if k == 4 then (if at == n then new else old) else rest))))
-    ≡ (if (4 == k) && (at == n) then new else (if (k == 1) && (n == 0) then s else (if (k == 2) && (n == 0) then p else (if k == 3 then i else (if k == 4 then old else rest)))))
-group_put k n at s p i new old rest = rw (turned 4 k) (cases (k == 1) (k == 2) (k == 3) (k == 4) (n == 0) (at == n) refl refl refl refl) where
-  cases : (one? two? three? four? none? at? : Bool) → (k == 1) ≡ one? → (k == 2) ≡ two? → (k == 3) ≡ three? → (k == 4) ≡ four?
-      → (if one? && none? then s else (if two? && none? then p else (if three? then i else (if four? then (if at? then new else old) else rest))))
-      ≡ (if four? && at? then new else (if one? && none? then s else (if two? && none? then p else (if three? then i else (if four? then old else rest)))))
-  cases true two? three? true none? at? is1 is2 is3 is4 = absurd (omega (arith, eqb-true k 1 is1, eqb-true k 4 is4))
-  cases one? true three? true none? at? is1 is2 is3 is4 = absurd (omega (arith, eqb-true k 2 is2, eqb-true k 4 is4))
-  cases one? two? true true none? at? is1 is2 is3 is4 = absurd (omega (arith, eqb-true k 3 is3, eqb-true k 4 is4))
-  cases false false false true none? true is1 is2 is3 is4 = refl
-  cases false false false true none? false is1 is2 is3 is4 = refl
-  cases one? two? three? false none? at? is1 is2 is3 is4 = refl
-
--- a row of kind 5 is put, behind those of kinds 1 to 4
-pub rank_put : {X : Type 0} (k n at : ℕ) (s p i g new old rest : X)
-    → (if (k == 1) && (n == 0) then s else (if (k == 2) && (n == 0) then p else (if k == 3 then i else (if k == 4 then g else (if k == 5 then (if at == n then new else old) else rest)))))
-    ≡ (if (5 == k) && (at == n) then new else (if (k == 1) && (n == 0) then s else (if (k == 2) && (n == 0) then p else (if k == 3 then i else (if k == 4 then g else (if k == 5 then old else rest))))))
-rank_put k n at s p i g new old rest = rw (turned 5 k) (cases (k == 1) (k == 2) (k == 3) (k == 4) (k == 5) (n == 0) (at == n) refl refl refl refl refl) where
-  cases : (one? two? three? four? five? none? at? : Bool) → (k == 1) ≡ one? → (k == 2) ≡ two? → (k == 3) ≡ three? → (k == 4) ≡ four? → (k == 5) ≡ five?
-      → (if one? && none? then s else (if two? && none? then p else (if three? then i else (if four? then g else (if five? then (if at? then new else old) else rest)))))
-      ≡ (if five? && at? then new else (if one? && none? then s else (if two? && none? then p else (if three? then i else (if four? then g else (if five? then old else rest))))))
-  cases true two? three? four? true none? at? is1 is2 is3 is4 is5 = absurd (omega (arith, eqb-true k 1 is1, eqb-true k 5 is5))
-  cases one? true three? four? true none? at? is1 is2 is3 is4 is5 = absurd (omega (arith, eqb-true k 2 is2, eqb-true k 5 is5))
-  cases one? two? true four? true none? at? is1 is2 is3 is4 is5 = absurd (omega (arith, eqb-true k 3 is3, eqb-true k 5 is5))
-  cases one? two? three? true true none? at? is1 is2 is3 is4 is5 = absurd (omega (arith, eqb-true k 4 is4, eqb-true k 5 is5))
-  cases false false false false true none? true is1 is2 is3 is4 is5 = refl
-  cases false false false false true none? false is1 is2 is3 is4 is5 = refl
-  cases one? two? three? four? false none? at? is1 is2 is3 is4 is5 = refl
-
--- the setup and present are put where nothing is
-pub opening_put : {X : Type 0} (k n : ℕ) (s p none : X)
-    → (if (2 == k) && (0 == n) then p else (if (1 == k) && (0 == n) then s else none))
-    ≡ (if (k == 1) && (n == 0) then s else (if (k == 2) && (n == 0) then p else (if k == 3 then none else (if k == 4 then none else (if k == 5 then none else none)))))
-opening_put k n s p none = rw (turned 1 k, turned 2 k, turned 0 n) (cases (k == 1) (k == 2) (k == 3) (k == 4) (k == 5) (n == 0) refl refl) where
-  nothing : (three? four? five? : Bool) → none ≡ (if three? then none else (if four? then none else (if five? then none else none)))
-  nothing true four? five? = refl
-  nothing false true five? = refl
-  nothing false false true = refl
-  nothing false false false = refl
-
-  cases : (one? two? three? four? five? none? : Bool) → (k == 1) ≡ one? → (k == 2) ≡ two?
-      → (if two? && none? then p else (if one? && none? then s else none))
-      ≡ (if one? && none? then s else (if two? && none? then p else (if three? then none else (if four? then none else (if five? then none else none)))))
-  cases true true three? four? five? none? is1 is2 = absurd (omega (arith, eqb-true k 1 is1, eqb-true k 2 is2))
-  cases true false three? four? five? true is1 is2 = refl
-  cases false true three? four? five? true is1 is2 = refl
-  cases true false three? four? five? false is1 is2 = nothing three? four? five?
-  cases false true three? four? five? false is1 is2 = nothing three? four? five?
-  cases false false three? four? five? none? is1 is2 = nothing three? four? five?
+pub present_set : (setup old new : Part) (others : List Kind) (k n : ℕ)
+    → part_in (lone_kind 1 setup ∷ lone_kind 2 new ∷ others) k n ≡ with_at 2 0 (Some new) (part_in (lone_kind 1 setup ∷ lone_kind 2 old ∷ others)) k n
+present_set setup old new others k n = part_set (lone_kind 1 setup ∷ []) others 2 0 (lone old) (lone new) (Some new) k n refl (lone_set old new n)

@@ -1,5 +1,5 @@
 -- The parts of ranks, as an issue comes, as one moves and as a step makes its moves.
-use Rattle.std.proofs.Common.{◌≡◌, ℕ, ◌==◌, List, [], ◌∷◌, Option, Some, None, option_map, refl, sym, ap, ◌∙◌, inl, inr, ◌⊎◌, ne_eqb, eq-eqb}
+use Rattle.std.proofs.Common.{◌≡◌, ℕ, ◌==◌, List, [], ◌∷◌, Option, Some, option_map, refl, sym, ap, ◌∙◌, inl, inr, ◌⊎◌, ne_eqb, eq-eqb}
 use Rattle.std.specs.Prelude.{if◌then◌else◌}
 use Rattle.std.proofs.lemmas.Bool.{cases_eq}
 use mathlib.Core.Path.{fun_ext}
@@ -14,8 +14,8 @@ use Rattle.tracker_ranks.proofs.Keeping.{new_issues_go_last}
 use Rattle.tracker_keeper.specs.declared.part.Part.{Part}
 use Rattle.tracker_machine.specs.Machine.{Machine}
 use Rattle.tracker_machine.specs.Effect.{with_new_rank, with_balance, with_moves}
-use Rattle.tracker_machine.specs.Kept.{setup_part, present_part, rank_part, issue_part, issue_numbered, group_numbered, rank_numbered, rank_parts, part_at}
-use Rattle.tracker_machine.proofs.Puts.{with_part, with_parts, present_put, rank_put}
+use Rattle.tracker_machine.specs.Kept.{setup_part, present_part, rank_part, rank_numbered, rank_parts, part_at}
+use Rattle.tracker_machine.proofs.Puts.{with_part, with_parts, part_set, lone_kind, issue_kind, group_kind, saved_kinds, other_kinds, present_set}
 
 -- an issue that is given a rank has its part, and all others have theirs
 pub rank_moved : (ps : List Pair) (issue : IssueNo) (rank : RankParts) (n : ℕ)
@@ -43,9 +43,8 @@ rank_added ps b issue rank n ranked next =
 pub rank_applied : (m : Machine) (issue : IssueNo) (rank : RankParts) (k n : ℕ) → part_at (with_new_rank m issue rank) k n ≡ with_part (rank_part issue rank) (part_at m) k n
 unfolding part_at
 rank_applied m issue rank k n =
-    rw (rank_moved m.order issue rank n)
-    (rank_put k n issue.0 (Some (setup_part m)) (Some (present_part m)) (option_map issue_part (issue_numbered m.histories n)) (group_numbered m.histories n)
-    (Some (rank_part issue rank)) (rank_numbered m.order n) None)
+    part_set (lone_kind 1 (setup_part m) ∷ lone_kind 2 (present_part m) ∷ issue_kind m.histories ∷ group_kind m.histories ∷ []) (saved_kinds m) 5 issue.0
+    (rank_numbered m.order) (rank_numbered (after_move m.order (issue, rank))) (Some (rank_part issue rank)) k n refl (rank_moved m.order issue rank n)
 
 -- one after the other
 ranks_applied : (moves : List Move) (m : Machine) → part_at (record m { order = after_moves m.order moves }) ≡ with_parts (rank_parts moves) (part_at m)
@@ -57,7 +56,7 @@ ranks_applied (move ∷ moves) m =
 -- another balance is put with all that present says
 pub balance_applied : (m : Machine) (balance : Balance) (k n : ℕ) → part_at (with_balance m balance) k n ≡ with_part (present_part (with_balance m balance)) (part_at m) k n
 unfolding part_at
-balance_applied m balance k n = present_put k n (Some (setup_part m)) (Some (present_part m)) (Some (present_part (with_balance m balance))) _
+balance_applied m balance k n = present_set (setup_part m) (present_part m) (present_part (with_balance m balance)) (other_kinds m) k n
 
 pub moves_applied : (m : Machine) (moves : List Move) → part_at (with_moves m moves) ≡ with_parts (present_part (with_moves m moves) ∷ rank_parts moves) (part_at m)
 moves_applied m moves =

@@ -77,6 +77,12 @@ call_reranks m user (call.Ranks part) has is = absurd (cc)
 call_reranks m user call.RebalanceStart has is = unless_reranks m _ (started m.balance) (started_reranks m m.balance)
 call_reranks m user (call.RebalanceStep count) has is = unless_reranks m _ (stepped m.order m.balance count) (stepped_reranks m m.balance count refl has)
 call_reranks m user call.Balance has is = absurd (cc)
+call_reranks m user (call.SaveFilter name jql) has is = absurd (cc)
+call_reranks m user (call.DropFilter filter_no) has is = absurd (cc)
+call_reranks m user (call.Filter filter_no part) has is = absurd (cc)
+call_reranks m user (call.MakeBoard name filter_no) has is = absurd (cc)
+call_reranks m user (call.DropBoard board_no) has is = absurd (cc)
+call_reranks m user (call.Board board_no part) has is = absurd (cc)
 
 asked_reranks : (m : Machine) (asked : Result (List ℕ × Call) Refusal) → HasRanks m → asks_to_rebalance asked ≡ true → Reranks m (asked_next m asked)
 unfolding next_of meaning

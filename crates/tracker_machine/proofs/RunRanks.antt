@@ -41,7 +41,7 @@ use Rattle.tracker_machine.specs.Checks.{caller_refusal}
 use Rattle.tracker_machine.specs.Run.{Mark, plain, memory, keeper, asked_next, marked_next}
 use Rattle.tracker_machine.specs.RankLaws.{TrackersHaveRanks, NewTrackersHaveRanks, RunsKeepRanks}
 use Rattle.tracker_machine.proofs.Tracker.{runs_on}
-use Rattle.tracker_machine.proofs.Plain.{plain_keeps, edit_plain, transition_plain, tick_plain, show_plain, history_plain, search_plain, ranks_plain}
+use Rattle.tracker_machine.proofs.Plain.{plain_keeps, edit_plain, transition_plain, tick_plain, show_plain, history_plain, search_plain, ranks_plain, save_filter_plain, drop_filter_plain, filter_plain, make_board_plain, drop_board_plain, board_plain}
 use Rattle.tracker_machine.proofs.Placed.{apart, are_numbered}
 
 -- each issue has its rank after what a call means
@@ -157,6 +157,12 @@ call_keeps m user (call.Ranks part) has form = plain_keeps _ m (ranks_plain m us
 call_keeps m user call.RebalanceStart has form = unless_keeps m _ (started m.balance) has (started_keeps m m.balance refl has)
 call_keeps m user (call.RebalanceStep count) has form = unless_keeps m _ (stepped m.order m.balance count) has (stepped_keeps m m.balance count refl has)
 call_keeps m user call.Balance has form = has
+call_keeps m user (call.SaveFilter name jql) has form = plain_keeps _ m (save_filter_plain m user name jql) has
+call_keeps m user (call.DropFilter filter_no) has form = plain_keeps _ m (drop_filter_plain m user filter_no) has
+call_keeps m user (call.Filter filter_no part) has form = plain_keeps _ m (filter_plain m user filter_no part) has
+call_keeps m user (call.MakeBoard name filter_no) has form = plain_keeps _ m (make_board_plain m user name filter_no) has
+call_keeps m user (call.DropBoard board_no) has form = plain_keeps _ m (drop_board_plain m user board_no) has
+call_keeps m user (call.Board board_no part) has form = plain_keeps _ m (board_plain m user board_no part) has
 
 pub next_keeps : (m : Machine) (caller : List ℕ) (c : Call) → HasRanks m → HasRanks (next_of m caller c)
 unfolding next_of meaning

@@ -1,5 +1,7 @@
 -- Calls that don't ask for ranks mean the same in trackers that differ in ranks alone.
-use Rattle.std.proofs.Common.{◌≡◌, ℕ, ◌∷◌, [], List, Option, Some, None, refl}
+use Rattle.std.proofs.Common.{◌≡◌, ℕ, ◌∷◌, [], List, Option, Some, None, Result, Ok, Err, refl, ap}
+use Rattle.field_values.specs.declared.numbers.BoardNo.{BoardNo}
+use Rattle.field_values.specs.declared.numbers.FilterNo.{FilterNo}
 use Rattle.field_values.specs.declared.rules.Permission.{Permission}
 use Rattle.field_values.specs.declared.rules.Permission.TheVariants as permission
 use Rattle.field_values.specs.declared.parts.Transition.{Transition}
@@ -10,6 +12,7 @@ use Rattle.rank_balancer.specs.declared.balance.Balance.{Balance}
 use Rattle.tracker_calls.specs.declared.call.Part.{Part}
 use Rattle.tracker_calls.specs.declared.given.GivenField.{GivenField}
 use Rattle.tracker_calls.specs.declared.reply.Answer.{Answer}
+use Rattle.tracker_calls.specs.declared.reply.Refusal.{Refusal}
 use Rattle.tracker_machine.specs.Machine.{Machine}
 use Rattle.tracker_machine.specs.Known.{place_of_issue, history_named}
 use Rattle.tracker_machine.specs.Access.{access_refusal}
@@ -19,6 +22,12 @@ use Rattle.tracker_machine.specs.Transition.{transition_meaning, transition_name
 use Rattle.tracker_machine.specs.Show.{show_meaning, show_answer_of}
 use Rattle.tracker_machine.specs.Entries.{history_meaning, history_answer_of}
 use Rattle.tracker_machine.specs.Move.{move_refusal}
+use Rattle.tracker_machine.specs.Query.{Query, asked}
+use Rattle.tracker_machine.specs.Saved.{SavedFilter}
+use Rattle.tracker_machine.specs.Search.{found}
+use Rattle.tracker_machine.specs.Meaning.{unless}
+use Rattle.tracker_machine.specs.Filters.{filters_refusal, saved, save_filter_meaning, owner_refusal, drop_filter_meaning, filter_numbered}
+use Rattle.tracker_machine.specs.Boards.{make_board_meaning, drop_board_meaning}
 use Rattle.tracker_machine.proofs.Alike.{reranked}
 
 module _ (m : Machine) (order : List Pair) (balance : Balance) where
@@ -107,3 +116,27 @@ module _ (m : Machine) (order : List Pair) (balance : Balance) where
         access_same caller permission.Rank (history_named m issue),
         access_same caller permission.Browse (history_named m other),
       ) refl
+
+  -- ---- filters and boards
+
+  saved_same : (caller : ℕ) (name text : List ℕ) (query : Result Query Refusal) → saved new caller name text query ≡ saved m caller name text query
+  unfolding found
+  saved_same caller name text (Err r) = refl
+  saved_same caller name text (Ok query) = refl
+
+  pub save_filter_same : (caller : ℕ) (name text : List ℕ) → save_filter_meaning new caller name text ≡ save_filter_meaning m caller name text
+  unfolding save_filter_meaning
+  save_filter_same caller name text = ap (unless (filters_refusal m caller name)) (saved_same caller name text (asked m.setup caller text))
+
+  owner_same : (caller : ℕ) (o : Option SavedFilter) → owner_refusal new caller o ≡ owner_refusal m caller o
+  owner_same caller None = refl
+  owner_same caller (Some f) = refl
+
+  pub drop_filter_same : (caller : ℕ) (filter_no : FilterNo) → drop_filter_meaning new caller filter_no ≡ drop_filter_meaning m caller filter_no
+  drop_filter_same caller filter_no = rw (owner_same caller (filter_numbered m filter_no)) refl
+
+  pub make_board_same : (caller : ℕ) (name : List ℕ) (filter_no : FilterNo) → make_board_meaning new caller name filter_no ≡ make_board_meaning m caller name filter_no
+  make_board_same caller name filter_no = refl
+
+  pub drop_board_same : (caller : ℕ) (board_no : BoardNo) → drop_board_meaning new caller board_no ≡ drop_board_meaning m caller board_no
+  drop_board_same caller board_no = refl

@@ -7,6 +7,7 @@ use Rattle.std.proofs.lemmas.List.Sums.{sum_by_push}
 use Rattle.std.proofs.lemmas.List.Elements.{All-push, All-set}
 use Rattle.std.proofs.lemmas.Option.{get_or_from_slice_get}
 use Rattle.std.proofs.Math.Seq.{map-set_same}
+use Rattle.rising_numbers.specs.ByNumber.{put_by_number, without_number}
 use Rattle.field_values.specs.declared.numbers.UserNo.{UserNo}
 use Rattle.field_values.specs.Parts.{Parts}
 use Rattle.field_values.specs.Years.{last_second}
@@ -17,6 +18,7 @@ use Rattle.fields.specs.SetupParts.{names_in}
 use Rattle.field_values.specs.declared.numbers.IssueNo.{IssueNo}
 use Rattle.rank_strings.specs.Rank.{RankParts}
 use Rattle.board.specs.Order.{Pair}
+use Rattle.board.specs.declared.board.Board.{Board}
 use Rattle.board.proofs.Issues.{places_go_by_issues}
 use Rattle.rank_balancer.specs.declared.balance.Balance.{Balance}
 use Rattle.rank_balancer.specs.declared.balance.Balance.TheVariants.{Idle}
@@ -26,8 +28,9 @@ use Rattle.tracker_ranks.specs.Ranked.{IsRanked, IsGiven, IsNext, balance_moved}
 use Rattle.tracker_ranks.proofs.Given.{length-moved}
 use Rattle.tracker_ranks.proofs.Keeping.{no_issue_is_ranked, numbers_are_ranked, new_issues_go_last, moves_change_one_rank, starts_keep_ranks, steps_keep_ranks}
 use Rattle.tracker_machine.specs.Machine.{Machine}
+use Rattle.tracker_machine.specs.Saved.{SavedFilter, filter_number, board_number, without_boards_of, AreSaved}
 use Rattle.tracker_machine.specs.Effect.{Effect, applied, IsAllowed, with_issue, longer, with_group, with_new_rank, with_balance, with_moves}
-use Rattle.tracker_machine.specs.Effect.Effect.{NewMoment, NewIssue, NewGroup, NewRank, NewBalance, NewRanks}
+use Rattle.tracker_machine.specs.Effect.Effect.{NewMoment, NewIssue, NewGroup, NewRank, NewBalance, NewRanks, NewFilter, NoFilter, NewBoard, NoBoard}
 use Rattle.fields.specs.Naming.{name_at, key_of}
 use Rattle.jql_meaning.specs.Comparison.{project_of}
 use Rattle.tracker_machine.specs.Known.{project_keys, issues_of}
@@ -35,6 +38,7 @@ use Rattle.tracker_machine.specs.Checks.{entries_kept, bytes_kept, entry_bytes}
 use Rattle.tracker_machine.specs.Tracker.{AllEntriesFit, AllSmall, IsSettled, RunsFrom, RisesAbove, IsNextKey, AreKeyed, IsTracker, MayOpen, MayGroup}
 use Rattle.tracker_machine.proofs.Totals.{history_bytes-more, bytes_kept-push, bytes_kept-set, entries_kept-push, entries_kept-set}
 use Rattle.tracker_machine.proofs.Chronicle.{chronicle_next, chronicle_later, chronicle_nil, change_pushed, change_added, groups_more, groups_kept-push, groups_kept-set}
+use Rattle.tracker_machine.proofs.Saved.{no_filters, filter_saved, filter_dropped, board_made, board_dropped}
 use Rattle.tracker_machine.proofs.Settled.{at_place, from_found, all_settled_later, settled_new, settled_added, settled_at}
 
 -- ---- lists with one more
@@ -92,7 +96,7 @@ keyed_set setup before (h ∷ hs) (suc k) old new at same keyed = (keyed.0, keye
 
 -- ---- a new tracker
 
-pub tracker_opening : (text : List ℕ) (setup : Parts) (moment : ℕ) → moment ≤ last_second → IsTracker (record { text = text; setup = setup; moment = moment; change = 0; histories = []; order = []; balance = Idle 0 })
+pub tracker_opening : (text : List ℕ) (setup : Parts) (moment : ℕ) → moment ≤ last_second → IsTracker (record { text = text; setup = setup; moment = moment; change = 0; histories = []; order = []; balance = Idle 0; filters = []; boards = [] })
 tracker_opening text setup moment timely = record {
   few_issues = omega arith;
   few_entries = omega arith;
@@ -106,6 +110,7 @@ tracker_opening text setup moment timely = record {
   rising = tt;
   chronicle = chronicle_nil moment 0;
   settled = λ k d in'. absurd (omega (arith, in'));
+  saved = no_filters setup;
 }
 
 -- ---- the moment
@@ -124,6 +129,7 @@ tracker_later m now later timely is = record {
   rising = is.rising;
   chronicle = chronicle_later m.histories m.moment now m.change later is.chronicle;
   settled = all_settled_later (names_in m.setup) m.moment now m.change m.change m.histories later (omega arith) is.settled;
+  saved = is.saved;
 }
 
 -- ---- an issue
@@ -147,6 +153,7 @@ tracker_push m h rank is may next = record {
   settled = All-push (IsSettled (names_in m.setup) m.moment (m.change + 1)) m.histories h
       (all_settled_later (names_in m.setup) m.moment m.moment m.change (m.change + 1) m.histories (omega arith) (omega arith) is.settled)
       (settled_new (names_in m.setup) m.moment (m.change + 1) h may.at may.change may.entries may.fitting may.listed may.opened may.author);
+  saved = is.saved;
 }
 
 -- ---- a group
@@ -175,6 +182,7 @@ tracker_add m k h author es is at may fit small user few light =
       settled = All-set (IsSettled (names_in m.setup) m.moment (m.change + 1)) m.histories k new
           (settled_added (names_in m.setup) m.moment m.change (m.change + 1) h author es may fit small user (settled_at (names_in m.setup) m.moment m.change m.histories k h at is.settled))
           (all_settled_later (names_in m.setup) m.moment m.moment m.change (m.change + 1) m.histories (omega arith) (omega arith) is.settled);
+      saved = is.saved;
     }
 
 -- ---- ranks
@@ -195,6 +203,7 @@ with_order m order balance is same ranked = record {
   rising = is.rising;
   chronicle = is.chronicle;
   settled = is.settled;
+  saved = is.saved;
 }
 
 pub tracker_ranked : (m : Machine) (issue : IssueNo) (rank : RankParts) → IsTracker m → IsGiven m.order m.balance issue rank
@@ -216,6 +225,26 @@ tracker_stepped m moves is moving picks =
     with_order m (after_moves m.order moves) (balance_moved m.order m.balance moves) is
     (places_go_by_issues (after_moves m.order moves) m.order kept.issues).count kept.ranked
 
+-- ---- filters and boards
+
+with_saved : (m : Machine) (filters : List SavedFilter) (boards : List Board) → IsTracker m → AreSaved m.setup filters boards
+    → IsTracker (record m { filters = filters; boards = boards })
+with_saved m filters boards is saved = record {
+  few_issues = is.few_issues;
+  few_entries = is.few_entries;
+  few_bytes = is.few_bytes;
+  timely = is.timely;
+  numbers = is.numbers;
+  each = is.each;
+  ranked = is.ranked;
+  keys = is.keys;
+  numbered = is.numbered;
+  rising = is.rising;
+  chronicle = is.chronicle;
+  settled = is.settled;
+  saved = saved;
+}
+
 -- ---- each effect
 
 -- a group that may be added to an issue that is there
@@ -235,3 +264,12 @@ tracker_applied (NewGroup place g) m may is = let found = at_place m.histories p
 tracker_applied (NewRank issue rank) m may is = tracker_ranked m issue rank is may
 tracker_applied (NewBalance balance) m may is = tracker_started m balance is may
 tracker_applied (NewRanks moves) m may is = tracker_stepped m moves is may.0 may.1
+tracker_applied (NewFilter f) m may is =
+    with_saved m (put_by_number filter_number f m.filters) m.boards is (filter_saved m.setup m.filters m.boards is.saved f may)
+tracker_applied (NoFilter filter_no) m may is =
+    with_saved m (without_number filter_number filter_no.0 m.filters) (without_boards_of filter_no m.boards) is
+    (filter_dropped m.setup m.filters m.boards is.saved filter_no)
+tracker_applied (NewBoard b) m may is =
+    with_saved m m.filters (put_by_number board_number b m.boards) is (board_made m.setup m.filters m.boards is.saved b may)
+tracker_applied (NoBoard board_no) m may is =
+    with_saved m m.filters (without_number board_number board_no.0 m.boards) is (board_dropped m.setup m.filters m.boards is.saved board_no)

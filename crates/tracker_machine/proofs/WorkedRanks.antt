@@ -76,6 +76,8 @@ tracker order balance = record {
   histories = issue 1 (codes "OPS-1") ∷ issue 2 (codes "OPS-2") ∷ issue 3 (codes "OPS-3") ∷ [];
   order = order;
   balance = balance;
+  filters = [];
+  boards = [];
 }
 
 -- the ranks that three creates give: `0|i00000:`, `0|i006bk:` and `0|i00cn4:`

@@ -24,7 +24,7 @@ use Rattle.tracker_machine.specs.Machine.{Machine, opening}
 use Rattle.tracker_machine.specs.Effect.Effect.{NewIssue, NewGroup, NewRank, NewBalance, NewRanks}
 use Rattle.tracker_machine.specs.Kept.{part_at, rows_of, parts_of, ops_of, opening_ops}
 
-abbrev user : ℕ → UserNo
+abbrev pub user : ℕ → UserNo
 user place = record { 0 = place }
 
 abbrev status : List ℕ → Status
@@ -33,7 +33,7 @@ status name = record { name = name; category = ToDo }
 abbrev project : List ℕ → Project
 project key = record { key = key; lead = user 0; browse = []; create = []; edit = []; transition = []; rank = [] }
 
-abbrev setup : Parts
+abbrev pub setup : Parts
 setup = record {
   utc_offset_minutes = pos 0;
   week_starts = Monday;
@@ -107,6 +107,8 @@ tracker = record {
   histories = issue 1 (codes "OPS-1") 1 entries ∷ issue 2 (codes "OPS-2") 2 [] ∷ [];
   order = (first, numbered 1) ∷ (second, numbered 2) ∷ [];
   balance = Idle 0;
+  filters = [];
+  boards = [];
 }
 
 pub row_of_the_setup : rows_of tracker 1 0 ≡ Some (codes "a setup's text")

@@ -8,7 +8,7 @@ use Rattle.field_values.specs.declared.value.Value.{Value}
 use Rattle.field_values.specs.declared.value.Value.TheVariants as value
 use Rattle.field_values.specs.declared.rules.Permission.{Permission}
 use Rattle.field_forms.specs.Values.{is_before}
-use Rattle.field_forms.specs.Names.{place_named}
+use Rattle.field_forms.specs.Names.{place_named, is_title}
 use Rattle.fields.specs.SetupParts.{names_in, may}
 use Rattle.change_history.specs.declared.entry.Entry.{Entry}
 use Rattle.change_history.specs.History.{History}
@@ -56,6 +56,10 @@ count_refusal most n = only_if (nat_le 1 n && nat_le n most) (refusal.Form (code
 -- an issue isn't moved beside itself
 abbrev pub other_refusal : List ℕ → List ℕ → Option Refusal
 other_refusal issue other = if bytes_eq other issue then Some (refusal.Form (codes "other")) else None
+
+-- a filter or a board has a name of its form
+abbrev pub title_refusal : List ℕ → Option Refusal
+title_refusal name = only_if (is_title name) (refusal.Form (codes "name"))
 
 -- ---- names
 

@@ -1,17 +1,22 @@
 -- What an accepted call does.
-use Rattle.std.specs.Prelude.{◌≡◌, ℕ, ◌+◌, ◌≤◌, List, [], ◌∷◌, ◌++◌, slice_get, slice_set, Some}
+use Rattle.std.specs.Prelude.{◌≡◌, ◌≢◌, ℕ, ◌+◌, ◌≤◌, List, [], ◌∷◌, ◌++◌, slice_get, slice_set, Some, None}
 use Rattle.std.specs.Option.{option_map_or}
+use Rattle.rising_numbers.specs.ByNumber.{by_number, put_by_number, without_number}
 use Rattle.field_values.specs.Years.{last_second}
 use Rattle.change_history.specs.declared.entry.Entry.{Entry}
 use Rattle.change_history.specs.declared.entry.Group.{Group}
 use Rattle.change_history.specs.History.{History}
+use Rattle.field_values.specs.declared.numbers.BoardNo.{BoardNo}
+use Rattle.field_values.specs.declared.numbers.FilterNo.{FilterNo}
 use Rattle.field_values.specs.declared.numbers.IssueNo.{IssueNo}
 use Rattle.rank_strings.specs.Rank.{RankParts}
+use Rattle.board.specs.declared.board.Board.{Board}
 use Rattle.rank_balancer.specs.declared.balance.Balance.{Balance}
 use Rattle.rank_balancer.specs.Balance.{IsMoving, after_start, from_of, to_of}
 use Rattle.rank_balancer.specs.Step.{Move, ArePicks, after_move, after_moves}
 use Rattle.tracker_ranks.specs.Ranked.{IsGiven, IsNext, with_last, balance_moved}
 use Rattle.tracker_machine.specs.Machine.{Machine}
+use Rattle.tracker_machine.specs.Saved.{SavedFilter, filter_number, board_number, without_boards_of, MaySave, MayMake}
 use Rattle.tracker_machine.specs.Tracker.{MayOpen, MayGroup}
 
 pub data Effect : Type 0 where
@@ -27,6 +32,14 @@ pub data Effect : Type 0 where
   NewBalance : Balance → Effect
   -- a step of a rebalancing makes these moves
   NewRanks : List Move → Effect
+  -- a filter is saved, in the place of the one of its number where there is one
+  NewFilter : SavedFilter → Effect
+  -- a filter is dropped, and its boards with it
+  NoFilter : FilterNo → Effect
+  -- there is a new board
+  NewBoard : Board → Effect
+  -- a board is dropped
+  NoBoard : BoardNo → Effect
 
 abbrev pub with_issue : Machine → History → RankParts → Machine
 with_issue m h rank = record m {
@@ -58,6 +71,18 @@ with_moves m moves = record m {
   balance = balance_moved m.order m.balance moves;
 }
 
+abbrev pub with_filter : Machine → SavedFilter → Machine
+with_filter m f = record m { filters = put_by_number filter_number f m.filters }
+
+abbrev pub without_filter : Machine → FilterNo → Machine
+without_filter m filter_no = record m { filters = without_number filter_number filter_no.0 m.filters; boards = without_boards_of filter_no m.boards }
+
+abbrev pub with_board : Machine → Board → Machine
+with_board m b = record m { boards = put_by_number board_number b m.boards }
+
+abbrev pub without_board : Machine → BoardNo → Machine
+without_board m board_no = record m { boards = without_number board_number board_no.0 m.boards }
+
 -- the state after an effect
 unfoldable pub applied : Effect → Machine → Machine
 applied (NewMoment to) m = record m { moment = to }
@@ -66,6 +91,10 @@ applied (NewGroup place group) m = with_group m place group
 applied (NewRank issue rank) m = with_new_rank m issue rank
 applied (NewBalance balance) m = with_balance m balance
 applied (NewRanks moves) m = with_moves m moves
+applied (NewFilter f) m = with_filter m f
+applied (NoFilter filter_no) m = without_filter m filter_no
+applied (NewBoard b) m = with_board m b
+applied (NoBoard board_no) m = without_board m board_no
 
 -- an effect is of a tracker that may have it
 unfoldable pub IsAllowed : Effect → Machine → Type 0
@@ -75,3 +104,7 @@ IsAllowed (NewGroup place group) m = MayGroup m place group
 IsAllowed (NewRank issue rank) m = IsGiven m.order m.balance issue rank
 IsAllowed (NewBalance balance) m = after_start m.balance ≡ Some balance
 IsAllowed (NewRanks moves) m = IsMoving m.balance × ArePicks m.order (from_of m.balance) (to_of m.balance) moves
+IsAllowed (NewFilter f) m = MaySave m.setup m.filters f
+IsAllowed (NoFilter filter_no) m = by_number filter_number filter_no.0 m.filters ≢ None
+IsAllowed (NewBoard b) m = MayMake m.filters m.boards b
+IsAllowed (NoBoard board_no) m = by_number board_number board_no.0 m.boards ≢ None

@@ -1,19 +1,22 @@
 -- What is kept of a tracker: its parts by kind and number, the row of each, and the operations that keep an effect.
-use Rattle.std.specs.Prelude.{ℕ, ◌==◌, ◌&&◌, List, [], ◌∷◌, map, filter, slice_get, Option, Some, None, option_map, if◌then◌else◌}
+use Rattle.std.specs.Prelude.{ℕ, ◌==◌, List, [], ◌∷◌, map, filter, slice_get, Option, Some, None, option_map, if◌then◌else◌}
 use Rattle.std.specs.List.{find}
 use Rattle.std.specs.Option.{option_or, option_map_or}
+use Rattle.rising_numbers.specs.ByNumber.{by_number}
 use Rattle.field_values.specs.Parts.{Parts}
 use Rattle.field_forms.specs.Known.{Names}
 use Rattle.fields.specs.SetupParts.{names_in}
 use Rattle.change_history.specs.declared.entry.Entry.{Entry}
 use Rattle.change_history.specs.declared.entry.Group.{Group}
 use Rattle.change_history.specs.History.{History}
+use Rattle.field_values.specs.declared.numbers.FilterNo.{FilterNo}
 use Rattle.field_values.specs.declared.numbers.IssueNo.{IssueNo}
 use Rattle.rank_strings.specs.Rank.{RankParts}
 use Rattle.board.specs.Order.{Pair, rank_in}
+use Rattle.board.specs.declared.board.Board.{Board}
 use Rattle.rank_balancer.specs.Step.{Move}
 use Rattle.tracker_keeper.specs.declared.row.RowOp.{RowOp}
-use Rattle.tracker_keeper.specs.declared.row.RowOp.TheVariants.{Put}
+use Rattle.tracker_keeper.specs.declared.row.RowOp.TheVariants.{Put, Drop}
 use Rattle.tracker_keeper.specs.declared.part.Part.{Part}
 use Rattle.tracker_keeper.specs.declared.part.Part.TheVariants as part
 use Rattle.tracker_keeper.specs.declared.part.Format.TheVariants.{First}
@@ -21,8 +24,9 @@ use Rattle.tracker_keeper.specs.Parts.{part_kind, part_number}
 use Rattle.tracker_keeper.specs.Bodies.{body_text}
 use Rattle.tracker_keeper.specs.Rows.{Rows}
 use Rattle.tracker_machine.specs.Machine.{Machine}
+use Rattle.tracker_machine.specs.Saved.{SavedFilter, filter_number, board_number, is_board_of}
 use Rattle.tracker_machine.specs.Effect.{Effect, with_issue, with_group, with_balance, with_moves}
-use Rattle.tracker_machine.specs.Effect.Effect.{NewMoment, NewIssue, NewGroup, NewRank, NewBalance, NewRanks}
+use Rattle.tracker_machine.specs.Effect.Effect.{NewMoment, NewIssue, NewGroup, NewRank, NewBalance, NewRanks, NewFilter, NoFilter, NewBoard, NoBoard}
 
 -- ---- parts
 
@@ -43,6 +47,12 @@ group_part h group = part.Group h.no group
 
 abbrev pub rank_part : IssueNo → RankParts → Part
 rank_part issue rank = part.Rank issue rank
+
+abbrev pub filter_part : SavedFilter → Part
+filter_part f = part.Filter f.no f.owner f.name f.text
+
+abbrev pub board_part : Board → Part
+board_part b = part.Board b.no b.name b.filter
 
 -- ---- the part of each kind and number
 
@@ -72,14 +82,36 @@ group_numbered (h ∷ hs) number = option_or (issue_group number h) (group_numbe
 abbrev pub rank_numbered : List Pair → ℕ → Option Part
 rank_numbered order number = option_map (rank_part (record { 0 = number })) (rank_in order number)
 
+-- the one part of a kind, which has number 0
+abbrev pub lone : Part → ℕ → Option Part
+lone p number = if number == 0 then Some p else None
+
+-- the parts of a kind, by number
+pub record Kind : Type 0 where
+  pub kind : ℕ
+  pub parts : ℕ → Option Part
+
+abbrev pub kind_of : ℕ → (ℕ → Option Part) → Kind
+kind_of kind parts = record { kind = kind; parts = parts }
+
+-- the part of a kind and a number, where there is one
+abbrev pub part_in : List Kind → ℕ → ℕ → Option Part
+part_in [] kind number = None
+part_in (k ∷ ks) kind number = if kind == k.kind then k.parts number else part_in ks kind number
+
+abbrev pub kinds : Machine → List Kind
+kinds m =
+    kind_of 1 (lone (setup_part m))
+    ∷ kind_of 2 (lone (present_part m))
+    ∷ kind_of 3 (λ n. option_map issue_part (issue_numbered m.histories n))
+    ∷ kind_of 4 (group_numbered m.histories)
+    ∷ kind_of 5 (rank_numbered m.order)
+    ∷ kind_of 8 (λ n. option_map filter_part (by_number filter_number n m.filters))
+    ∷ kind_of 9 (λ n. option_map board_part (by_number board_number n m.boards))
+    ∷ []
+
 unfoldable pub part_at : Machine → ℕ → ℕ → Option Part
-part_at m kind number =
-    if (kind == 1) && (number == 0) then Some (setup_part m)
-    else if (kind == 2) && (number == 0) then Some (present_part m)
-    else if kind == 3 then option_map issue_part (issue_numbered m.histories number)
-    else if kind == 4 then group_numbered m.histories number
-    else if kind == 5 then rank_numbered m.order number
-    else None
+part_at m kind number = part_in (kinds m) kind number
 
 -- ---- rows
 
@@ -112,9 +144,29 @@ parts_of (NewGroup place group) m = present_part (with_group m place group) ∷ 
 parts_of (NewRank issue rank) m = rank_part issue rank ∷ []
 parts_of (NewBalance balance) m = present_part (with_balance m balance) ∷ []
 parts_of (NewRanks moves) m = present_part (with_moves m moves) ∷ rank_parts moves
+parts_of (NewFilter f) m = filter_part f ∷ []
+parts_of (NoFilter filter_no) m = []
+parts_of (NewBoard b) m = board_part b ∷ []
+parts_of (NoBoard board_no) m = []
 
--- the operations that keep an effect
+-- ---- what is taken out
+
+-- the rows of a filter's boards
+abbrev pub board_drops : FilterNo → List Board → List RowOp
+board_drops filter_no boards = map (λ b. Drop 9 (board_number b)) (filter (is_board_of filter_no) boards)
+
+-- the rows that an effect ends, by kind
+unfoldable pub drops_of : Effect → Machine → List RowOp
+drops_of (NoFilter filter_no) m = Drop 8 filter_no.0 ∷ board_drops filter_no m.boards
+drops_of (NoBoard board_no) m = Drop 9 board_no.0 ∷ []
+drops_of _ m = []
+
+-- ---- operations
+
+-- the operations that keep an effect, which puts parts or ends rows
 unfoldable pub ops_of : Effect → Machine → List RowOp
+ops_of (NoFilter filter_no) m = drops_of (NoFilter filter_no) m
+ops_of (NoBoard board_no) m = drops_of (NoBoard board_no) m
 ops_of effect m = put_parts m.setup (parts_of effect m)
 
 -- a new tracker has a setup, and stands at its beginning

@@ -1,3 +1,5 @@
+pub mod Query
+pub mod Saved
 pub mod Machine
 pub mod Known
 pub mod Wanted
@@ -21,6 +23,8 @@ pub mod Entries
 pub mod Tick
 pub mod Listing
 pub mod Search
+pub mod Filters
+pub mod Boards
 pub mod Step
 pub mod Run
 pub mod Laws

@@ -3,8 +3,10 @@ use Rattle.std.specs.Prelude.{ℕ, List, []}
 use Rattle.field_values.specs.Parts.{Parts}
 use Rattle.change_history.specs.History.{History}
 use Rattle.board.specs.Order.{Pair}
+use Rattle.board.specs.declared.board.Board.{Board}
 use Rattle.rank_balancer.specs.declared.balance.Balance.{Balance}
 use Rattle.rank_balancer.specs.declared.balance.Balance.TheVariants.{Idle}
+use Rattle.tracker_machine.specs.Saved.{SavedFilter}
 
 pub record Machine : Type 0 where
   -- the text of the setup, and its parts
@@ -18,6 +20,9 @@ pub record Machine : Type 0 where
   -- their ranks, the top of a board first, and in which buckets these are
   pub order : List Pair
   pub balance : Balance
+  -- saved filters and boards, by their numbers
+  pub filters : List SavedFilter
+  pub boards : List Board
 
 -- a new tracker of this setup
 abbrev pub opening : List ℕ → Parts → Machine
@@ -29,4 +34,6 @@ opening text setup = record {
   histories = [];
   order = [];
   balance = Idle 0;
+  filters = [];
+  boards = [];
 }

@@ -7,6 +7,7 @@ use Rattle.tracker_calls.specs.declared.reply.Reply.{Reply}
 use Rattle.tracker_calls.specs.declared.reply.Reply.TheVariants as reply
 use Rattle.tracker_machine.specs.Machine.{Machine}
 use Rattle.tracker_machine.specs.Effect.{Effect, applied}
+use Rattle.tracker_machine.specs.Effect.Effect.{NewMoment, NewIssue, NewGroup, NewFilter}
 
 pub data Meaning : Type 0 where
   Refuses : Refusal → Meaning
@@ -30,10 +31,19 @@ abbrev pub next_after : Meaning → Machine → Machine
 next_after (Makes a effect) m = applied effect m
 next_after _ m = m
 
--- how often at most it is asked whether a query holds of an issue
-abbrev pub allowance : Meaning → Machine → ℕ
-allowance (Finds a) m = length m.histories
-allowance _ m = 0
+-- how often at most an effect has it asked whether a query holds of an issue, where so many kept verdicts end up to a moment:
+-- a saved filter once for each issue, a new or a changed issue once for each filter, and a later moment once for each such verdict
+abbrev pub cost : (ℕ → ℕ) → Effect → Machine → ℕ
+cost ended (NewMoment to) m = ended to
+cost ended (NewIssue h rank) m = length m.filters
+cost ended (NewGroup place group) m = length m.filters
+cost ended (NewFilter f) m = length m.histories
+cost ended _ m = 0
+
+abbrev pub allowance : (ℕ → ℕ) → Meaning → Machine → ℕ
+allowance ended (Finds a) m = length m.histories
+allowance ended (Makes a effect) m = cost ended effect m
+allowance ended _ m = 0
 
 -- something is to be kept
 abbrev pub HasEffect : Meaning → Type 0

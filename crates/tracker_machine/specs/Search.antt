@@ -10,14 +10,8 @@ use Rattle.fields.specs.SetupParts.{may}
 use Rattle.change_history.specs.History.{History}
 use Rattle.board.specs.Order.{Pair, places_before}
 use Rattle.workflow.specs.Conditions.{project_number}
-use Rattle.jql_syntax.specs.Either.{QueryOrFault, text_is, text_has}
-use Rattle.jql_syntax.specs.Fault.{number_of_kind as number_of_text_fault}
-use Rattle.jql_syntax.proofs.Total.{text_decided}
 use Rattle.jql_bound.specs.Condition.{Condition}
 use Rattle.jql_bound.specs.declared.order.OrderKey.{OrderKey}
-use Rattle.jql_grammar.specs.Binding.{bound_in, number_of_kind}
-use Rattle.jql_grammar.specs.Conditions.{PlacedFault}
-use Rattle.jql_grammar.specs.Scope.{scope_by}
 use Rattle.jql_meaning.specs.Surroundings.{Surroundings}
 use Rattle.jql_meaning.specs.Truth.{query_holds}
 use Rattle.jql_meaning.specs.Order.{issue_cmp}
@@ -26,32 +20,11 @@ use Rattle.tracker_calls.specs.declared.call.Part.{Part}
 use Rattle.tracker_calls.specs.declared.reply.Answer.{Answer}
 use Rattle.tracker_calls.specs.declared.reply.Answer.TheVariants as answer
 use Rattle.tracker_calls.specs.declared.reply.Refusal.{Refusal}
-use Rattle.tracker_calls.specs.declared.reply.Refusal.TheVariants as refusal
 use Rattle.tracker_machine.specs.Machine.{Machine}
+use Rattle.tracker_machine.specs.Query.{Query, asked}
 use Rattle.tracker_machine.specs.Listing.{in_order}
 use Rattle.tracker_machine.specs.Meaning.{Meaning}
 use Rattle.tracker_machine.specs.Meaning.Meaning.{Refuses, Finds}
-
--- ---- what is asked for
-
--- a condition, if any, and sort keys
-pub record Query : Type 0 where
-  pub condition : Option Condition
-  pub keys : List OrderKey
-
--- what a text that is read asks for in the setup, or the fault that it has there
-abbrev pub bound_or_fault : Result (Option Condition × List OrderKey) PlacedFault → Result Query Refusal
-bound_or_fault (Ok bound) = Ok (record { condition = bound.0; keys = bound.1 })
-bound_or_fault (Err fault) = Err (refusal.Query (number_of_kind fault.kind) fault.place)
-
--- what a text asks for when the user asks it, or its first fault
-abbrev pub asked_by : Parts → ℕ → (text : List ℕ) → QueryOrFault text → Result Query Refusal
-asked_by setup user text (text_is q keys is) = bound_or_fault (bound_in (scope_by setup (record { 0 = user })) q keys)
-asked_by setup user text (text_has place kind is) = Err (refusal.Query (number_of_text_fault kind) place)
-
--- each text is a query or has a first fault, and never both
-unfoldable pub asked : Parts → ℕ → List ℕ → Result Query Refusal
-asked setup user text = asked_by setup user text (text_decided text)
 
 -- ---- what is found
 

@@ -6,7 +6,7 @@ use Rattle.tracker_calls.specs.declared.reply.Refusal.{Refusal}
 use Rattle.tracker_calls.specs.declared.reply.Reply.{Reply}
 use Rattle.tracker_machine.specs.Machine.{Machine}
 use Rattle.tracker_machine.specs.Known.{known_place}
-use Rattle.tracker_machine.specs.Checks.{caller_refusal, twins_refusal, part_refusal, count_refusal, other_refusal}
+use Rattle.tracker_machine.specs.Checks.{caller_refusal, twins_refusal, part_refusal, count_refusal, other_refusal, title_refusal}
 use Rattle.tracker_machine.specs.Meaning.{Meaning, unless, reply_to, next_after, allowance, Performs}
 use Rattle.tracker_machine.specs.Create.{create_meaning}
 use Rattle.tracker_machine.specs.Edit.{edit_meaning}
@@ -18,6 +18,8 @@ use Rattle.tracker_machine.specs.Rebalance.{rebalance_start_meaning, rebalance_s
 use Rattle.tracker_machine.specs.Show.{show_meaning}
 use Rattle.tracker_machine.specs.Entries.{history_meaning}
 use Rattle.tracker_machine.specs.Search.{search_meaning}
+use Rattle.tracker_machine.specs.Filters.{save_filter_meaning, drop_filter_meaning, filter_meaning}
+use Rattle.tracker_machine.specs.Boards.{make_board_meaning, drop_board_meaning, board_meaning}
 
 -- the call of a user, who is known, by place
 unfoldable pub meaning_for : Machine → ℕ → Call → Meaning
@@ -34,6 +36,12 @@ meaning_for m user (call.Ranks part) = ranks_meaning m user part
 meaning_for m user call.RebalanceStart = rebalance_start_meaning m user
 meaning_for m user (call.RebalanceStep count) = rebalance_step_meaning m user count
 meaning_for m user call.Balance = balance_meaning m
+meaning_for m user (call.SaveFilter name jql) = save_filter_meaning m user name jql
+meaning_for m user (call.DropFilter filter) = drop_filter_meaning m user filter
+meaning_for m user (call.Filter filter part) = filter_meaning m user filter part
+meaning_for m user (call.MakeBoard name filter) = make_board_meaning m user name filter
+meaning_for m user (call.DropBoard board) = drop_board_meaning m user board
+meaning_for m user (call.Board board part) = board_meaning m user board part
 
 -- the fault of a call's form; a call that was read from a line has none
 unfoldable pub form_refusal : Call → Option Refusal
@@ -46,6 +54,10 @@ form_refusal (call.MoveBefore issue other) = other_refusal issue other
 form_refusal (call.MoveAfter issue other) = other_refusal issue other
 form_refusal (call.Ranks part) = part_refusal 1_000 part
 form_refusal (call.RebalanceStep count) = count_refusal 1_000 count
+form_refusal (call.SaveFilter name jql) = title_refusal name
+form_refusal (call.Filter filter part) = part_refusal 1_000 part
+form_refusal (call.MakeBoard name filter) = title_refusal name
+form_refusal (call.Board board part) = part_refusal 1_000 part
 form_refusal _ = None
 
 -- the caller by place
@@ -62,9 +74,9 @@ reply_of m caller c = reply_to (meaning m caller c)
 unfoldable pub next_of : Machine → List ℕ → Call → Machine
 next_of m caller c = next_after (meaning m caller c) m
 
--- how often at most a call asks whether a query holds of an issue
-unfoldable pub evaluations : Machine → List ℕ → Call → ℕ
-evaluations m caller c = allowance (meaning m caller c) m
+-- how often at most a call asks whether a query holds of an issue, where so many kept verdicts end up to a moment
+unfoldable pub evaluations : (ℕ → ℕ) → Machine → List ℕ → Call → ℕ
+evaluations ended m caller c = allowance ended (meaning m caller c) m
 
 -- a call is performed as the abstract tracker performs it
 unfoldable pub IsStep : Machine → List ℕ → Call → Reply → Machine → Type 0

@@ -18,6 +18,7 @@ use Rattle.fields.specs.Naming.{name_at, key_of}
 use Rattle.tracker_keeper.specs.Forms.{is_small, are_opening}
 use Rattle.tracker_ranks.specs.Ranked.{IsRanked}
 use Rattle.tracker_machine.specs.Machine.{Machine}
+use Rattle.tracker_machine.specs.Saved.{AreSaved}
 use Rattle.tracker_machine.specs.Known.{project_keys, issues_of}
 use Rattle.tracker_machine.specs.Checks.{entries_kept, bytes_kept, history_bytes, entry_bytes}
 use Rattle.tracker_machine.specs.Chronicle.{IsChronicle, groups_kept}
@@ -120,6 +121,7 @@ pub record IsTracker (m : Machine) : Type 0 where
   pub rising : RisesAbove 0 (map (λ h. h.change) m.histories)
   pub chronicle : IsChronicle m.histories m.moment m.change
   pub settled : All (IsSettled (names_in m.setup) m.moment m.change) m.histories
+  pub saved : AreSaved m.setup m.filters m.boards
 
 -- an issue that may be the next one
 pub record MayOpen (m : Machine) (h : History) : Type 0 where
