@@ -10,8 +10,8 @@ ghost use Rattle.tracker_machine.specs.Meaning.{Performs, HasEffect};
 ghost use Rattle.tracker_machine.specs.Meaning.Meaning.{Makes};
 ghost use Rattle.tracker_machine.specs.Kept.{rows_of, ops_of};
 ghost use Rattle.tracker_machine.specs.Step.{IsStep, evaluations, meaning};
-ghost use Rattle.tracker_core.specs.Desk.{IsOwed, HasRow, HasNoRow};
-ghost use Rattle.tracker_state.specs.Plan.{effect_of, Fits};
+ghost use Rattle.tracker_core.specs.Desk.{IsOwed, HasRow, HasNoRow, due_in};
+ghost use Rattle.tracker_state.specs.Plan.{effect_of, cost_of, Fits};
 
 use fields::{Setup, Steps};
 use std::alloc::Global;
@@ -21,8 +21,8 @@ use tracker_calls::{Answer, Call, Refusal, Reply, UserName};
 use tracker_keeper::{KeepFault, Keeper, Row, RowOp};
 use tracker_state::{Plan, Prepared, State, opening_ops, prepare};
 
-/// What makes the calls, one at a time, and has kept what they leave. Contracts see it as the abstract tracker and what keeps
-/// its rows.
+/// What makes the calls, one at a time, and has kept what they leave. Contracts see it as the abstract tracker, the verdicts of its
+/// filters, and what keeps its rows.
 #[derive(Drop)]
 pub struct Desk<P: Keeper> {
     alloc: Global,
@@ -35,7 +35,7 @@ impl<P: Keeper> Model for Desk<P> {
 
     ghost Value = { DeskParts P };
 
-    ghost view = { λ d. record { machine = d.state.machine; keeper = d.keeper } };
+    ghost view = { λ d. record { machine = d.state.machine; cells = d.state.watched.views.table; keeper = d.keeper } };
 }
 
 /// Why no desk was made.
@@ -97,13 +97,21 @@ impl<P: Keeper + Drop> Desk<P> {
         ensures rows { P.keeps self.old.keeper (rows_of self.old.machine) → P.keeps self.new.keeper (rows_of self.new.machine) }
         ensures cause { IsOwed result (P.faults self.old.keeper) (P.faults self.new.keeper) }
         ensures unasked { ¬ (HasEffect (meaning self.old.machine caller.now call.now)) → self.new.keeper ≡ self.old.keeper }
-        ensures steps { steps.new ≤ steps.old + evaluations self.old.machine caller.now call.now }
+        ensures steps { steps.new ≤ steps.old + evaluations (due_in self.old.cells) self.old.machine caller.now call.now }
     {
+        self.state.have_seen();
         match prepare(self.alloc, &mut self.state, caller, call, steps) {
             Err(refusal) => Reply::Refused(refusal),
             Ok(Prepared::Tell(answer)) => Reply::Ok(answer),
             Ok(Prepared::Make { plan, answer, rows }) => {
-                make(&mut self.state, &mut self.keeper, plan, answer, &rows)
+                make(
+                    &mut self.state,
+                    &mut self.keeper,
+                    plan,
+                    answer,
+                    &rows,
+                    steps,
+                )
             }
         }
     }
@@ -179,12 +187,13 @@ fn open<P: Keeper>(alloc: Global, keeper: &mut P, setup: Setup) -> Result<State,
 }
 
 // Has kept what a plan does, and then does it.
-fn make<P: Keeper>(
+fn make<P: Keeper, L: Ledger>(
     state: &mut State,
     keeper: &mut P,
     plan: Plan,
     answer: Answer,
     rows: &[RowOp],
+    steps: &mut Steps<L>,
 ) -> Reply
     requires fits { Fits state.old plan }
     requires allowed { IsAllowed (effect_of plan) state.old.machine }
@@ -192,11 +201,12 @@ fn make<P: Keeper>(
     ensures step { Performs (Makes answer (effect_of plan)) state.old.machine result state.new.machine }
     ensures rows { P.keeps keeper.old (rows_of state.old.machine) → P.keeps keeper.new (rows_of state.new.machine) }
     ensures cause { IsOwed result (P.faults keeper.old) (P.faults keeper.new) }
+    ensures steps { steps.new ≤ steps.old + cost_of plan state.old }
 {
     state.is_tracker();
     match keeper.commit(rows) {
         Ok(()) => {
-            state.install(plan);
+            state.install(plan, steps);
             Reply::Ok(answer)
         }
         Err(KeepFault::Failed) => Reply::Refused(Refusal::Keeper),

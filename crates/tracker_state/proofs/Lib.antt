@@ -1,4 +1,5 @@
 pub mod Bulk
+pub mod Checked
 pub mod Counting
 pub mod Fitting
 pub mod Grouping
@@ -6,7 +7,11 @@ pub mod Holding
 pub mod Means
 pub mod Named
 pub mod Ops
+pub mod Parted
 pub mod Ranking
 pub mod Rebalancing
 pub mod Resolving
+pub mod Saving
+pub mod Shown
 pub mod States
+pub mod Watching

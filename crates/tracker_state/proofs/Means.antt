@@ -28,7 +28,7 @@ use Rattle.tracker_state.proofs.Ops.{issue_ops_are}
 use Rattle.tracker_state.specs.declared.plan.IssuePlan.{IssuePlan}
 use Rattle.tracker_state.specs.declared.plan.Plan.TheVariants as plans
 
-unrefused : (due : Option Refusal) (meaning : Meaning) → due ≡ None → unless due meaning ≡ meaning
+pub unrefused : (due : Option Refusal) (meaning : Meaning) → due ≡ None → unless due meaning ≡ meaning
 unrefused due meaning none = rw none refl
 
 spelled : (m : Machine) (caller place : ℕ) (project : List ℕ) (changes others : List Change) → place_named project (project_keys m.setup) ≡ Some place → changes ≡ others

@@ -9,26 +9,30 @@ use Rattle.field_values.specs.declared.value.Value.TheVariants as value
 use Rattle.change_history.specs.declared.change.Change.{Change}
 use Rattle.change_history.specs.declared.entry.Group.{Group}
 use Rattle.change_history.specs.History.{History}
+use Rattle.field_values.specs.declared.numbers.BoardNo.{BoardNo}
+use Rattle.field_values.specs.declared.numbers.FilterNo.{FilterNo}
 use Rattle.field_values.specs.declared.numbers.IssueNo.{IssueNo}
 use Rattle.field_values.specs.Parts.{Parts}
 use Rattle.rank_strings.specs.Rank.{RankParts}
+use Rattle.board.specs.declared.board.Board.{Board}
 use Rattle.rank_balancer.specs.declared.balance.Balance.{Balance}
 use Rattle.rank_balancer.specs.Step.{Move}
 use Rattle.tracker_ranks.specs.Ranked.{balance_moved}
 use Rattle.tracker_keeper.specs.declared.row.RowOp.{RowOp}
-use Rattle.tracker_keeper.specs.declared.row.RowOp.TheVariants.{Put}
+use Rattle.tracker_keeper.specs.declared.row.RowOp.TheVariants.{Put, Drop}
 use Rattle.tracker_keeper.specs.Bodies.{body_text}
 use Rattle.tracker_keeper.specs.Forms.{IsGroupEntry, is_small}
 use Rattle.tracker_keeper.specs.Kept.{IsPart}
 use Rattle.tracker_machine.specs.Machine.{Machine}
+use Rattle.tracker_machine.specs.Saved.{SavedFilter}
 use Rattle.workflow.specs.Same.{is_empty}
 use Rattle.tracker_machine.specs.Create.{filled}
 use Rattle.tracker_machine.specs.Tracker.{IsTracker, MayGroup, AreSmall}
 use Rattle.tracker_machine.specs.Effect.{IsAllowed, with_group}
-use Rattle.tracker_machine.specs.Effect.Effect.{NewMoment, NewIssue, NewGroup, NewRank, NewBalance, NewRanks}
-use Rattle.tracker_machine.specs.Kept.{present_part, group_part, rank_parts, put_parts, parts_of, ops_of}
+use Rattle.tracker_machine.specs.Effect.Effect.{NewMoment, NewIssue, NewGroup, NewRank, NewBalance, NewRanks, NewFilter, NoFilter, NewBoard, NoBoard}
+use Rattle.tracker_machine.specs.Kept.{present_part, group_part, rank_parts, put_parts, parts_of, drops_of, board_drops, ops_of}
 use Rattle.tracker_machine.proofs.Keepable.{parts_kept}
-use Rattle.tracker_state.specs.Plan.{present_op, issue_row, group_row, rank_op, rank_ops}
+use Rattle.tracker_state.specs.Plan.{present_op, issue_row, group_row, filter_op, board_op, rank_op, rank_ops}
 
 pub moment_ops_are : (m : Machine) (to : ℕ) → present_op m.balance m.change to ∷ [] ≡ ops_of (NewMoment to) m
 unfolding ops_of parts_of body_text
@@ -65,6 +69,22 @@ unfolding ops_of parts_of body_text
 group_ops_are m place g h at =
     subst (λ o. present_op m.balance (m.change + 1) m.moment ∷ Put (group_row (names_in m.setup) h g) ∷ []
     ≡ put_parts m.setup (present_part (with_group m place g) ∷ option_map_or (λ i. group_part i g ∷ []) o [])) (sym at) refl
+
+pub save_ops_are : (m : Machine) (f : SavedFilter) → filter_op (names_in m.setup) f ∷ [] ≡ ops_of (NewFilter f) m
+unfolding ops_of parts_of body_text
+save_ops_are m f = refl
+
+pub drop_filter_ops_are : (m : Machine) (filter_no : FilterNo) → Drop 8 filter_no.0 ∷ board_drops filter_no m.boards ≡ ops_of (NoFilter filter_no) m
+unfolding ops_of drops_of
+drop_filter_ops_are m filter_no = refl
+
+pub board_ops_are : (m : Machine) (b : Board) → board_op b ∷ [] ≡ ops_of (NewBoard b) m
+unfolding ops_of parts_of body_text
+board_ops_are m b = refl
+
+pub drop_board_ops_are : (m : Machine) (board_no : BoardNo) → Drop 9 board_no.0 ∷ [] ≡ ops_of (NoBoard board_no) m
+unfolding ops_of drops_of
+drop_board_ops_are m board_no = refl
 
 -- the entries of a group that may come may be kept
 pub group_entries : (m : Machine) (place : ℕ) (g : Group) (h : History) → IsTracker m → MayGroup m place g → slice_get m.histories place ≡ Some h

@@ -1,33 +1,74 @@
 -- What the state keeps true of itself, after each change.
-use Rattle.std.proofs.Common.{◌≡◌, ℕ, ◌+◌, ◌<◌, ◌≤◌, List, [], ◌∷◌, ◌++◌, length, slice_get, set, bytes_eq, Some, IfSome, refl, sym, ap, ◌∙◌, arith}
+use Rattle.std.proofs.Common.{◌≡◌, ℕ, ◌+◌, ◌-◌, ◌<◌, ◌≤◌, List, [], ◌∷◌, ◌++◌, length, slice_get, set, bytes_eq, Some, IfSome, refl, sym, ap, subst, ◌∙◌, arith}
 use Rattle.std.specs.Prelude.{sum_by}
+use Rattle.std.specs.List.{All}
 use Rattle.field_values.specs.declared.numbers.UserNo.{UserNo}
+use Rattle.field_values.specs.Years.{last_second}
 use Rattle.change_history.specs.declared.entry.Entry.{Entry}
-use Rattle.change_history.specs.History.{History, MayAdd}
+use Rattle.change_history.specs.History.{RoomyHistory, History, MayAdd}
 use Rattle.fields.specs.Sound.{IsSound}
 use Rattle.fields.specs.SetupParts.{names_in}
 use Rattle.rank_strings.specs.Rank.{RankParts}
+use Rattle.board.specs.Order.{Pair}
+use Rattle.board.specs.declared.board.Board.{Board}
+use Rattle.rank_balancer.specs.declared.balance.Balance.{Balance}
 use Rattle.tracker_ranks.specs.Ranked.{IsNext}
 use Rattle.tracker_machine.specs.Machine.{Machine}
+use Rattle.tracker_machine.specs.Saved.{SavedFilter}
 use Rattle.tracker_machine.specs.Effect.{with_issue}
 use Rattle.fields.specs.Naming.{name_at}
 use Rattle.tracker_machine.specs.Checks.{entries_kept, bytes_kept, entry_bytes}
 use Rattle.jql_meaning.specs.Comparison.{project_of}
 use Rattle.tracker_machine.specs.Known.{project_keys, issues_of, next_key}
-use Rattle.tracker_state.specs.State.{IsState}
-use Rattle.tracker_machine.specs.Tracker.{AllEntriesFit, AllSmall, MayOpen}
+use Rattle.filter_views.specs.FilterRow.{HasNumber}
+use Rattle.tracker_filters.specs.Watched.{WatchedFilters}
+use Rattle.tracker_state.specs.State.{IsState, IsBound}
+use Rattle.tracker_machine.specs.Tracker.{IsTracker, AllEntriesFit, AllSmall, MayOpen}
 use Rattle.tracker_machine.proofs.Chronicle.{few_groups}
+use Rattle.tracker_machine.proofs.Keepable.{number_at}
 use Rattle.tracker_machine.proofs.Settled.{from_found}
-use Rattle.tracker_machine.proofs.Tracker.{tracker_push, tracker_add}
+use Rattle.tracker_machine.proofs.Tracker.{tracker_later, tracker_push, tracker_add}
 use Rattle.tracker_issues.specs.Counts.{counts_of}
+use Rattle.tracker_issues.specs.Issues.{with_entries}
+use Rattle.tracker_issues.proofs.Histories.{set_here, some_is}
 use Rattle.tracker_issues.proofs.Counts.{counts_of-push, counts_of-set, count_here}
 use Rattle.tracker_issues.proofs.Projects.{only_project}
 
+-- filters have seen these histories at this moment, beside the same as others
+pub record See (before : WatchedFilters) (histories : List History) (moment : ℕ) (seen : WatchedFilters) : Type 0 where
+  pub known : seen.histories ≡ histories
+  pub beside : seen.around ≡ before.around
+  pub now : seen.moment ≡ moment
+
+-- time moves on
+pub state_later : (m : Machine) (counts : List ℕ) (w seen : WatchedFilters) (now : ℕ) → IsState m counts w → m.moment ≤ now → now ≤ last_second
+    → See w w.histories now seen → seen.filters ≡ w.filters → IsState (record m { moment = now }) counts seen
+state_later m counts w seen now is later timely see same = record {
+  counted = is.counted;
+  few_changes = is.few_changes;
+  tracker = tracker_later m now later timely is.tracker;
+  seen = record { histories = see.known ∙ is.seen.histories; around = see.beside ∙ is.seen.around; moment = see.now };
+  bound = subst (All (IsBound m.setup)) (sym same) is.bound;
+}
+
+-- ranks, filters and boards become others
+pub state_beside : (m : Machine) (counts : List ℕ) (w seen : WatchedFilters) (order : List Pair) (balance : Balance) (filters : List SavedFilter) (boards : List Board) → IsState m counts w
+    → IsTracker (record m { order = order; balance = balance; filters = filters; boards = boards }) → See w w.histories w.moment seen → All (IsBound m.setup) seen.filters
+    → IsState (record m { order = order; balance = balance; filters = filters; boards = boards }) counts seen
+state_beside m counts w seen order balance filters boards is tracker see bound = record {
+  counted = is.counted;
+  few_changes = is.few_changes;
+  tracker = tracker;
+  seen = record { histories = see.known ∙ is.seen.histories; around = see.beside ∙ is.seen.around; moment = see.now ∙ is.seen.moment };
+  bound = bound;
+}
+
 -- an issue comes, of the project at a place
-pub state_push : (m : Machine) (counts new : List ℕ) (h : History) (rank : RankParts) (place : ℕ) → IsSound m.setup → IsState m counts → MayOpen m h
+pub state_push : (m : Machine) (counts new : List ℕ) (w seen : WatchedFilters) (h : History) (rank : RankParts) (place : ℕ) → IsSound m.setup → IsState m counts w → MayOpen m h
     → IsNext m.order m.balance h.no rank → place < length m.setup.project
-    → h.key ≡ next_key m (name_at (project_keys m.setup) place) → IfSome (slice_get counts place) (λ n. new ≡ set counts place (n + 1)) → IsState (with_issue m h rank) new
-state_push m counts new h rank place sound is may next there key count =
+    → h.key ≡ next_key m (name_at (project_keys m.setup) place) → IfSome (slice_get counts place) (λ n. new ≡ set counts place (n + 1))
+    → See w (w.histories ++ h ∷ []) w.moment seen → seen.filters ≡ w.filters → IsState (with_issue m h rank) new seen
+state_push m counts new w seen h rank place sound is may next there key count see same =
     let tracker = tracker_push m h rank is.tracker may next in
     let ps = m.setup.project in
     let hs = m.histories in
@@ -40,17 +81,44 @@ state_push m counts new h rank place sound is may next there key count =
           ∙ counts_of-push ps hs h place number (λ j p at. ap (λ k. bytes_eq (project_of k) p.key) key ∙ only_project m.setup sound place (number + 1) there j p at) here;
       few_changes = omega (arith, tracker.numbered, tracker.few_issues, tracker.few_entries, few_groups (m.histories ++ h ∷ []));
       tracker = tracker;
+      seen = record { histories = see.known ∙ ap (λ (hs : List History). hs ++ h ∷ []) is.seen.histories; around = see.beside ∙ is.seen.around; moment = see.now ∙ is.seen.moment };
+      bound = subst (All (IsBound m.setup)) (sym same) is.bound;
     }
 
-pub state_add : (m : Machine) (counts : List ℕ) (k : ℕ) (h : History) (author : UserNo) (es : List Entry) → IsState m counts → slice_get m.histories k ≡ Some h
+pub state_add : (m : Machine) (counts : List ℕ) (w seen : WatchedFilters) (k : ℕ) (h : History) (author : UserNo) (es : List Entry) → IsState m counts w → slice_get m.histories k ≡ Some h
     → MayAdd h (m.change + 1) m.moment author es → AllEntriesFit (names_in m.setup) es → AllSmall es → author.0 < length m.setup.users
     → entries_kept m.histories + length es ≤ 2_000_000 → bytes_kept m.histories + sum_by entry_bytes es ≤ 500_000_000
-    → IsState (record m { change = m.change + 1; histories = set m.histories k (record h { entries = h.entries ++ es }) }) counts
-state_add m counts k h author es is at may fit small user few light =
+    → See w (set w.histories k (record h { entries = h.entries ++ es })) w.moment seen → seen.filters ≡ w.filters
+    → IsState (record m { change = m.change + 1; histories = set m.histories k (record h { entries = h.entries ++ es }) }) counts seen
+state_add m counts w seen k h author es is at may fit small user few light see same =
     let new : History = record h { entries = h.entries ++ es } in
     let tracker = tracker_add m k h author es is.tracker at may fit small user few light in
     record {
       counted = is.counted ∙ sym (counts_of-set m.setup.project m.histories k h new at refl);
       few_changes = omega (arith, tracker.numbered, tracker.few_issues, tracker.few_entries, few_groups (set m.histories k new));
       tracker = tracker;
+      seen = record { histories = see.known ∙ ap (λ (hs : List History). set hs k new) is.seen.histories; around = see.beside ∙ is.seen.around; moment = see.now ∙ is.seen.moment };
+      bound = subst (All (IsBound m.setup)) (sym same) is.bound;
     }
+
+-- the issue that is found where entries were added
+pub grown_is : (kept new : List RoomyHistory) (k : ℕ) (i found : RoomyHistory) (es : List Entry) → k < length kept → slice_get kept k ≡ Some i
+    → IfSome (slice_get kept k) (λ i. new ≡ set kept k (with_entries i es)) → Some found ≡ slice_get new k → found ≡ with_entries i es
+grown_is kept new k i found es in' at is there =
+    some_is found (with_entries i es) (there ∙ ap (λ (xs : List RoomyHistory). slice_get xs k) (from_found (slice_get kept k) i (λ i. new ≡ set kept k (with_entries i es)) at is) ∙ set_here kept k (with_entries i es) in')
+
+-- it has the number of its place, of which there are verdicts
+pub numbered_there : (m : Machine) (counts : List ℕ) (w : WatchedFilters) (k : ℕ) (i found : RoomyHistory) (es : List Entry) → IsState m counts w → slice_get m.histories k ≡ Some i.history
+    → found ≡ with_entries i es → (found.history.no.0 ≡ 1 + k) × HasNumber found.history.no.0 (length w.histories)
+numbered_there m counts w k i found es is at same =
+    let number = number_at 1 m.histories k i.history is.tracker.numbers at in
+    let own : found.history.no.0 ≡ i.history.no.0 = ap (λ (i : RoomyHistory). i.history.no.0) same in
+    let many : length w.histories ≡ length m.histories = ap (λ (hs : List History). length hs) is.seen.histories in
+    (omega (arith, own, number.0), (omega (arith, own, number.0), omega (arith, own, number.0, number.1, many)))
+
+-- what the filters have seen of it
+pub grown_seen : (hs : List History) (k : ℕ) (i found : RoomyHistory) (es : List Entry) → found.history.no.0 ≡ 1 + k → found ≡ with_entries i es
+    → set hs (found.history.no.0 - 1) found.history ≡ set hs k (with_entries i es).history
+grown_seen hs k i found es number same =
+    let place : found.history.no.0 - 1 ≡ k = omega (arith, number) in
+    ap (λ n. set hs n found.history) place ∙ ap (λ (i : RoomyHistory). set hs k i.history) same

@@ -1,12 +1,18 @@
--- What a query that is bound to a setup asks for.
-use Rattle.std.specs.Prelude.{◌≡◌, ◌≢◌, option_map, Result, Err}
+-- What a query that is bound to a setup asks for, and the issues that two users may browse.
+use Rattle.std.specs.Prelude.{◌≡◌, ◌≢◌, ◌-◌, ◌&&◌, ℕ, Bool, slice_get, Option, Some, None, option_map, option_and_then, Result, Err, if◌then◌else◌}
+use Rattle.field_values.specs.declared.numbers.IssueNo.{IssueNo}
+use Rattle.field_values.specs.declared.rules.Permission.TheVariants.{Browse}
+use Rattle.fields.specs.SetupParts.{may}
+use Rattle.change_history.specs.History.{History}
+use Rattle.workflow.specs.Conditions.{project_number}
 use Rattle.jql_bound.specs.Condition.{view}
 use Rattle.jql_bound.specs.declared.cond.Bound.{Bound}
 use Rattle.jql_syntax.specs.declared.reader.JqlFault.{JqlFault}
 use Rattle.jql_syntax.specs.declared.reader.JqlFault.TheVariants as fault
 use Rattle.tracker_calls.specs.declared.reply.Refusal.{Refusal}
 use Rattle.tracker_calls.specs.declared.reply.Refusal.TheVariants as refusal
-use Rattle.tracker_machine.specs.Search.{Query}
+use Rattle.tracker_machine.specs.Machine.{Machine}
+use Rattle.tracker_machine.specs.Query.{Query}
 
 abbrev pub query_of : Bound → Query
 query_of bound = record { condition = option_map view bound.cond; keys = bound.order.keys }
@@ -19,3 +25,14 @@ Faults due r = (r ≢ refusal.Keeper) × (r ≢ refusal.Memory → due ≡ Err r
 abbrev pub text_refusal : JqlFault → Refusal
 text_refusal (fault.Bad place kind) = refusal.Query kind place
 text_refusal fault.Memory = refusal.Memory
+
+-- both users may browse the issue
+abbrev pub may_both : Machine → ℕ → ℕ → History → Bool
+may_both m owner caller h = may m.setup owner Browse (project_number m.setup h) && may m.setup caller Browse (project_number m.setup h)
+
+abbrev pub if_both : Machine → ℕ → ℕ → History → Option History
+if_both m owner caller h = if may_both m owner caller h then Some h else None
+
+-- the issue of a number, where both users may browse it
+abbrev pub browsed : Machine → ℕ → ℕ → IssueNo → Option History
+browsed m owner caller number = option_and_then (if_both m owner caller) (slice_get m.histories (number.0 - 1))

@@ -6,6 +6,7 @@ use Rattle.tracker_calls.specs.declared.reply.Refusal.TheVariants as refusal
 use Rattle.serde_json.specs.Written.{compact_text}
 use Rattle.rank_strings.specs.Rank.{RankParts}
 use Rattle.rank_strings.specs.Text.{rank_text}
+use Rattle.board.specs.declared.board.Board.{Board}
 use Rattle.rank_balancer.specs.declared.balance.Balance.{Balance}
 use Rattle.rank_balancer.specs.Step.{Move}
 use Rattle.field_values.specs.declared.numbers.IssueNo.{IssueNo}
@@ -16,14 +17,16 @@ use Rattle.field_forms.specs.Known.{Names}
 use Rattle.change_history.specs.declared.entry.Group.{Group}
 use Rattle.change_history.specs.History.{History}
 use Rattle.tracker_keeper.specs.declared.row.RowOp.TheVariants.{Put}
-use Rattle.tracker_keeper.specs.Bodies.{present_data, body_text}
+use Rattle.tracker_keeper.specs.Bodies.{present_data, board_data, body_text}
 use Rattle.fields.specs.Naming.{name_at}
 use Rattle.tracker_machine.specs.Known.{project_keys, next_key}
 use Rattle.tracker_machine.specs.Checks.{history_bytes, entry_bytes}
+use Rattle.tracker_machine.specs.Machine.{Machine}
 use Rattle.tracker_machine.specs.Effect.{Effect, IsAllowed}
-use Rattle.tracker_machine.specs.Effect.Effect.{NewMoment, NewIssue, NewGroup, NewRank, NewBalance, NewRanks}
+use Rattle.tracker_machine.specs.Effect.Effect.{NewMoment, NewIssue, NewGroup, NewRank, NewBalance, NewRanks, NewFilter, NoFilter, NewBoard, NoBoard}
 use Rattle.tracker_machine.specs.Meaning.{Meaning}
-use Rattle.tracker_machine.specs.Kept.{issue_part, group_part, ops_of}
+use Rattle.tracker_machine.specs.Kept.{issue_part, group_part, filter_part, ops_of}
+use Rattle.tracker_machine.specs.Saved.{SavedFilter}
 use Rattle.tracker_machine.specs.Meaning.Meaning.{Refuses, Tells, Finds, Makes}
 use Rattle.tracker_machine.specs.Edit.{edit_answer}
 use Rattle.tracker_machine.specs.Transition.{transition_answer}
@@ -35,7 +38,13 @@ use Rattle.tracker_state.specs.declared.plan.Plan.{Plan}
 use Rattle.tracker_state.specs.declared.plan.Plan.TheVariants as plans
 use Rattle.tracker_state.specs.declared.plan.Prepared.{Prepared}
 use Rattle.tracker_state.specs.declared.plan.Prepared.TheVariants.{Tell, Make}
-use Rattle.tracker_state.specs.State.{Held}
+use Rattle.rising_numbers.specs.ByNumber.{by_number}
+use Rattle.filter_views.specs.Counts.{due}
+use Rattle.tracker_filters.specs.declared.ready.ReadyFilter.{ReadyFilter}
+use Rattle.tracker_filters.specs.Saved.{number, condition_of}
+use Rattle.tracker_filters.specs.Watched.{HasFilterRoom, HasIssueRoom}
+use Rattle.tracker_filters.specs.Ready.{AreVerdicts}
+use Rattle.tracker_state.specs.State.{Held, IsBound, saved_as}
 
 abbrev pub effect_of : Plan → Effect
 effect_of (plans.Moment to) = NewMoment to
@@ -44,6 +53,10 @@ effect_of (plans.Group new) = NewGroup new.place new.group
 effect_of (plans.Rank new) = NewRank new.issue new.rank
 effect_of (plans.Balance balance) = NewBalance balance
 effect_of (plans.Step moves) = NewRanks moves
+effect_of (plans.Save ready) = NewFilter (saved_as ready.filter)
+effect_of (plans.DropFilter filter_no) = NoFilter filter_no
+effect_of (plans.Board b) = NewBoard b
+effect_of (plans.DropBoard board_no) = NoBoard board_no
 
 -- the answer of a call that changes an issue
 abbrev pub group_answer : GroupCall → List ℕ → Option ℕ → Answer
@@ -54,6 +67,7 @@ group_answer call.Transition issue number = transition_answer issue number
 pub record IssueFits (s : Held) (new : IssuePlan) : Type 0 where
   pub room : 1 ≤ s.room
   pub ranks_room : length s.machine.order < s.ranks_room
+  pub cells_room : HasIssueRoom s.watched
   pub key : string_bytes new.key ≡ new.issue.history.key
   pub there : new.project.0 < length s.machine.setup.project
   pub next : new.issue.history.key ≡ next_key s.machine (name_at (project_keys s.machine.setup) new.project.0)
@@ -64,6 +78,12 @@ pub record GroupFits (s : Held) (new : GroupPlan) : Type 0 where
   pub room : IfSome (slice_get s.rooms new.place) (λ room. length new.group.entries ≤ room)
   pub bytes : new.bytes ≡ sum_by entry_bytes new.group.entries
 
+-- there is room for the filter, it asks for what its text asks for, and its verdicts are right
+pub record FilterFits (s : Held) (ready : ReadyFilter) : Type 0 where
+  pub bound : IsBound s.machine.setup ready.filter
+  pub room : by_number number ready.filter.no.0 s.watched.filters ≡ None → HasFilterRoom s.watched
+  pub right : AreVerdicts s.watched.around s.watched.moment (condition_of ready.filter) s.watched.histories ready.verdicts.items
+
 -- there is room for what the plan makes
 abbrev pub Fits : Held → Plan → Type 0
 Fits s (plans.Moment to) = Unit {0}
@@ -72,6 +92,24 @@ Fits s (plans.Group new) = GroupFits s new
 Fits s (plans.Rank new) = Unit {0}
 Fits s (plans.Balance balance) = Unit {0}
 Fits s (plans.Step moves) = Unit {0}
+Fits s (plans.Save ready) = FilterFits s ready
+Fits s (plans.DropFilter filter_no) = Unit {0}
+Fits s (plans.Board b) = length s.machine.boards < s.boards_room
+Fits s (plans.DropBoard board_no) = Unit {0}
+
+-- how often it is asked whether a query holds of an issue as the plan is carried out: by each filter of a new or a changed issue, and
+-- for each verdict that has come to its end
+abbrev pub cost_of : Plan → Held → ℕ
+cost_of (plans.Moment to) s = due s.watched.views to
+cost_of (plans.Issue new) s = length s.watched.filters
+cost_of (plans.Group new) s = length s.watched.filters
+cost_of _ s = 0
+
+-- and how often at most as a call is prepared: by a search, and by a filter that is saved
+abbrev pub cost_to_prepare : Meaning → Machine → ℕ
+cost_to_prepare (Finds a) m = length m.histories
+cost_to_prepare (Makes a (NewFilter f)) m = length m.histories
+cost_to_prepare _ m = 0
 
 -- the operation that keeps where the tracker stands
 abbrev pub present_op : Balance → ℕ → ℕ → RowOp
@@ -84,6 +122,13 @@ issue_row names h = record { kind = 3; no = h.no.0; body = body_text names (issu
 -- and of a change group of an issue
 abbrev pub group_row : Names → History → Group → Row
 group_row names h group = record { kind = 4; no = group.change; body = body_text names (group_part h group) }
+
+-- the operations that keep a filter and a board, and those that end the row of one
+abbrev pub filter_op : Names → SavedFilter → RowOp
+filter_op names f = Put (record { kind = 8; no = f.no.0; body = body_text names (filter_part f) })
+
+abbrev pub board_op : Board → RowOp
+board_op b = Put (record { kind = 9; no = b.no.0; body = compact_text (board_data b.filter.0 b.name) })
 
 -- the operation that keeps an issue's rank
 abbrev pub rank_op : IssueNo → RankParts → RowOp

@@ -1,16 +1,32 @@
 -- What the state keeps, and what holds of it.
-use Rattle.std.specs.Prelude.{◌≡◌, ◌≤◌, ℕ, List, map}
+use Rattle.std.specs.Prelude.{◌≡◌, ◌≤◌, ℕ, List, Ok, map}
+use Rattle.std.specs.List.{All}
 use Rattle.fields.specs.declared.setup.Setup.{Setup}
 use Rattle.fields.specs.SetupParts.{parts}
+use Rattle.field_values.specs.Parts.{Parts}
 use Rattle.tracker_machine.specs.Machine.{Machine}
+use Rattle.tracker_machine.specs.Query.{asked}
+use Rattle.tracker_machine.specs.Saved.{SavedFilter}
+use Rattle.tracker_machine.specs.Search.{surroundings_in}
 use Rattle.tracker_machine.specs.Tracker.{IsTracker}
+use Rattle.tracker_state.specs.Found.{query_of}
 use Rattle.tracker_issues.specs.Counts.{counts_of}
 use Rattle.tracker_issues.specs.Issues.{Shelf}
 use Rattle.tracker_ranks.specs.Ranked.{OrderedIssues}
+use Rattle.tracker_filters.specs.declared.filter.Filter.{Filter}
+use Rattle.tracker_filters.specs.Watched.{WatchedFilters}
+use Rattle.tracker_boards.specs.Boards.{BoardList}
+
+-- a filter as the abstract tracker has it
+abbrev pub saved_as : Filter → SavedFilter
+saved_as f = record { no = f.no; owner = f.owner; name = f.name; text = f.text }
+
+abbrev pub saved_filters : List Filter → List SavedFilter
+saved_filters filters = map saved_as filters
 
 -- the abstract tracker's state that the parts of a state are
-abbrev pub machine_of : Setup → ℕ → ℕ → Shelf → OrderedIssues → Machine
-machine_of setup moment change issues ranks = record {
+abbrev pub machine_of : Setup → ℕ → ℕ → Shelf → OrderedIssues → WatchedFilters → BoardList → Machine
+machine_of setup moment change issues ranks watched boards = record {
   text = setup.text;
   setup = parts setup;
   moment = moment;
@@ -18,18 +34,34 @@ machine_of setup moment change issues ranks = record {
   histories = map (λ i. i.history) issues.kept;
   order = ranks.order;
   balance = ranks.balance;
+  filters = saved_filters watched.filters;
+  boards = boards.boards;
 }
 
 -- the abstract tracker's state; how many issues there is room for, up to how many issues may have ranks, and for how many
--- entries there is room, issue by issue
+-- entries there is room, issue by issue; the filters with their verdicts; and for how many boards there is room
 pub record Held : Type 0 where
   pub machine : Machine
   pub room : ℕ
   pub ranks_room : ℕ
   pub rooms : List ℕ
+  pub watched : WatchedFilters
+  pub boards_room : ℕ
+
+-- the filter asks for what its text asks for when its owner asks it
+abbrev pub IsBound : Parts → Filter → Type 0
+IsBound setup f = asked setup f.owner.0 f.text ≡ Ok (query_of f.query)
+
+-- the filters have seen the tracker as it is
+pub record HaveSeen (m : Machine) (w : WatchedFilters) : Type 0 where
+  pub histories : w.histories ≡ m.histories
+  pub around : w.around ≡ surroundings_in m.setup
+  pub moment : w.moment ≡ m.moment
 
 -- what the state keeps true of itself, where it counts so many issues of each project
-pub record IsState (m : Machine) (counts : List ℕ) : Type 0 where
+pub record IsState (m : Machine) (counts : List ℕ) (w : WatchedFilters) : Type 0 where
   pub counted : counts ≡ counts_of m.setup.project m.histories
   pub few_changes : m.change ≤ 2_050_000
   pub tracker : IsTracker m
+  pub seen : HaveSeen m w
+  pub bound : All (IsBound m.setup) w.filters

@@ -1,5 +1,6 @@
 // The checks, each of which may refuse a call.
-ghost use Rattle.std.specs.Prelude.{◌≡◌, ◌≢◌, ◌<◌, ◌≤◌, true, length, option_map, slice_get, IfOk, IfErr, Some, None};
+ghost use Rattle.std.specs.Prelude.{◌≡◌, ◌<◌, ◌≤◌, length, option_map, slice_get, decimal, IfOk, IfSome, Some, None};
+ghost use Rattle.std.specs.Option.{option_copied};
 ghost use Rattle.field_forms.specs.Names.{place_named};
 ghost use Rattle.fields.specs.SetupParts.{names_in};
 ghost use Rattle.workflow.specs.Laws.{AllFit};
@@ -7,19 +8,26 @@ ghost use Rattle.fields.specs.Naming.{name_at, field_name};
 ghost use Rattle.tracker_machine.specs.Known.{project_keys, place_of_issue};
 ghost use Rattle.tracker_machine.specs.Wanted.{changes_of};
 ghost use Rattle.tracker_machine.specs.Checks.{unless_known, names_refusal, permission_refusal, issues_refusal, entries_refusal, bytes_refusal, values_refusal, entries_kept, bytes_kept};
+ghost use Rattle.rising_numbers.specs.ByNumber.{by_number};
+ghost use Rattle.tracker_filters.specs.Saved.{number};
 ghost use Rattle.tracker_machine.specs.Access.{access_refusal};
+ghost use Rattle.tracker_machine.specs.Filters.{filter_numbered, unless_filter};
+ghost use Rattle.tracker_machine.specs.Boards.{board_numbered, unless_board};
 ghost use Rattle.tracker_machine.specs.Transition.{transition_names};
 ghost use Rattle.tracker_state.specs.Check.{Checks, IsRefusal};
+ghost use Rattle.tracker_state.specs.State.{saved_as};
 ghost use Rattle.tracker_state.specs.Wants.{wants_of, unknown_name_refusal};
 
 use crate::names::{UnknownName, first_unknown_name};
 use crate::resolved::ResolvedSet;
 use crate::state::State;
 use crate::wants::{Opening, Outcome, outcome_of_all};
+use board::Board;
 use change_history::Change;
-use fields::{FieldNo, Permission, ProjectNo, Text, UserNo};
+use fields::{BoardNo, FieldNo, FilterNo, Permission, ProjectNo, Text, UserNo};
 use std::alloc::Global;
 use tracker_calls::{Limit, Refusal, Thing};
+use tracker_filters::Filter;
 use workflow::project_number;
 
 /// The refusal of a member that is not of its form.
@@ -66,6 +74,53 @@ pub fn known_issue(alloc: Global, state: &State, name: &str) -> Result<usize, Re
     }
 }
 
+// The refusal of a number that nothing of that kind has.
+fn unnumbered(alloc: Global, kind: Thing, number: u32) -> Refusal
+    ensures { IsRefusal (Some (Refusal.Unknown kind (decimal number))) result }
+{
+    match format!(in alloc; "{number}") {
+        Ok(digits) => Refusal::Unknown {
+            kind,
+            name: Text::of(digits),
+        },
+        Err(_) => Refusal::Memory,
+    }
+}
+
+/// The filter of that number; `None` exactly where there is none.
+pub fn filter_numbered(state: &State, no: FilterNo) -> Option<&Filter>
+    ensures filter { option_copied result ≡ by_number number no.0 state.now.watched.filters }
+    ensures own { IfSome result (λ filter. filter.now.no ≡ no) }
+    ensures named { option_map saved_as (option_copied result) ≡ filter_numbered state.now.machine no }
+{
+    state.have_seen();
+    state.filters().get(no)
+}
+
+/// The filter of that number.
+pub fn known_filter(alloc: Global, state: &State, no: FilterNo) -> Result<&Filter, Refusal>
+    ensures filter { IfOk result (λ filter. by_number number no.0 state.now.watched.filters ≡ Some filter.now) }
+    ensures own { IfOk result (λ filter. filter.now.no ≡ no) }
+    ensures named { IfOk result (λ filter. filter_numbered state.now.machine no ≡ Some (saved_as filter.now)) }
+    ensures check { Checks (unless_filter state.now.machine no) result }
+{
+    match filter_numbered(state, no) {
+        Some(filter) => Ok(filter),
+        None => Err(unnumbered(alloc, Thing::Filter, no.0)),
+    }
+}
+
+/// The board of that number.
+pub fn known_board(alloc: Global, state: &State, no: BoardNo) -> Result<&Board, Refusal>
+    ensures board { IfOk result (λ board. board_numbered state.now.machine no ≡ Some board.now) }
+    ensures check { Checks (unless_board state.now.machine no) result }
+{
+    match state.boards().get(no) {
+        Some(board) => Ok(board),
+        None => Err(unnumbered(alloc, Thing::Board, no.0)),
+    }
+}
+
 /// The place of the transition of that name.
 pub fn known_transition(alloc: Global, state: &State, name: &str) -> Result<usize, Refusal>
     ensures place { IfOk result (λ place. place_named name.now (transition_names state.now.machine.setup) ≡ Some place) }
@@ -84,13 +139,7 @@ fn unknown_named(alloc: Global, name: UnknownName<'_>) -> Refusal
 {
     match name {
         UnknownName::Field(name) => unknown(alloc, Thing::Field, name),
-        UnknownName::Sprint(number) => match format!(in alloc; "{number}") {
-            Ok(digits) => Refusal::Unknown {
-                kind: Thing::Sprint,
-                name: Text::of(digits),
-            },
-            Err(_) => Refusal::Memory,
-        },
+        UnknownName::Sprint(number) => unnumbered(alloc, Thing::Sprint, number),
     }
 }
 

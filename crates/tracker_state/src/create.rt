@@ -47,6 +47,8 @@ pub fn create(
 ) -> Result<Prepared, Refusal>
     requires { caller.0 < length state.old.machine.setup.users }
     ensures same { state.new.machine ≡ state.old.machine }
+    ensures table { state.new.watched.views.table ≡ state.old.watched.views.table }
+    ensures filters { state.new.watched.filters ≡ state.old.watched.filters }
     ensures prepared { IsPrepared (create_meaning state.old.machine caller.0 project.now issue_type.now summary.now set.now) state.new result }
 {
     let Ok(given) = ResolvedSet::of(alloc, state.setup(), set) else {
@@ -126,6 +128,8 @@ fn place_last(
     requires fitting { AllFit (names_in state.old.machine.setup) changes.items }
     requires listed { AreSmall (filled changes.items) → are_opening (names_in state.old.machine.setup) (filled changes.items) ≡ true }
     ensures same { state.new.machine ≡ state.old.machine }
+    ensures table { state.new.watched.views.table ≡ state.old.watched.views.table }
+    ensures filters { state.new.watched.filters ≡ state.old.watched.filters }
     ensures prepared { IsPrepared (with_given (last_rank state.old.machine)
         (created state.old.machine caller.0 (name_at (project_keys state.old.machine.setup) project.0) changes.items)) state.new result }
 {
@@ -165,6 +169,8 @@ fn open(
     requires fitting { AllFit (names_in state.old.machine.setup) changes.items }
     requires listed { AreSmall (filled changes.items) → are_opening (names_in state.old.machine.setup) (filled changes.items) ≡ true }
     ensures same { state.new.machine ≡ state.old.machine }
+    ensures table { state.new.watched.views.table ≡ state.old.watched.views.table }
+    ensures filters { state.new.watched.filters ≡ state.old.watched.filters }
     ensures prepared { IsPrepared (created state.old.machine caller.0 (name_at (project_keys state.old.machine.setup) project.0) changes.items rank) state.new result }
 {
     state.is_tracker();

@@ -36,6 +36,8 @@ pub fn edit(
 ) -> Result<Prepared, Refusal>
     requires { caller.0 < length state.old.machine.setup.users }
     ensures same { state.new.machine ≡ state.old.machine }
+    ensures table { state.new.watched.views.table ≡ state.old.watched.views.table }
+    ensures filters { state.new.watched.filters ≡ state.old.watched.filters }
     ensures prepared { IsPrepared (edit_meaning state.old.machine caller.0 issue.now set.now) state.new result }
 {
     let Ok(given) = ResolvedSet::of(alloc, state.setup(), set) else {
@@ -91,6 +93,8 @@ fn change(
     requires light { bytes_kept state.old.machine.histories ≤ 499_800_000 }
     requires fitting { AllFit (names_in state.old.machine.setup) changes.items }
     ensures same { state.new.machine ≡ state.old.machine }
+    ensures table { state.new.watched.views.table ≡ state.old.watched.views.table }
+    ensures filters { state.new.watched.filters ≡ state.old.watched.filters }
     ensures prepared { IfSome (slice_get state.old.machine.histories place) (λ h.
         IsPrepared (grouped (edit_answer name.now) state.old.machine caller.0 place h (net_changes (present h) changes.items)) state.new result) }
 {

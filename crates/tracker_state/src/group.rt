@@ -49,6 +49,8 @@ pub fn grouped(
     requires news { IfSome (slice_get state.old.machine.histories place) (λ h. AreNews (present h) 0 net.items) }
     requires fitting { AllFit (names_in state.old.machine.setup) net.items }
     ensures same { state.new.machine ≡ state.old.machine }
+    ensures table { state.new.watched.views.table ≡ state.old.watched.views.table }
+    ensures filters { state.new.watched.filters ≡ state.old.watched.filters }
     ensures prepared { IfSome (slice_get state.old.machine.histories place) (λ h.
         IsPrepared (grouped (group_answer call name.now) state.old.machine caller.0 place h net.items) state.new result) }
 {
@@ -95,6 +97,8 @@ fn new_group(
     requires fitting { AllFit (names_in state.old.machine.setup) net.items }
     ensures some { net.items ≢ [] }
     ensures same { state.new.machine ≡ state.old.machine }
+    ensures table { state.new.watched.views.table ≡ state.old.watched.views.table }
+    ensures filters { state.new.watched.filters ≡ state.old.watched.filters }
     ensures place { IfOk result (λ r. r.0.place ≡ place) }
     ensures group { IfOk result (λ r. IfSome (slice_get state.old.machine.histories place) (λ h. r.0.group ≡ next_group state.old.machine caller.0 h net.items)) }
     ensures allowed { IfOk result (λ r. MayGroup state.old.machine place r.0.group) }

@@ -1,12 +1,19 @@
 //! The tracker's state: what each call prepares, and how it is installed.
 #![tactic(auto)]
 
+mod asking;
+mod board_issues;
 mod check;
 mod create;
+mod drop_board;
+mod drop_filter;
 mod edit;
 mod empty;
+mod filter_issues;
 mod group;
 mod history;
+mod listing;
+mod make_board;
 mod moves;
 mod names;
 mod no_room;
@@ -17,6 +24,7 @@ mod ranks;
 mod rebalance;
 mod resolved;
 mod rows;
+mod save_filter;
 mod search;
 mod show;
 mod state;

@@ -1,10 +1,12 @@
 // What is made ready before anything is kept.
 
+use board::Board;
 use change_history::{Group, Issue};
-use fields::{IssueNo, Moment, ProjectNo};
+use fields::{BoardNo, FilterNo, IssueNo, Moment, ProjectNo};
 use rank_balancer::{Balance, StepPlan};
 use rank_strings::Rank;
 use tracker_calls::Answer;
+use tracker_filters::ReadyFilter;
 use tracker_keeper::RowOp;
 
 /// A new issue with all that is kept of it.
@@ -48,6 +50,14 @@ pub enum Plan {
     Balance(Balance),
     /// A step of a rebalancing.
     Step(StepPlan),
+    /// A filter is saved, with its verdicts on all issues.
+    Save(ReadyFilter),
+    /// A filter is dropped, and its boards with it.
+    DropFilter(FilterNo),
+    /// There is a new board.
+    Board(Board),
+    /// A board is dropped.
+    DropBoard(BoardNo),
 }
 
 /// What comes of preparing a call: an answer alone, or a plan with its answer and the operations that keep it.

@@ -1,24 +1,30 @@
 // What is done before anything is kept: looks, refusals, and all memory.
 ghost use Rattle.std.specs.Prelude.{◌≡◌, ◌≤◌, ◌<◌, ◌+◌, None, length, option_map, IfOk};
 ghost use Rattle.tracker_calls.specs.Part.{part_fault};
-ghost use Rattle.tracker_machine.specs.Checks.{count_refusal, other_refusal, twins_refusal};
-ghost use Rattle.tracker_machine.specs.Meaning.{allowance};
+ghost use Rattle.tracker_machine.specs.Checks.{count_refusal, other_refusal, title_refusal, twins_refusal};
 ghost use Rattle.tracker_machine.specs.Step.{meaning, meaning_for, form_refusal};
-ghost use Rattle.tracker_state.specs.Plan.{IsPrepared};
+ghost use Rattle.tracker_state.specs.Plan.{IsPrepared, cost_to_prepare};
 
+use crate::board_issues::board;
 use crate::check::{malformed, unknown};
 use crate::create::create;
+use crate::drop_board::drop_board;
+use crate::drop_filter::drop_filter;
 use crate::edit::edit;
+use crate::filter_issues::filter;
 use crate::history::history;
+use crate::make_board::make_board;
 use crate::moves::{move_after, move_before};
 use crate::plan::Prepared;
 use crate::ranks::ranks;
 use crate::rebalance::{balance, rebalance_start, rebalance_step};
+use crate::save_filter::save_filter;
 use crate::search::search;
 use crate::show::show;
 use crate::state::State;
 use crate::tick::tick;
 use crate::transition::transition;
+use field_forms::name_form::is_title;
 use fields::{Memory, Steps, UserNo};
 use std::alloc::Global;
 use std::sync::ledger::Ledger;
@@ -38,7 +44,9 @@ pub fn prepare<L: Ledger>(
 ) -> Result<Prepared, Refusal>
     ensures same { state.new.machine ≡ state.old.machine }
     ensures prepared { IsPrepared (meaning state.old.machine caller.now call.now) state.new result }
-    ensures steps { steps.new ≤ steps.old + allowance (meaning state.old.machine caller.now call.now) state.old.machine }
+    ensures table { state.new.watched.views.table ≡ state.old.watched.views.table }
+    ensures filters { state.new.watched.filters ≡ state.old.watched.filters }
+    ensures steps { steps.new ≤ steps.old + cost_to_prepare (meaning state.old.machine caller.now call.now) state.old.machine }
 {
     match fault_of_form(alloc, call) {
         Ok(None) => {}
@@ -64,7 +72,9 @@ fn prepare_for<L: Ledger>(
     requires form { form_refusal call.now ≡ None }
     ensures same { state.new.machine ≡ state.old.machine }
     ensures prepared { IsPrepared (meaning_for state.old.machine user.0 call.now) state.new result }
-    ensures steps { steps.new ≤ steps.old + allowance (meaning_for state.old.machine user.0 call.now) state.old.machine }
+    ensures table { state.new.watched.views.table ≡ state.old.watched.views.table }
+    ensures filters { state.new.watched.filters ≡ state.old.watched.filters }
+    ensures steps { steps.new ≤ steps.old + cost_to_prepare (meaning_for state.old.machine user.0 call.now) state.old.machine }
 {
     match call {
         Call::Create {
@@ -108,6 +118,16 @@ fn prepare_for<L: Ledger>(
         Call::RebalanceStart => rebalance_start(alloc, state, user),
         Call::RebalanceStep { count } => rebalance_step(alloc, state, user, *count),
         Call::Balance => balance(state),
+        Call::SaveFilter { name, jql } => {
+            save_filter(alloc, state, user, name.as_str(), jql.as_str(), steps)
+        }
+        Call::DropFilter { filter } => drop_filter(alloc, state, user, *filter),
+        Call::Filter { filter: no, part } => filter(alloc, state, user, *no, *part),
+        Call::MakeBoard { name, filter } => {
+            make_board(alloc, state, user, name.as_str(), *filter)
+        }
+        Call::DropBoard { board } => drop_board(alloc, state, user, *board),
+        Call::Board { board: no, part } => board(alloc, state, user, *no, *part),
     }
 }
 
@@ -154,6 +174,16 @@ fn count_fault(count: u32) -> Option<&'static str>
     None
 }
 
+// A name of a filter or a board that isn't of its form, which no line gives.
+fn title_fault(name: &str) -> Option<&'static str>
+    ensures { option_map (λ name. Refusal.Form name.now) result ≡ title_refusal name.now }
+{
+    if is_title(name) {
+        return None;
+    }
+    Some("name")
+}
+
 // The first member of the call that isn't of its form.
 #[tactic(auto, unfolding(tracker_machine::specs::Step::form_refusal))]
 fn fault_of_form(alloc: Global, call: &Call) -> Result<Option<&'static str>, Memory>
@@ -170,6 +200,15 @@ fn fault_of_form(alloc: Global, call: &Call) -> Result<Option<&'static str>, Mem
         }
         Call::Ranks { part } => Ok(part_fault(*part, MOST_LISTED)),
         Call::RebalanceStep { count } => Ok(count_fault(*count)),
-        Call::Tick { .. } | Call::Show { .. } | Call::RebalanceStart | Call::Balance => Ok(None),
+        Call::SaveFilter { name, .. } | Call::MakeBoard { name, .. } => {
+            Ok(title_fault(name.as_str()))
+        }
+        Call::Filter { part, .. } | Call::Board { part, .. } => Ok(part_fault(*part, MOST_LISTED)),
+        Call::Tick { .. }
+        | Call::Show { .. }
+        | Call::RebalanceStart
+        | Call::Balance
+        | Call::DropFilter { .. }
+        | Call::DropBoard { .. } => Ok(None),
     }
 }

@@ -38,6 +38,8 @@ pub fn transition(
 ) -> Result<Prepared, Refusal>
     requires { caller.0 < length state.old.machine.setup.users }
     ensures same { state.new.machine ≡ state.old.machine }
+    ensures table { state.new.watched.views.table ≡ state.old.watched.views.table }
+    ensures filters { state.new.watched.filters ≡ state.old.watched.filters }
     ensures prepared { IsPrepared (transition_meaning state.old.machine caller.0 issue.now transition.now set.now) state.new result }
 {
     let Ok(given) = ResolvedSet::of(alloc, state.setup(), set) else {

@@ -51,6 +51,7 @@ returns-clause-prepared c =
     (record {
       room = c.in-Ok-reserve_issue.ensures.room;
       ranks_room = c.in-Ok-reserve_issue.ensures.ranks;
+      cells_room = c.in-Ok-reserve_issue.ensures.cells;
       key = c.in-Ok.ensures.key ∙ sym key;
       there = subst (λ (p : ProjectNo). p.0 < length s.machine.setup.project) (sym c.in-Ok.ensures.project)
           (subst (λ (n : Machine). c.args.project.0 < length n.setup.project) (sym same) c.requires.there);

@@ -1,6 +1,9 @@
-use Rattle.std.proofs.Common.{◌≡◌, None, sym, subst}
+use Rattle.std.proofs.Common.{◌≡◌, ℕ, Bool, true, false, List, None, codes, refl, sym, subst}
+use Rattle.std.proofs.lemmas.Option.{none-some}
+use Rattle.field_forms.specs.Names.{is_title}
+use Rattle.tracker_calls.specs.declared.reply.Refusal.TheVariants as refusal
 use Rattle.tracker_machine.specs.Step.{meaning_for, form_refusal}
-use Rattle.tracker_machine.specs.Checks.{other_refusal}
+use Rattle.tracker_machine.specs.Checks.{only_if, other_refusal, title_refusal}
 use Rattle.tracker_machine.proofs.Placed.{apart}
 use Rattle.tracker_state.proofs.Rebalancing.{in_range}
 use Rattle.tracker_state.specs.Plan.{IsPrepared}
@@ -21,6 +24,26 @@ move_after-requires g c =
 pub rebalance_step-requires : goal.rebalance_step-requires
 unfolding form_refusal
 rebalance_step-requires g c = in_range 1_000 c.in-RebalanceStep.count (subst (λ call. form_refusal call ≡ None) c.in-RebalanceStep.is c.requires.form)
+
+-- a name that no check of form refuses
+is_named : (name : List ℕ) → title_refusal name ≡ None → is_title name ≡ true
+is_named name none = by (is_title name) none
+  where
+    by : (b : Bool) → only_if b (refusal.Form (codes "name")) ≡ None → b ≡ true
+    by true none = refl
+    by false none = absurd (none-some (refusal.Form (codes "name")) (sym none))
+
+pub save_filter-requires-clause-title : goal.save_filter-requires-clause-title
+unfolding form_refusal
+save_filter-requires-clause-title g c =
+    let none : title_refusal c.in-SaveFilter.name ≡ None = subst (λ call. form_refusal call ≡ None) c.in-SaveFilter.is c.requires.form in
+    rw c.as_str-in-SaveFilter.ensures (is_named c.in-SaveFilter.name none)
+
+pub make_board-requires : goal.make_board-requires
+unfolding form_refusal
+make_board-requires g c =
+    let none : title_refusal c.in-MakeBoard.name ≡ None = subst (λ call. form_refusal call ≡ None) c.in-MakeBoard.is c.requires.form in
+    record { title = rw c.as_str-in-MakeBoard.ensures (is_named c.in-MakeBoard.name none) }
 
 pub returns-in-Create-clause-prepared : goal.returns-in-Create-clause-prepared
 unfolding meaning_for

@@ -3,6 +3,7 @@ use Rattle.change_history.specs.History.{History}
 use Rattle.field_values.specs.declared.numbers.IssueNo.{IssueNo}
 use Rattle.board.specs.Order.{Pair}
 use Rattle.rank_balancer.specs.declared.balance.Balance.{Balance}
+use Rattle.tracker_filters.specs.declared.filter.Filter.{Filter}
 use Rattle.tracker_ranks.specs.Ranked.{OrderedIssues, IsNext, with_last}
 use Rattle.fields.specs.Naming.{name_at}
 use Rattle.tracker_machine.specs.Machine.{Machine}
@@ -12,26 +13,26 @@ use Rattle.tracker_machine.specs.Tracker.{MayOpen}
 use Rattle.tracker_issues.specs.Issues.{histories_of}
 use Rattle.tracker_issues.proofs.Counts.{counted_at, few_counted}
 use Rattle.tracker_issues.proofs.Histories.{histories_push}
-use Rattle.tracker_state.specs.State.{Held, IsState}
+use Rattle.tracker_state.specs.State.{Held, IsState, saved_filters}
 use Rattle.tracker_state.specs.contracts.state.State.{the_view}
 use Rattle.tracker_state.proofs.States.{state_push}
 use Rattle.tracker_state.proofs.state.State.push.Goals as goal
 
 pub push-requires-clause-there : goal.push-requires-clause-there
-push-requires-clause-there c =
+push-requires-clause-there g c =
     let m : Machine = (the_view c.self.inside).machine in
     counted_at m.setup.project m.histories c.self.inside.issues.counts c.args.new.project.0 c.self.invariant.counted
     (subst (λ (s : Held). c.args.new.project.0 < length s.machine.setup.project) (sym c.self.view_is) c.requires.fits.there)
 
 pub push-requires-clause-countable : goal.push-requires-clause-countable
-push-requires-clause-countable c =
+push-requires-clause-countable g c =
     let m : Machine = (the_view c.self.inside).machine in
     subst (λ (ns : List ℕ). IfSome (slice_get ns c.args.new.project.0) (λ n. n + 1 < 4294967296)) (sym c.self.invariant.counted)
     (few_counted m.setup.project m.histories c.args.new.project.0 (λ n. n + 1 < 4294967296) (λ n le. omega (arith, le, c.self.invariant.tracker.few_issues)))
 
 pub invariant_of-self : goal.invariant_of-self
 unfolding IsAllowed
-invariant_of-self c =
+invariant_of-self g c =
     let m : Machine = (the_view c.self.inside).machine in
     let h = c.args.new.issue.history in
     let place = c.args.new.project.0 in
@@ -41,12 +42,16 @@ invariant_of-self c =
     let counts = c.push.new.self.counts in
     let order : c.add.new.self.order ≡ with_last m.order h.no rank = ap (λ (r : OrderedIssues). r.order) c.add.ensures ∙ ap (λ (no : IssueNo). with_last m.order no rank) c.no.ensures in
     let balance : c.add.new.self.balance ≡ m.balance = ap (λ (r : OrderedIssues). r.balance) c.add.ensures in
-    subst (λ (hs : List History). IsState (record m { change = m.change + 1; histories = hs; order = c.add.new.self.order; balance = c.add.new.self.balance }) counts) (sym histories)
-    (subst (λ (ps : List Pair). IsState (record m { change = m.change + 1; histories = m.histories ++ h ∷ []; order = ps; balance = c.add.new.self.balance }) counts) (sym order)
-    (subst (λ (b : Balance). IsState (record m { change = m.change + 1; histories = m.histories ++ h ∷ []; order = with_last m.order h.no rank; balance = b }) counts) (sym balance)
-    (state_push m c.self.inside.issues.counts counts h rank place c.self.inside.setting.setup.sound c.self.invariant
+    let w = c.self.inside.filters in
+    let seen = c.see_new.new.self in
+    let is = c.see_new.ensures in
+    subst (λ (hs : List History). IsState (record m { change = m.change + 1; histories = hs; order = c.add.new.self.order; balance = c.add.new.self.balance; filters = saved_filters seen.filters }) counts seen) (sym histories)
+    (subst (λ (ps : List Pair). IsState (record m { change = m.change + 1; histories = m.histories ++ h ∷ []; order = ps; balance = c.add.new.self.balance; filters = saved_filters seen.filters }) counts seen) (sym order)
+    (subst (λ (b : Balance). IsState (record m { change = m.change + 1; histories = m.histories ++ h ∷ []; order = with_last m.order h.no rank; balance = b; filters = saved_filters seen.filters }) counts seen) (sym balance)
+    (subst (λ (fs : List Filter). IsState (record m { change = m.change + 1; histories = m.histories ++ h ∷ []; order = with_last m.order h.no rank; filters = saved_filters fs }) counts seen) (sym is.filters)
+    (state_push m c.self.inside.issues.counts counts w seen h rank place c.self.inside.setting.setup.sound c.self.invariant
     (subst (λ (s : Held). MayOpen s.machine h) back c.requires.allowed.0)
     (subst (λ (s : Held). IsNext s.machine.order s.machine.balance h.no rank) back c.requires.allowed.1)
     (subst (λ (s : Held). place < length s.machine.setup.project) back c.requires.fits.there)
     (subst (λ (s : Held). h.key ≡ next_key s.machine (name_at (project_keys s.machine.setup) place)) back c.requires.fits.next)
-    c.push.ensures.counts)))
+    c.push.ensures.counts (record { known = is.histories; beside = is.around; now = is.moment }) is.filters))))

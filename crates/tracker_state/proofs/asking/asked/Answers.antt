@@ -8,10 +8,10 @@ use Rattle.jql_syntax.specs.declared.reader.JqlFault.TheVariants as fault
 use Rattle.field_values.specs.Parts.{Parts}
 use Rattle.tracker_calls.specs.declared.reply.Refusal.{Refusal}
 use Rattle.tracker_calls.specs.declared.reply.Refusal.TheVariants as refusal
-use Rattle.tracker_machine.specs.Search.{Query, asked}
+use Rattle.tracker_machine.specs.Query.{Query, asked}
 use Rattle.tracker_machine.proofs.Asking.{asked_query, asked_fault}
 use Rattle.tracker_state.specs.Found.{query_of, text_refusal, Faults}
-use Rattle.tracker_state.proofs.search.asked.Goals as goal
+use Rattle.tracker_state.proofs.asking.asked.Goals as goal
 
 pub returns-in-Ok-clause-query : goal.returns-in-Ok-clause-query
 returns-in-Ok-clause-query c =
