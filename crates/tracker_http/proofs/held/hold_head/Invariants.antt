@@ -1,0 +1,12 @@
+use Rattle.std.proofs.Common.{◌≤◌, ◌-◌, [], length}
+use Rattle.std.specs.Io.KnownBytes.{Consumes, prepend_known}
+use Rattle.tracker_http.proofs.held.hold_head.Given as goal
+
+abbrev pub invariant-more : goal.invariant-more
+invariant-more g l = record {
+  same : Consumes (prepend_known l.fn.held.items (g.S.Source.left l.fn.source)) (prepend_known l.held.items (g.S.Source.left l.source)) [];
+  later : g.S.Source.faults l.fn.source ≤ g.S.Source.faults l.source;
+}
+
+abbrev pub decreases-more : goal.decreases-more
+decreases-more g l = 8192 - length l.held.items

@@ -1,0 +1,13 @@
+pub mod CommaLists
+pub mod Fields
+pub mod HeadEnd
+pub mod HeadFaults
+pub mod HeadPlaces
+pub mod Held
+pub mod Laws
+pub mod Requests
+pub mod Response
+pub mod Routes
+pub mod Spans
+pub mod Streams
+pub mod Taken
