@@ -1,10 +1,12 @@
 -- The bytes of the tokens of a value are its compact text.
-use Rattle.std.proofs.Common.{◌≡◌, List, [], ◌∷◌, ◌++◌, refl, ap, ◌∙◌, append_assoc}
+use Rattle.std.proofs.Common.{◌≡◌, ℤ, pos, negsuc, List, [], ◌∷◌, ◌++◌, refl, ap, ◌∙◌, append_assoc}
+use Rattle.std.specs.Fmt.{signed_decimal}
 use Rattle.json.specs.Token.{Token}
 use Rattle.json.specs.Print.{print}
 use Rattle.json.specs.Tree.{json_tokens, items_tokens, members_tokens}
 use Rattle.serde_json.specs.Data.{Data, null, boolean, number, string, array, object, Items, no_items, item, Members, no_members, member}
-use Rattle.serde_json.specs.Written.{outline, items_outline, members_outline, compact_text}
+use Rattle.serde_json.specs.Find.{of_integer}
+use Rattle.serde_json.specs.Written.{number_text, outline, items_outline, members_outline, compact_text}
 use Rattle.serde_json.proofs.Texts.{print-outline}
 use Rattle.tracker_calls.specs.Written.{after, after_items, after_members}
 
@@ -32,3 +34,8 @@ mutual
 -- the whole of what was written
 pub whole : (d : Data) → print (after d []) ≡ compact_text d
 whole d = ap print (after-appends d []) ∙ print-outline d
+
+-- an integer has the same text whether or not it is below zero
+pub integer_text : (z : ℤ) → number_text (of_integer z) ≡ signed_decimal z
+integer_text (pos n) = refl
+integer_text (negsuc n) = refl

@@ -1,5 +1,5 @@
--- Texts of replies about ranks and their balance, saved filters and boards.
-use Rattle.std.proofs.Common.{◌≡◌, [], ◌∷◌, codes, Some, None, true, false, refl}
+-- Texts of replies about ranks and their balance, saved filters, boards and sprints.
+use Rattle.std.proofs.Common.{◌≡◌, [], ◌∷◌, codes, Some, None, true, false, pos, negsuc, refl}
 use Rattle.std.specs.Fmt.{digits}
 use Rattle.serde_json.proofs.OnLiterals.{serde_json_on_literals}
 use Rattle.tracker_calls.specs.Reply.{reply_text}
@@ -8,6 +8,7 @@ use Rattle.tracker_calls.specs.declared.reply.Answer.TheVariants as answer
 use Rattle.tracker_calls.specs.declared.reply.Refusal.TheVariants as refusal
 use Rattle.tracker_calls.specs.declared.reply.BalanceState.TheVariants as state
 use Rattle.tracker_calls.specs.declared.reply.BalanceKept.TheVariants as kept
+use Rattle.tracker_calls.specs.declared.reply.SprintPhase.TheVariants as phase
 use Rattle.tracker_calls.specs.declared.reply.Limit.TheVariants as limit
 use Rattle.tracker_calls.specs.declared.reply.Thing.TheVariants as thing
 
@@ -95,3 +96,56 @@ no_such_filter = refl
 pub no_such_board : reply_text (reply.Refused (refusal.Unknown thing.Board (codes "7"))) ≡ codes "{\"refused\":{\"kind\":\"board\",\"name\":\"7\",\"no\":2}}"
 unfolding digits serde_json_on_literals reply_text
 no_such_board = refl
+
+pub a_made_sprint : reply_text (reply.Ok (answer.MakeSprint (record { 0 = 1 }))) ≡ codes "{\"ok\":{\"sprint\":1}}"
+unfolding digits serde_json_on_literals reply_text
+a_made_sprint = refl
+
+pub a_started_sprint : reply_text (reply.Ok (answer.SprintPhase (record { 0 = 1 }) phase.Active)) ≡ codes "{\"ok\":{\"sprint\":1,\"state\":\"active\"}}"
+unfolding digits serde_json_on_literals reply_text
+a_started_sprint = refl
+
+pub a_closed_sprint : reply_text (reply.Ok (answer.SprintPhase (record { 0 = 1 }) phase.Closed)) ≡ codes "{\"ok\":{\"sprint\":1,\"state\":\"closed\"}}"
+unfolding digits serde_json_on_literals reply_text
+a_closed_sprint = refl
+
+pub a_burndown : reply_text (reply.Ok (answer.Burndown (pos 1500)
+    (record { at = 1709254800; by = negsuc 2999; change = 8; issue = codes "OPS-1"; left = pos 1500 }
+    ∷ []) (pos 4500) phase.Active 1))
+    ≡ codes "{\"ok\":{\"left\":1500,\"rows\":[{\"at\":1709254800,\"by\":-3000,\"change\":8,\"issue\":\"OPS-1\",\"left\":1500}],\"start\":4500,\"state\":\"active\",\"total\":1}}"
+unfolding digits serde_json_on_literals reply_text
+a_burndown = refl
+
+-- what is left may fall below zero
+pub a_burndown_below_zero : reply_text (reply.Ok (answer.Burndown (negsuc 499)
+    (record { at = 1709254800; by = negsuc 1499; change = 8; issue = codes "OPS-1"; left = negsuc 499 }
+    ∷ record { at = 1709254860; by = pos 250; change = 9; issue = codes "OPS-2"; left = negsuc 249 }
+    ∷ []) (pos 1000) phase.Closed 3))
+    ≡ codes "{\"ok\":{\"left\":-500,\"rows\":[{\"at\":1709254800,\"by\":-1500,\"change\":8,\"issue\":\"OPS-1\",\"left\":-500},{\"at\":1709254860,\"by\":250,\"change\":9,\"issue\":\"OPS-2\",\"left\":-250}],\"start\":1000,\"state\":\"closed\",\"total\":3}}"
+unfolding digits serde_json_on_literals reply_text
+a_burndown_below_zero = refl
+
+pub a_burndown_not_begun : reply_text (reply.Ok (answer.Burndown (pos 0) [] (pos 0) phase.Future 0))
+    ≡ codes "{\"ok\":{\"left\":0,\"rows\":[],\"start\":0,\"state\":\"future\",\"total\":0}}"
+unfolding digits serde_json_on_literals reply_text
+a_burndown_not_begun = refl
+
+pub closed_already : reply_text (reply.Refused (refusal.SprintIs phase.Closed)) ≡ codes "{\"refused\":{\"no\":9,\"state\":\"closed\"}}"
+unfolding digits serde_json_on_literals reply_text
+closed_already = refl
+
+pub active_already : reply_text (reply.Refused (refusal.SprintIs phase.Active)) ≡ codes "{\"refused\":{\"no\":9,\"state\":\"active\"}}"
+unfolding digits serde_json_on_literals reply_text
+active_already = refl
+
+pub not_begun : reply_text (reply.Refused (refusal.SprintIs phase.Future)) ≡ codes "{\"refused\":{\"no\":9,\"state\":\"future\"}}"
+unfolding digits serde_json_on_literals reply_text
+not_begun = refl
+
+pub no_more_sprints : reply_text (reply.Refused (refusal.Limit limit.Sprints)) ≡ codes "{\"refused\":{\"limit\":\"sprints\",\"no\":10,\"number\":1000}}"
+unfolding digits serde_json_on_literals reply_text
+no_more_sprints = refl
+
+pub no_such_sprint : reply_text (reply.Refused (refusal.Unknown thing.Sprint (codes "7"))) ≡ codes "{\"refused\":{\"kind\":\"sprint\",\"name\":\"7\",\"no\":2}}"
+unfolding digits serde_json_on_literals reply_text
+no_such_sprint = refl

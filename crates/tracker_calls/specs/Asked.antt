@@ -7,7 +7,7 @@ use Rattle.serde_json.specs.Read.{read}
 use Rattle.field_forms.specs.Names.{is_title}
 use Rattle.tracker_calls.specs.Given.{set_at, set_if_there}
 use Rattle.tracker_calls.specs.declared.call.Call.{Call}
-use Rattle.tracker_calls.specs.declared.call.Call.TheVariants.{Create, Edit, Transition, Tick, MoveBefore, MoveAfter, RebalanceStart, RebalanceStep, SaveFilter, DropFilter, MakeBoard, DropBoard, Show, History, Search, Ranks, Balance, Filter, Board}
+use Rattle.tracker_calls.specs.declared.call.Call.TheVariants.{Create, Edit, Transition, Tick, MoveBefore, MoveAfter, RebalanceStart, RebalanceStep, SaveFilter, DropFilter, MakeBoard, DropBoard, MakeSprint, StartSprint, CloseSprint, Show, History, Search, Ranks, Balance, Filter, Board, Burndown}
 use Rattle.tracker_calls.specs.Part.{whole_within, from_if_there, count_if_there, count_at}
 use Rattle.tracker_calls.specs.declared.call.CallKind.{CallKind}
 use Rattle.tracker_calls.specs.declared.call.CallKind.TheVariants as kind
@@ -41,11 +41,11 @@ no_other (Some name) next = Err (Form name)
 abbrev pub text_at : List ℕ → Data → Option (List ℕ)
 text_at name d = option_and_then as_str (get name d)
 
--- the name of a saved filter or a board
+-- the name of a saved filter, a board or a sprint
 abbrev pub title_at : List ℕ → Data → Option (List ℕ)
 title_at name d = option_and_then (λ text. if is_title text then Some text else None) (text_at name d)
 
--- the number of a saved filter or a board
+-- the number of a saved filter, a board or a sprint
 abbrev pub number_at : List ℕ → Data → Option ℕ
 number_at name d = option_and_then (whole_within 0 4_294_967_295) (get name d)
 
@@ -80,13 +80,17 @@ kind_named name =
     (if bytes_eq name (codes "drop_filter") then Some kind.DropFilter else
     (if bytes_eq name (codes "make_board") then Some kind.MakeBoard else
     (if bytes_eq name (codes "drop_board") then Some kind.DropBoard else
+    (if bytes_eq name (codes "make_sprint") then Some kind.MakeSprint else
+    (if bytes_eq name (codes "start_sprint") then Some kind.StartSprint else
+    (if bytes_eq name (codes "close_sprint") then Some kind.CloseSprint else
     (if bytes_eq name (codes "show") then Some kind.Show else
     (if bytes_eq name (codes "history") then Some kind.History else
     (if bytes_eq name (codes "search") then Some kind.Search else
     (if bytes_eq name (codes "ranks") then Some kind.Ranks else
     (if bytes_eq name (codes "balance") then Some kind.Balance else
     (if bytes_eq name (codes "filter") then Some kind.Filter else
-    (if bytes_eq name (codes "board") then Some kind.Board else None))))))))))))))))))
+    (if bytes_eq name (codes "board") then Some kind.Board else
+    (if bytes_eq name (codes "burndown") then Some kind.Burndown else None))))))))))))))))))))))
 
 abbrev pub call_members : CallKind → List (List ℕ)
 call_members kind.Create = codes "call" ∷ codes "project" ∷ codes "set" ∷ codes "summary" ∷ codes "type" ∷ codes "user" ∷ []
@@ -101,6 +105,9 @@ call_members kind.SaveFilter = codes "call" ∷ codes "jql" ∷ codes "name" ∷
 call_members kind.DropFilter = codes "call" ∷ codes "filter" ∷ codes "user" ∷ []
 call_members kind.MakeBoard = codes "call" ∷ codes "filter" ∷ codes "name" ∷ codes "user" ∷ []
 call_members kind.DropBoard = codes "board" ∷ codes "call" ∷ codes "user" ∷ []
+call_members kind.MakeSprint = codes "call" ∷ codes "name" ∷ codes "user" ∷ []
+call_members kind.StartSprint = codes "call" ∷ codes "sprint" ∷ codes "user" ∷ []
+call_members kind.CloseSprint = codes "call" ∷ codes "sprint" ∷ codes "user" ∷ []
 call_members kind.Show = codes "call" ∷ codes "issue" ∷ codes "user" ∷ []
 call_members kind.History = codes "call" ∷ codes "count" ∷ codes "from" ∷ codes "issue" ∷ codes "user" ∷ []
 call_members kind.Search = codes "call" ∷ codes "count" ∷ codes "from" ∷ codes "jql" ∷ codes "user" ∷ []
@@ -108,6 +115,7 @@ call_members kind.Ranks = codes "call" ∷ codes "count" ∷ codes "from" ∷ co
 call_members kind.Balance = codes "call" ∷ codes "user" ∷ []
 call_members kind.Filter = codes "call" ∷ codes "count" ∷ codes "filter" ∷ codes "from" ∷ codes "user" ∷ []
 call_members kind.Board = codes "board" ∷ codes "call" ∷ codes "count" ∷ codes "from" ∷ codes "user" ∷ []
+call_members kind.Burndown = codes "call" ∷ codes "count" ∷ codes "from" ∷ codes "sprint" ∷ codes "user" ∷ []
 
 abbrev pub is_member : CallKind → List ℕ → Bool
 is_member kind name = is_among name (call_members kind)
@@ -183,6 +191,21 @@ drop_board_of d members user =
     need (number_at (codes "board") d) (codes "board") (λ board.
     no_other (first_other kind.DropBoard (names_of members)) (Ok (user, DropBoard (record { 0 = board }))))
 
+abbrev pub make_sprint_of : Data → Members → List ℕ → Asked
+make_sprint_of d members user =
+    need (title_at (codes "name") d) (codes "name") (λ name.
+    no_other (first_other kind.MakeSprint (names_of members)) (Ok (user, MakeSprint name)))
+
+abbrev pub start_sprint_of : Data → Members → List ℕ → Asked
+start_sprint_of d members user =
+    need (number_at (codes "sprint") d) (codes "sprint") (λ sprint.
+    no_other (first_other kind.StartSprint (names_of members)) (Ok (user, StartSprint (record { 0 = sprint }))))
+
+abbrev pub close_sprint_of : Data → Members → List ℕ → Asked
+close_sprint_of d members user =
+    need (number_at (codes "sprint") d) (codes "sprint") (λ sprint.
+    no_other (first_other kind.CloseSprint (names_of members)) (Ok (user, CloseSprint (record { 0 = sprint }))))
+
 abbrev pub show_of : Data → Members → List ℕ → Asked
 show_of d members user =
     need (text_at (codes "issue") d) (codes "issue") (λ issue.
@@ -225,6 +248,13 @@ board_of d members user =
     need (count_if_there 1000 d) (codes "count") (λ count.
     no_other (first_other kind.Board (names_of members)) (Ok (user, Board (record { 0 = board }) (record { from = from; count = count }))))))
 
+abbrev pub burndown_of : Data → Members → List ℕ → Asked
+burndown_of d members user =
+    need (number_at (codes "sprint") d) (codes "sprint") (λ sprint.
+    need (from_if_there d) (codes "from") (λ from.
+    need (count_if_there 1000 d) (codes "count") (λ count.
+    no_other (first_other kind.Burndown (names_of members)) (Ok (user, Burndown (record { 0 = sprint }) (record { from = from; count = count }))))))
+
 abbrev pub asked_by : CallKind → Data → Members → List ℕ → Asked
 asked_by kind.Create d members user = create_of d members user
 asked_by kind.Edit d members user = edit_of d members user
@@ -238,6 +268,9 @@ asked_by kind.SaveFilter d members user = save_filter_of d members user
 asked_by kind.DropFilter d members user = drop_filter_of d members user
 asked_by kind.MakeBoard d members user = make_board_of d members user
 asked_by kind.DropBoard d members user = drop_board_of d members user
+asked_by kind.MakeSprint d members user = make_sprint_of d members user
+asked_by kind.StartSprint d members user = start_sprint_of d members user
+asked_by kind.CloseSprint d members user = close_sprint_of d members user
 asked_by kind.Show d members user = show_of d members user
 asked_by kind.History d members user = history_of d members user
 asked_by kind.Search d members user = search_of d members user
@@ -245,6 +278,7 @@ asked_by kind.Ranks d members user = ranks_of d members user
 asked_by kind.Balance d members user = balance_of members user
 asked_by kind.Filter d members user = filter_of d members user
 asked_by kind.Board d members user = board_of d members user
+asked_by kind.Burndown d members user = burndown_of d members user
 
 -- the user and the call, or the first fault in the order of the members
 abbrev pub call_of : Data → Asked

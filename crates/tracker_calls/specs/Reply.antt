@@ -1,6 +1,7 @@
 -- The text of a reply: compact JSON.
-use Rattle.std.specs.Prelude.{ℕ, Bool, List, [], ◌∷◌, ◌++◌, Option, Some, None, codes, decimal, map}
+use Rattle.std.specs.Prelude.{ℕ, ℤ, Bool, List, [], ◌∷◌, ◌++◌, Option, Some, None, codes, decimal, map}
 use Rattle.serde_json.specs.Data.{Data, null, boolean, number, unsigned, string, array, object, item, no_items, Members, member, no_members, put}
+use Rattle.serde_json.specs.Find.{of_integer}
 use Rattle.serde_json.specs.View.{items_of}
 use Rattle.serde_json.specs.Written.{compact_text}
 use Rattle.tracker_calls.specs.declared.reply.Reply.{Reply}
@@ -17,6 +18,9 @@ use Rattle.tracker_calls.specs.declared.reply.BalanceState.{BalanceState}
 use Rattle.tracker_calls.specs.declared.reply.BalanceState.TheVariants as state
 use Rattle.tracker_calls.specs.declared.reply.BalanceKept.{BalanceKept}
 use Rattle.tracker_calls.specs.declared.reply.BalanceKept.TheVariants as kept
+use Rattle.tracker_calls.specs.declared.reply.BurnedRow.{BurnedRow}
+use Rattle.tracker_calls.specs.declared.reply.SprintPhase.{SprintPhase}
+use Rattle.tracker_calls.specs.declared.reply.SprintPhase.TheVariants as phase
 use Rattle.field_values.specs.declared.rules.Permission.{Permission}
 use Rattle.field_values.specs.declared.rules.Permission.TheVariants as permission
 use Rattle.tracker_calls.specs.declared.reply.Refusal.{Refusal}
@@ -42,6 +46,7 @@ limit_name limit.Entries = codes "entries"
 limit_name limit.TextBytes = codes "text_bytes"
 limit_name limit.Filters = codes "filters"
 limit_name limit.Boards = codes "boards"
+limit_name limit.Sprints = codes "sprints"
 
 -- how many are kept at most
 abbrev pub limit_number : Limit → ℕ
@@ -50,6 +55,7 @@ limit_number limit.Entries = 2_000_000
 limit_number limit.TextBytes = 500_000_000
 limit_number limit.Filters = 200
 limit_number limit.Boards = 200
+limit_number limit.Sprints = 1_000
 
 abbrev pub permission_name : Permission → List ℕ
 permission_name permission.Browse = codes "browse"
@@ -60,8 +66,17 @@ permission_name permission.Rank = codes "rank"
 permission_name permission.Plan = codes "plan"
 permission_name permission.Administer = codes "administer"
 
+abbrev pub phase_name : SprintPhase → List ℕ
+phase_name phase.Future = codes "future"
+phase_name phase.Active = codes "active"
+phase_name phase.Closed = codes "closed"
+
 abbrev pub natural : ℕ → Data
 natural n = number (unsigned n)
+
+-- a number that may be below zero
+abbrev pub integer : ℤ → Data
+integer n = number (of_integer n)
 
 abbrev pub natural_or_null : Option ℕ → Data
 natural_or_null None = null
@@ -172,6 +187,30 @@ abbrev pub board_data : List Column → ℕ → Data
 board_data columns total = object
     (member (codes "columns") (array (items_of (map column_data columns))) (member (codes "total") (natural total) no_members))
 
+abbrev pub make_sprint_data : ℕ → Data
+make_sprint_data sprint = object (member (codes "sprint") (natural sprint) no_members)
+
+abbrev pub sprint_phase_data : ℕ → SprintPhase → Data
+sprint_phase_data sprint phase = object
+    (member (codes "sprint") (natural sprint) (member (codes "state") (string (phase_name phase)) no_members))
+
+-- a change of what a sprint has left, in thousandths of points
+abbrev pub burned_data : BurnedRow → Data
+burned_data r = object
+    (member (codes "at") (natural r.at)
+    (member (codes "by") (integer r.by)
+    (member (codes "change") (natural r.change)
+    (member (codes "issue") (string r.issue)
+    (member (codes "left") (integer r.left) no_members)))))
+
+abbrev pub burndown_data : ℤ → List BurnedRow → ℤ → SprintPhase → ℕ → Data
+burndown_data left rows start phase total = object
+    (member (codes "left") (integer left)
+    (member (codes "rows") (array (items_of (map burned_data rows)))
+    (member (codes "start") (integer start)
+    (member (codes "state") (string (phase_name phase))
+    (member (codes "total") (natural total) no_members)))))
+
 abbrev pub answer_data : Answer → Data
 answer_data (answer.Create already change issue) = create_data already change issue
 answer_data (answer.Edit change issue) = edit_data change issue
@@ -191,6 +230,9 @@ answer_data (answer.Filter issues total) = search_data issues total
 answer_data (answer.MakeBoard board) = board_number_data board.0
 answer_data (answer.DropBoard board) = board_number_data board.0
 answer_data (answer.Board columns total) = board_data columns total
+answer_data (answer.MakeSprint sprint) = make_sprint_data sprint.0
+answer_data (answer.SprintPhase sprint phase) = sprint_phase_data sprint.0 phase
+answer_data (answer.Burndown left rows start phase total) = burndown_data left rows start phase total
 
 -- the members under `refused`
 abbrev pub form_data : List ℕ → Data
@@ -216,6 +258,9 @@ query_data kind place = object (member (codes "kind") (natural kind) (member (co
 abbrev pub no_room_data : Option (List ℕ) → Option (List ℕ) → Data
 no_room_data low high = object
     (member (codes "high") (text_or_null high) (member (codes "low") (text_or_null low) (member (codes "no") (natural 8) no_members)))
+
+abbrev pub sprint_is_data : SprintPhase → Data
+sprint_is_data phase = object (member (codes "no") (natural 9) (member (codes "state") (string (phase_name phase)) no_members))
 
 abbrev pub limit_data : Limit → Data
 limit_data l = object (member (codes "limit") (string (limit_name l)) (member (codes "no") (natural 10) (member (codes "number") (natural (limit_number l)) no_members)))
@@ -243,6 +288,7 @@ refusal_data (refusal.Validator index) = index_data 5 index
 refusal_data (refusal.Unfit field) = unfit_data field
 refusal_data (refusal.Query kind place) = query_data kind place
 refusal_data (refusal.NoRoom low high) = no_room_data low high
+refusal_data (refusal.SprintIs phase) = sprint_is_data phase
 refusal_data (refusal.Limit l) = limit_data l
 refusal_data (refusal.Earlier kept) = earlier_data kept
 refusal_data (refusal.BalanceIs balance) = balance_is_data balance

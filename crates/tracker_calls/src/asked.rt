@@ -2,6 +2,7 @@
 ghost use Rattle.tracker_calls.specs.Asked.{UnlessMemory};
 ghost use Rattle.tracker_calls.specs.Taken.{asked_in};
 
+use crate::asked_sprints::{burndown_of, close_sprint_of, make_sprint_of, start_sprint_of};
 use crate::call::{Call, CallKind, MOST_ENTRIES, MOST_LISTED, Part};
 use crate::given::{take_set, take_set_if_there};
 use crate::members::{
@@ -36,6 +37,9 @@ pub fn asked_in(
         CallKind::DropFilter => drop_filter_of(alloc, members),
         CallKind::MakeBoard => make_board_of(alloc, members),
         CallKind::DropBoard => drop_board_of(alloc, members),
+        CallKind::MakeSprint => make_sprint_of(alloc, members),
+        CallKind::StartSprint => start_sprint_of(alloc, members),
+        CallKind::CloseSprint => close_sprint_of(alloc, members),
         CallKind::Show => show_of(alloc, members),
         CallKind::History => history_of(alloc, members),
         CallKind::Search => search_of(alloc, members),
@@ -43,6 +47,7 @@ pub fn asked_in(
         CallKind::Balance => balance_of(alloc, members),
         CallKind::Filter => filter_of(alloc, members),
         CallKind::Board => board_of(alloc, members),
+        CallKind::Burndown => burndown_of(alloc, members),
     }
 }
 

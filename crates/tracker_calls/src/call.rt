@@ -3,7 +3,7 @@ ghost use Rattle.std.specs.Prelude.{◌≡◌, map};
 ghost use Rattle.tracker_calls.specs.Asked.{kind_named, call_members};
 
 use crate::given::GivenFields;
-use field_values::{BoardNo, FilterNo, Moment, Text};
+use field_values::{BoardNo, FilterNo, Moment, SprintNo, Text};
 
 /// What a line asks for.
 pub enum Call {
@@ -78,6 +78,22 @@ pub enum Call {
         board: BoardNo,
     },
 
+    /// There is to be a new sprint of that name.
+    MakeSprint {
+        /// 1 to 100 bytes without control characters.
+        name: Text,
+    },
+
+    /// The sprint is to be active.
+    StartSprint {
+        sprint: SprintNo,
+    },
+
+    /// The sprint is to be closed.
+    CloseSprint {
+        sprint: SprintNo,
+    },
+
     /// The issue's present values.
     Show {
         issue: Text,
@@ -114,6 +130,12 @@ pub enum Call {
         board: BoardNo,
         part: Part,
     },
+
+    /// A part of the changes of what the sprint has left, while it was active.
+    Burndown {
+        sprint: SprintNo,
+        part: Part,
+    },
 }
 
 // Written by hand, so that whoever lets one go makes one call, and its proof takes one step there.
@@ -141,13 +163,17 @@ impl Drop for Call {
             | Call::DropFilter { filter: _ }
             | Call::MakeBoard { name: _, filter: _ }
             | Call::DropBoard { board: _ }
+            | Call::MakeSprint { name: _ }
+            | Call::StartSprint { sprint: _ }
+            | Call::CloseSprint { sprint: _ }
             | Call::Show { issue: _ }
             | Call::History { issue: _, part: _ }
             | Call::Search { jql: _, part: _ }
             | Call::Ranks { part: _ }
             | Call::Balance
             | Call::Filter { filter: _, part: _ }
-            | Call::Board { board: _, part: _ } => {}
+            | Call::Board { board: _, part: _ }
+            | Call::Burndown { sprint: _, part: _ } => {}
         }
     }
 }
@@ -185,6 +211,9 @@ pub enum CallKind {
     DropFilter,
     MakeBoard,
     DropBoard,
+    MakeSprint,
+    StartSprint,
+    CloseSprint,
     Show,
     History,
     Search,
@@ -192,6 +221,7 @@ pub enum CallKind {
     Balance,
     Filter,
     Board,
+    Burndown,
 }
 
 /// The call of that name.
@@ -211,6 +241,9 @@ pub fn kind_named(name: &str) -> Option<CallKind>
         "drop_filter" => Some(CallKind::DropFilter),
         "make_board" => Some(CallKind::MakeBoard),
         "drop_board" => Some(CallKind::DropBoard),
+        "make_sprint" => Some(CallKind::MakeSprint),
+        "start_sprint" => Some(CallKind::StartSprint),
+        "close_sprint" => Some(CallKind::CloseSprint),
         "show" => Some(CallKind::Show),
         "history" => Some(CallKind::History),
         "search" => Some(CallKind::Search),
@@ -218,6 +251,7 @@ pub fn kind_named(name: &str) -> Option<CallKind>
         "balance" => Some(CallKind::Balance),
         "filter" => Some(CallKind::Filter),
         "board" => Some(CallKind::Board),
+        "burndown" => Some(CallKind::Burndown),
         _ => None,
     }
 }
@@ -239,6 +273,9 @@ pub fn call_members(kind: CallKind) -> &'static [&'static str]
         CallKind::DropFilter => &["call", "filter", "user"],
         CallKind::MakeBoard => &["call", "filter", "name", "user"],
         CallKind::DropBoard => &["board", "call", "user"],
+        CallKind::MakeSprint => &["call", "name", "user"],
+        CallKind::StartSprint => &["call", "sprint", "user"],
+        CallKind::CloseSprint => &["call", "sprint", "user"],
         CallKind::Show => &["call", "issue", "user"],
         CallKind::History => &["call", "count", "from", "issue", "user"],
         CallKind::Search => &["call", "count", "from", "jql", "user"],
@@ -246,5 +283,6 @@ pub fn call_members(kind: CallKind) -> &'static [&'static str]
         CallKind::Balance => &["call", "user"],
         CallKind::Filter => &["call", "count", "filter", "from", "user"],
         CallKind::Board => &["board", "call", "count", "from", "user"],
+        CallKind::Burndown => &["call", "count", "from", "sprint", "user"],
     }
 }

@@ -4,7 +4,7 @@ ghost use Rattle.json.specs.Token.{begin_object, end_object, begin_array, end_ar
 ghost use Rattle.json.specs.Print.{print};
 ghost use Rattle.serde_json.specs.Data.{null, string, boolean};
 ghost use Rattle.tracker_calls.specs.Written.{after};
-ghost use Rattle.tracker_calls.specs.Reply.{natural, natural_or_null, text_or_null};
+ghost use Rattle.tracker_calls.specs.Reply.{natural, integer, natural_or_null, text_or_null};
 
 use field_values::{Memory, Text};
 use json::Writer;
@@ -109,6 +109,13 @@ impl JsonText {
         Ok(self.writer.u64(number)?)
     }
 
+    #[tactic(auto, using(crate::proofs::Texts::integer_text))]
+    pub fn integer(&mut self, number: i64) -> Result<(), Memory>
+        ensures { OnOk result (self.new ≡ after (integer number) self.old) }
+    {
+        Ok(self.writer.i64(number)?)
+    }
+
     pub fn number_or_null(&mut self, number: Option<u64>) -> Result<(), Memory>
         ensures { OnOk result (self.new ≡ after (natural_or_null number) self.old) }
     {
@@ -146,5 +153,12 @@ impl JsonText {
     {
         self.key(name)?;
         self.number(number)
+    }
+
+    pub fn integer_member(&mut self, name: &str, number: i64) -> Result<(), Memory>
+        ensures { OnOk result (self.new ≡ after (integer number) (self.old ++ key name.now ∷ [])) }
+    {
+        self.key(name)?;
+        self.integer(number)
     }
 }

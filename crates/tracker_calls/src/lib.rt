@@ -3,6 +3,7 @@
 #![tactic(auto)]
 
 mod asked;
+mod asked_sprints;
 mod call;
 mod filters_json;
 mod given;
@@ -14,6 +15,7 @@ mod ranks_json;
 mod reply;
 mod reply_json;
 mod show_json;
+mod sprints_json;
 mod taken;
 mod user_name;
 
@@ -21,8 +23,9 @@ pub use call::{Call, CallKind, MOST_ENTRIES, MOST_FROM, MOST_LISTED, Part};
 pub use given::{Given, GivenField, GivenFields, has_twins};
 pub use line::read_line;
 pub use reply::{
-    Answer, BalanceKept, BalanceState, Column, Columns, Limit, RankedKey, RankedKeys, Refusal,
-    Reply, Shown, ShownField, ShownFields, Thing, ToldEntries, ToldEntry,
+    Answer, BalanceKept, BalanceState, BurnedRow, BurnedRows, Column, Columns, Limit, RankedKey,
+    RankedKeys, Refusal, Reply, Shown, ShownField, ShownFields, SprintPhase, Thing, ToldEntries,
+    ToldEntry,
 };
 pub use reply_json::{KEEPER_TEXT, MEMORY_TEXT, reply_text};
 pub use request_lines::{

@@ -37,7 +37,7 @@ pub fn text_at<'v>(members: &'v Map<String, Value>, name: &str) -> Option<&'v st
     member(members, name).and_then(Value::as_str)
 }
 
-/// The text of that name, where it has the form of a name of a saved filter or a board.
+/// The text of that name, where it has the form of a name of a saved filter, a board or a sprint.
 pub fn title_at<'v>(members: &'v Map<String, Value>, name: &str) -> Option<&'v str>
     ensures { option_map (λ text. text.now) result ≡ title_at name.now (object_of members.now) }
 {
@@ -45,7 +45,7 @@ pub fn title_at<'v>(members: &'v Map<String, Value>, name: &str) -> Option<&'v s
     if is_title(text) { Some(text) } else { None }
 }
 
-/// The number of a saved filter or a board.
+/// The number of a saved filter, a board or a sprint.
 pub fn number_at(members: &Map<String, Value>, name: &str) -> Option<u32>
     ensures { result ≡ number_at name.now (object_of members.now) }
 {

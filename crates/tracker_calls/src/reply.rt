@@ -1,7 +1,9 @@
 ghost use Rattle.std.specs.Prelude.{◌≡◌, ◌∷◌, ◌++◌, [], OnOk, OnErr};
 ghost use Rattle.tracker_calls.specs.declared.reply.Refusal.TheVariants.{Memory as OutOfMemory};
 
-use field_values::{BoardNo, FilterNo, Memory, Moment, Names, Permission, Sequence, Text};
+use field_values::{
+    BoardNo, FilterNo, Memory, Moment, Names, Permission, Sequence, SprintNo, Text,
+};
 use std::alloc::Global;
 use std::marker::Model;
 
@@ -130,6 +132,27 @@ pub enum Answer {
         columns: Columns,
         total: u64,
     },
+
+    /// The new sprint's number.
+    MakeSprint {
+        sprint: SprintNo,
+    },
+
+    /// How far a sprint is once it was started or closed.
+    SprintPhase {
+        sprint: SprintNo,
+        state: SprintPhase,
+    },
+
+    /// What the sprint has left and what it had when it was started, in thousandths of points; some of the changes of it
+    /// while the sprint was active, and how many there are. Of a sprint that wasn't started `start` is what it has left.
+    Burndown {
+        left: i64,
+        rows: BurnedRows,
+        start: i64,
+        state: SprintPhase,
+        total: u64,
+    },
 }
 
 /// A column of a board: a status, and the keys of issues that have it.
@@ -141,6 +164,31 @@ pub struct Column {
 
 /// The columns that an answer tells.
 pub type Columns = Sequence<Column>;
+
+/// How far a sprint is.
+#[derive(Clone, Copy, PartialEq, Eq)]
+pub enum SprintPhase {
+    Future,
+    Active,
+    Closed,
+}
+
+/// A change group that changed what a sprint has left, in thousandths of points.
+#[derive(Drop)]
+pub struct BurnedRow {
+    pub at: Moment,
+    /// The difference.
+    pub by: i64,
+    /// The change group's number.
+    pub change: u64,
+    /// The issue's key.
+    pub issue: Text,
+    /// What is left after the group.
+    pub left: i64,
+}
+
+/// The rows of a burndown that an answer tells.
+pub type BurnedRows = Sequence<BurnedRow>;
 
 /// An issue's key and its rank.
 #[derive(Drop)]
@@ -298,6 +346,11 @@ pub enum Refusal {
         high: Option<Text>,
     },
 
+    /// Number 9: the sprint is this far, which doesn't let the call through.
+    SprintIs {
+        state: SprintPhase,
+    },
+
     /// Number 10: no more are kept than this limit.
     Limit {
         limit: Limit,
@@ -350,6 +403,7 @@ pub enum Limit {
     /// Saved filters.
     Filters,
     Boards,
+    Sprints,
 }
 
 impl From<Memory> for Refusal {

@@ -1,7 +1,7 @@
 // The text of a reply: compact JSON, the members of each object in byte order of their names.
 ghost use Rattle.std.specs.Prelude.{◌≡◌, IfOk, OnOk};
 ghost use Rattle.tracker_calls.specs.Written.{after};
-ghost use Rattle.tracker_calls.specs.Reply.{reply_text, reply_data, answer_data, create_data, edit_data, tick_data, search_data, refusal_data, form_data, unknown_data, forbidden_data, index_data, permission_name, unfit_data, query_data, limit_data, earlier_data, no_room_data, balance_text, balance_is_data, number_data, thing_name, limit_name, limit_number};
+ghost use Rattle.tracker_calls.specs.Reply.{reply_text, reply_data, answer_data, create_data, edit_data, tick_data, search_data, refusal_data, form_data, unknown_data, forbidden_data, index_data, permission_name, unfit_data, query_data, sprint_is_data, limit_data, earlier_data, no_room_data, balance_text, balance_is_data, number_data, thing_name, limit_name, limit_number};
 
 use crate::filters_json::{
     write_board, write_board_number, write_filter_number, write_save_filter,
@@ -11,8 +11,9 @@ use crate::json_text::JsonText;
 use crate::ranks_json::{
     write_balance, write_move, write_ranks, write_rebalance_start, write_rebalance_step,
 };
-use crate::reply::{Answer, BalanceKept, Limit, Refusal, Reply, Thing};
+use crate::reply::{Answer, BalanceKept, Limit, Refusal, Reply, SprintPhase, Thing};
 use crate::show_json::{write_show, write_texts};
+use crate::sprints_json::{write_burndown, write_make_sprint, write_sprint_phase};
 use field_values::{Memory, Moment, Permission, Text};
 use std::alloc::Global;
 
@@ -84,6 +85,15 @@ fn write_answer(alloc: Global, out: &mut JsonText, answer: &Answer) -> Result<()
         Answer::MakeBoard { board } => write_board_number(out, *board),
         Answer::DropBoard { board } => write_board_number(out, *board),
         Answer::Board { columns, total } => write_board(out, columns.as_slice(), *total),
+        Answer::MakeSprint { sprint } => write_make_sprint(out, *sprint),
+        Answer::SprintPhase { sprint, state } => write_sprint_phase(out, *sprint, *state),
+        Answer::Burndown {
+            left,
+            rows,
+            start,
+            state,
+            total,
+        } => write_burndown(out, *left, rows.as_slice(), *start, *state, *total),
     }
 }
 
@@ -140,6 +150,7 @@ fn write_refusal(alloc: Global, out: &mut JsonText, refusal: &Refusal) -> Result
         Refusal::Unfit { field } => write_unfit(out, field),
         Refusal::Query { kind, place } => write_query(out, *kind, *place),
         Refusal::NoRoom { low, high } => write_no_room(out, low, high),
+        Refusal::SprintIs { state } => write_sprint_is(out, *state),
         Refusal::Limit { limit } => write_limit(out, *limit),
         Refusal::Earlier { kept } => write_earlier(out, *kept),
         Refusal::BalanceIs(balance) => write_balance_is(alloc, out, *balance),
@@ -237,6 +248,15 @@ fn write_no_room(out: &mut JsonText, low: &Option<Text>, high: &Option<Text>) ->
     out.end_object()
 }
 
+fn write_sprint_is(out: &mut JsonText, state: SprintPhase) -> Result<(), Memory>
+    ensures { OnOk result (out.new ≡ after (sprint_is_data state) out.old) }
+{
+    out.begin_object()?;
+    out.number_member("no", 9)?;
+    out.text_member("state", state.name())?;
+    out.end_object()
+}
+
 fn write_limit(out: &mut JsonText, limit: Limit) -> Result<(), Memory>
     ensures { OnOk result (out.new ≡ after (limit_data limit) out.old) }
 {
@@ -315,6 +335,7 @@ impl Limit {
             Limit::TextBytes => "text_bytes",
             Limit::Filters => "filters",
             Limit::Boards => "boards",
+            Limit::Sprints => "sprints",
         }
     }
 
@@ -328,6 +349,7 @@ impl Limit {
             Limit::TextBytes => 500_000_000,
             Limit::Filters => 200,
             Limit::Boards => 200,
+            Limit::Sprints => 1_000,
         }
     }
 }

@@ -1,0 +1,90 @@
+// The JSON of answers about sprints, and the word of how far one is.
+ghost use Rattle.std.specs.Prelude.{◌≡◌, OnOk, map};
+ghost use Rattle.serde_json.specs.View.{items_of};
+ghost use Rattle.tracker_calls.specs.Reply.{make_sprint_data, sprint_phase_data, burned_data, burndown_data, phase_name};
+ghost use Rattle.tracker_calls.specs.Written.{after, after_items};
+
+use crate::json_text::JsonText;
+use crate::reply::{BurnedRow, SprintPhase};
+use field_values::{Memory, SprintNo};
+
+/// Writes a new sprint's number.
+pub fn write_make_sprint(out: &mut JsonText, sprint: SprintNo) -> Result<(), Memory>
+    ensures { OnOk result (out.new ≡ after (make_sprint_data sprint.0) out.old) }
+{
+    out.begin_object()?;
+    out.number_member("sprint", u64::from(sprint.0))?;
+    out.end_object()
+}
+
+/// Writes a sprint's number and how far it is.
+pub fn write_sprint_phase(
+    out: &mut JsonText,
+    sprint: SprintNo,
+    state: SprintPhase,
+) -> Result<(), Memory>
+    ensures { OnOk result (out.new ≡ after (sprint_phase_data sprint.0 state) out.old) }
+{
+    out.begin_object()?;
+    out.number_member("sprint", u64::from(sprint.0))?;
+    out.text_member("state", state.name())?;
+    out.end_object()
+}
+
+/// Writes a part of a burndown.
+pub fn write_burndown(
+    out: &mut JsonText,
+    left: i64,
+    rows: &[BurnedRow],
+    start: i64,
+    state: SprintPhase,
+    total: u64,
+) -> Result<(), Memory>
+    ensures { OnOk result
+        (out.new ≡ after (burndown_data left rows.now start state total) out.old) }
+{
+    out.begin_object()?;
+    out.integer_member("left", left)?;
+    out.key("rows")?;
+    out.begin_array()?;
+    write_items(out, rows)?;
+    out.integer_member("start", start)?;
+    out.text_member("state", state.name())?;
+    out.number_member("total", total)?;
+    out.end_object()
+}
+
+// The items and the closing bracket.
+fn write_items(out: &mut JsonText, rows: &[BurnedRow]) -> Result<(), Memory>
+    ensures { OnOk result (out.new ≡ after_items (items_of (map burned_data rows.now)) out.old) }
+{
+    for row in rows {
+        write_row(out, row)?;
+    }
+    out.end_array()
+}
+
+fn write_row(out: &mut JsonText, row: &BurnedRow) -> Result<(), Memory>
+    ensures { OnOk result (out.new ≡ after (burned_data row.now) out.old) }
+{
+    out.begin_object()?;
+    out.number_member("at", row.at.seconds())?;
+    out.integer_member("by", row.by)?;
+    out.number_member("change", row.change)?;
+    out.text_member("issue", row.issue.as_str())?;
+    out.integer_member("left", row.left)?;
+    out.end_object()
+}
+
+impl SprintPhase {
+    /// The word by which replies tell it.
+    pub fn name(self) -> &'static str
+        ensures { result.now ≡ phase_name self }
+    {
+        match self {
+            SprintPhase::Future => "future",
+            SprintPhase::Active => "active",
+            SprintPhase::Closed => "closed",
+        }
+    }
+}
