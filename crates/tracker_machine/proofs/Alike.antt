@@ -10,7 +10,7 @@ use Rattle.tracker_calls.specs.declared.reply.Refusal.{Refusal}
 use Rattle.tracker_calls.specs.declared.reply.Reply.TheVariants as reply
 use Rattle.tracker_machine.specs.Machine.{Machine}
 use Rattle.tracker_machine.specs.Effect.{Effect, applied}
-use Rattle.tracker_machine.specs.Effect.Effect.{NewMoment, NewIssue, NewGroup, NewRank, NewBalance, NewRanks, NewFilter, NoFilter, NewBoard, NoBoard}
+use Rattle.tracker_machine.specs.Effect.Effect.{NewMoment, NewIssue, NewGroup, NewRank, NewBalance, NewRanks, NewSprint, NewState, NewFilter, NoFilter, NewBoard, NoBoard}
 use Rattle.tracker_machine.specs.Meaning.{Meaning, unless, reply_to, next_after}
 use Rattle.tracker_machine.specs.Meaning.Meaning.{Refuses, Tells, Finds, Makes}
 use Rattle.tracker_machine.specs.Rank.{with_given}
@@ -43,6 +43,8 @@ module _ (m : Machine) (order : List Pair) (balance : Balance) (same : issues_in
   effect_alike a (NewRank issue rank) plain = absurd plain
   effect_alike a (NewBalance other) plain = absurd plain
   effect_alike a (NewRanks moves) plain = absurd plain
+  effect_alike a (NewSprint name) plain = record { replies = refl; next_order = order; next_balance = balance; next = refl; issues = same }
+  effect_alike a (NewState sprint state) plain = record { replies = refl; next_order = order; next_balance = balance; next = refl; issues = same }
   effect_alike a (NewFilter f) plain = record { replies = refl; next_order = order; next_balance = balance; next = refl; issues = same }
   effect_alike a (NoFilter filter_no) plain = record { replies = refl; next_order = order; next_balance = balance; next = refl; issues = same }
   effect_alike a (NewBoard b) plain = record { replies = refl; next_order = order; next_balance = balance; next = refl; issues = same }

@@ -53,11 +53,11 @@ use Rattle.tracker_machine.specs.Boards.{by_rank, board_issues, board_numbered, 
 use Rattle.tracker_machine.specs.Checks.{caller_refusal}
 use Rattle.tracker_machine.specs.Step.{meaning, meaning_for, form_refusal, user_of}
 use Rattle.tracker_machine.specs.RankLaws.{MovesOneIssue, rebalances, without_ranks}
-use Rattle.tracker_machine.proofs.Plain.{IsPlain, edit_plain, transition_plain, tick_plain, show_plain, history_plain, save_filter_plain, drop_filter_plain, make_board_plain, drop_board_plain}
+use Rattle.tracker_machine.proofs.Plain.{IsPlain, edit_plain, transition_plain, tick_plain, show_plain, history_plain, save_filter_plain, drop_filter_plain, make_board_plain, drop_board_plain, make_sprint_plain, start_sprint_plain, close_sprint_plain, burndown_plain}
 use Rattle.tracker_machine.proofs.Placed.{apart, are_numbered}
 use Rattle.tracker_machine.proofs.MovedIssue.{moves_are_of_one_issue}
 use Rattle.tracker_machine.proofs.Alike.{reranked, GoesAlike, AreAlike, plain_alike, tells_alike, unless_alike, given_alike}
-use Rattle.tracker_machine.proofs.SameMeaning.{edit_same, transition_same, show_same, history_same, move_refusal_same, save_filter_same, drop_filter_same, make_board_same, drop_board_same}
+use Rattle.tracker_machine.proofs.SameMeaning.{edit_same, transition_same, show_same, history_same, move_refusal_same, save_filter_same, drop_filter_same, make_board_same, drop_board_same, make_sprint_same, start_sprint_same, close_sprint_same, burndown_same}
 
 -- whichever of two meanings it is, the reply is that of either
 ranked_reply : (m : Machine) (name : List ℕ) (issue : IssueNo) (rank : RankParts) → reply_to (newly_ranked m name issue rank) ≡ reply.Ok (move_answer name rank)
@@ -234,6 +234,10 @@ module _ (m : Machine) (order : List Pair) (balance : Balance) (has : HasRanks m
       same_alike _ _ (make_board_same m order balance user name filter_no) (make_board_plain m user name filter_no)
   call_alike user (call.DropBoard board_no) form other = same_alike _ _ (drop_board_same m order balance user board_no) (drop_board_plain m user board_no)
   call_alike user (call.Board board_no part) form other = board_alike user board_no part
+  call_alike user (call.MakeSprint name) form other = same_alike _ _ (make_sprint_same m order balance user name) (make_sprint_plain m user name)
+  call_alike user (call.StartSprint sprint) form other = same_alike _ _ (start_sprint_same m order balance user sprint) (start_sprint_plain m user sprint)
+  call_alike user (call.CloseSprint sprint) form other = same_alike _ _ (close_sprint_same m order balance user sprint) (close_sprint_plain m user sprint)
+  call_alike user (call.Burndown sprint part) form other = same_alike _ _ (burndown_same m order balance user sprint part) (burndown_plain m user sprint part)
 
   pub meaning_alike : (caller : List ℕ) (c : Call) → rebalances c ≡ false → Alike (meaning m caller c) (meaning new caller c)
   unfolding meaning

@@ -11,6 +11,7 @@ use Rattle.std.proofs.lemmas.Option.{same_Some, none-some}
 use Rattle.rising_numbers.specs.ByNumber.{by_number}
 use Rattle.rising_numbers.proofs.ByNumber.{above}
 use Rattle.field_values.specs.declared.numbers.FieldNo.{FieldNo}
+use Rattle.field_values.specs.declared.numbers.SprintNo.{SprintNo}
 use Rattle.field_values.specs.declared.numbers.UserNo.{UserNo}
 use Rattle.field_values.specs.declared.value.Value.{Value}
 use Rattle.field_values.specs.declared.value.Value.TheVariants as value
@@ -23,23 +24,30 @@ use Rattle.change_history.specs.declared.change.Change.{Change}
 use Rattle.change_history.specs.declared.entry.Entry.{Entry}
 use Rattle.change_history.specs.declared.entry.Group.{Group}
 use Rattle.change_history.specs.History.{History, MayAdd, opening_value, put_value, AreChanges, AreInOrder, FollowEachOther}
+use Rattle.sprints.specs.declared.sprint.Sprint.{Sprint}
+use Rattle.sprints.specs.declared.state.SprintState.{SprintState}
+use Rattle.sprints.specs.declared.state.SprintState.TheVariants.{Future, Active, Closed}
+use Rattle.sprints.specs.Sprint.{IsThere, future, sprint_of}
 use Rattle.board.specs.declared.board.Board.{Board}
 use Rattle.tracker_ranks.proofs.Keeping.{new_issues_go_last}
 use Rattle.tracker_keeper.specs.declared.part.Part.{Part}
-use Rattle.tracker_keeper.specs.Forms.{IsNumber, is_small, is_filled, may_hold, are_among, are_opening, IsIssueKey, IsGroupEntry}
+use Rattle.tracker_keeper.specs.Forms.{IsNumber, is_small, is_filled, may_hold, are_among, are_opening, IsIssueKey, IsGroupEntry, IsStamp, HasStamps}
 use Rattle.tracker_keeper.specs.Kept.{part_keys, IsSetupText, IsPart, IsPartAt}
 use Rattle.tracker_machine.specs.Machine.{Machine, opening}
 use Rattle.jql_meaning.specs.Comparison.{project_of}
 use Rattle.tracker_machine.specs.Known.{project_keys, issues_of}
 use Rattle.tracker_machine.specs.Chronicle.{HasEntry}
 use Rattle.tracker_machine.specs.Tracker.{Holds, AllEntriesHold, AllEntriesFit, AllSmall, AreByUsers, IsSettled, RunsFrom, IsNextKey, AreKeyed, IsTracker, MayOpen, MayGroup}
+use Rattle.tracker_machine.specs.SprintRules.{IsTimely, IsSprint}
 use Rattle.tracker_machine.specs.Saved.{SavedFilter, filter_number, board_number, IsFilter, IsBoard}
-use Rattle.tracker_machine.specs.Effect.{Effect, applied, IsAllowed, with_issue, longer, with_group, with_new_rank, with_balance, with_moves}
-use Rattle.tracker_machine.specs.Effect.Effect.{NewMoment, NewIssue, NewGroup, NewRank, NewBalance, NewRanks, NewFilter, NoFilter, NewBoard, NoBoard}
-use Rattle.tracker_machine.specs.Kept.{Kind, lone, part_in, kinds, filter_part, board_part, setup_part, present_part, issue_part, group_part, rank_part, issue_numbered, entries_of_change, group_of, issue_group, group_numbered, part_at, group_parts, rank_parts, parts_of, opening_parts}
+use Rattle.tracker_machine.specs.Effect.{Effect, applied, IsAllowed, with_issue, longer, with_group, with_new_rank, with_balance, with_moves, with_sprint, with_state}
+use Rattle.tracker_machine.specs.Effect.Effect.{NewMoment, NewIssue, NewGroup, NewRank, NewBalance, NewRanks, NewSprint, NewState, NewFilter, NoFilter, NewBoard, NoBoard}
+use Rattle.tracker_machine.specs.Kept.{Kind, lone, part_in, kinds, sprint_part, filter_part, board_part, setup_part, present_part, issue_part, group_part, rank_part, issue_numbered, entries_of_change, group_of, issue_group, group_numbered, sprint_numbered, part_at, group_parts, rank_parts, state_parts, parts_of, opening_parts}
 use Rattle.tracker_machine.proofs.Chronicle.{few_groups}
-use Rattle.tracker_machine.proofs.Puts.{saved_kinds, other_kinds}
+use Rattle.tracker_machine.proofs.Puts.{saved_kinds, planned_kinds, other_kinds}
 use Rattle.tracker_machine.proofs.Saved.{all_found, found_number, found_there}
+use Rattle.tracker_machine.proofs.SprintRules.{sprint_there, found_is_there, turned_there, sprint_is}
+use Rattle.tracker_machine.proofs.SprintRows.{last_sprint, sprint_put}
 use Rattle.tracker_machine.proofs.Settled.{at_place, from_found, settled_at}
 use Rattle.tracker_machine.proofs.Tracker.{tracker_opening, tracker_applied}
 use Rattle.tracker_machine.proofs.Kept.{issue_found, group_found, next_is_none}
@@ -347,6 +355,44 @@ lone_kept setup kind n own p kept is = by (n == 0) refl is
     by true first same = subst (λ i. IsPartAt setup kind i p) (sym (eqb-true n 0 first)) (subst (IsPartAt setup kind 0) (same_Some own p same) kept)
     by false other same = absurd (none-some p same)
 
+-- a moment that isn't later than now, and a number that isn't above the last one, are a stamp
+stamp_kept : (m : Machine) (at change : ℕ) → IsTracker m → at ≤ m.moment → change ≤ m.change → IsStamp at change
+stamp_kept m at change is timely earlier = record { timely = omega (arith, timely, is.timely); counted = omega (arith, earlier, few_changes m is) }
+
+stamps_kept : (m : Machine) (state : SprintState) → IsTracker m → IsTimely m.moment m.change state → HasStamps state
+stamps_kept m Future is timely = tt
+stamps_kept m (Active at change) is timely = stamp_kept m at change is timely.0 timely.1
+stamps_kept m (Closed start_at start_change at change) is timely = (
+  stamp_kept m start_at start_change is (omega (arith, timely.0, timely.2)) (omega (arith, timely.1, timely.3)),
+  stamp_kept m at change is timely.2 timely.3,
+)
+
+sprint_kept : (m : Machine) (sprint : SprintNo) (s : Sprint) → IsTracker m → IsThere m.sprints sprint.0 → IsSprint m.moment m.change s → IsPart m.setup (sprint_part sprint s)
+unfolding IsPart
+sprint_kept m sprint s is there own =
+    record { numbered = (there.0, omega (arith, there.1, is.sprints.few)); named = own.named; stamped = stamps_kept m s.state is own.timely }
+
+sprint_part_kept : (m : Machine) (n : ℕ) (p : Part) → IsTracker m → sprint_numbered m.sprints n ≡ Some p → IsPartAt m.setup 7 n p
+sprint_part_kept m n p is p_is = by_found (sprint_of m.sprints n) refl p_is where
+  by_found : (o : Option Sprint) → sprint_of m.sprints n ≡ o → option_map (sprint_part (record { 0 = n })) o ≡ Some p → IsPartAt m.setup 7 n p
+  by_found None found more = absurd (none-some p more)
+  by_found (Some s) found more =
+      let there = found_is_there m.sprints n s found in
+      let own = sprint_is m.moment m.change m.sprints m.histories is.sprints n s there.1 in
+      let kept = sprint_kept m (record { 0 = n }) s is there.0 own in
+      subst (IsPartAt m.setup 7 n) (same_Some (sprint_part (record { 0 = n }) s) p more) (record { is_part = kept; kind_is = refl; number_is = refl })
+
+-- a sprint that comes to another state
+state_kept : (m : Machine) (sprint : SprintNo) (state : SprintState) (s : Sprint) → IsTracker m → IsTracker (with_state m sprint state) → IsThere m.sprints sprint.0
+    → sprint_of m.sprints sprint.0 ≡ Some s → All (IsPart m.setup) (state_parts m.sprints sprint state)
+state_kept m sprint state s is next there at =
+    let new : Sprint = record s { state = state } in
+    let turned = turned_there m.sprints sprint.0 s state at in
+    let own = sprint_part_kept (with_state m sprint state) sprint.0 (sprint_part sprint new) next
+    (subst (λ ss. sprint_numbered ss sprint.0 ≡ Some (sprint_part sprint new)) (sym turned) (ap (option_map (sprint_part sprint)) (sprint_put m.sprints sprint.0 new there))) in
+    subst (λ o. All (IsPart m.setup) (option_map_or (λ x. sprint_part sprint (record x { state = state }) ∷ []) o [])) (sym at)
+    (All-cons (IsPart m.setup) (sprint_part sprint new) [] own.is_part (All-nil (IsPart m.setup)))
+
 filter_kept : (setup : Parts) (f : SavedFilter) → 1 ≤ f.no.0 → IsFilter setup f → IsPart setup (filter_part f)
 unfolding IsPart
 filter_kept setup f positive is =
@@ -397,7 +443,8 @@ pub part_kept : (m : Machine) (k n : ℕ) (p : Part) → IsSetupText m.text → 
 unfolding part_at
 part_kept m k n p read is p_is =
     let saved : AreKept m.setup n p (saved_kinds m) = (filter_part_kept m n p is, (board_part_kept m n p is, tt)) in
-    let others : AreKept m.setup n p (other_kinds m) = (issue_part_kept m n p is, (group_part_kept m n p is, (rank_part_kept m n p is, saved))) in
+    let planned : AreKept m.setup n p (planned_kinds m) = (sprint_part_kept m n p is, saved) in
+    let others : AreKept m.setup n p (other_kinds m) = (issue_part_kept m n p is, (group_part_kept m n p is, (rank_part_kept m n p is, planned))) in
     found_kept m.setup k n p (kinds m)
     (lone_kept m.setup 1 n (setup_part m) p (setup_kept m read), (lone_kept m.setup 2 n (present_part m) p (present_kept m is), others)) p_is
 
@@ -459,6 +506,14 @@ parts_kept (NewRanks moves) m may is =
     let now = present_kept (with_moves m moves) (tracker_applied (NewRanks moves) m may is) in
     All-cons (IsPart m.setup) (present_part (with_moves m moves)) (rank_parts moves) now.is_part
     (ranks_kept m moves is (moves_are_numbered m.order m.balance moves is.ranked may.0 may.1))
+parts_kept (NewSprint name) m may is =
+    let number : SprintNo = record { 0 = length m.sprints + 1 } in
+    let next : IsTracker (with_sprint m name) = tracker_applied (NewSprint name) m may is in
+    let own = sprint_part_kept (with_sprint m name) number.0 (sprint_part number (future name)) next (ap (option_map (sprint_part number)) (last_sprint m.sprints (future name))) in
+    one_part m.setup (sprint_part number (future name)) own.is_part
+parts_kept (NewState sprint state) m may is =
+    let found = sprint_there m.sprints sprint.0 may.there in
+    state_kept m sprint state found.0 is (tracker_applied (NewState sprint state) m may is) may.there found.2
 parts_kept (NewFilter f) m may is = one_part m.setup (filter_part f) (filter_kept m.setup f may.positive may.filter)
 parts_kept (NoFilter filter_no) m may is = All-nil (IsPart m.setup)
 parts_kept (NewBoard b) m may is = one_part m.setup (board_part b) (board_kept m b is may.positive may.board)

@@ -1,5 +1,5 @@
 -- An effect's operations keep what the effect does.
-use Rattle.std.proofs.Common.{◌≡◌, ℕ, zero, suc, ◌+◌, ◌<◌, ◌≤◌, ◌^◌, ◌==◌, ◌&&◌, ◌≢◌, Bool, true, false, List, [], ◌∷◌, ◌++◌, length, slice_get, set, map, filter, Option, Some, None, option_map, refl, sym, ap, ◌∙◌, subst, arith, inl, inr, append-nil, eq-eqb}
+use Rattle.std.proofs.Common.{◌≡◌, ℕ, zero, suc, ◌+◌, ◌-◌, ◌<◌, ◌≤◌, ◌^◌, ◌==◌, ◌&&◌, ◌≢◌, Bool, true, false, List, [], ◌∷◌, ◌++◌, length, slice_get, set, map, filter, Option, Some, None, option_map, refl, sym, ap, ◌∙◌, subst, arith, inl, inr, append-nil, eq-eqb}
 use Rattle.std.specs.Prelude.{if◌then◌else◌}
 use Rattle.std.specs.List.{All, find}
 use Rattle.std.specs.Option.{option_or, option_map_or}
@@ -11,6 +11,7 @@ use Rattle.rising_numbers.specs.ByNumber.{by_number, put_by_number, without_numb
 use Rattle.field_values.specs.declared.numbers.BoardNo.{BoardNo}
 use Rattle.field_values.specs.declared.numbers.FieldNo.{FieldNo}
 use Rattle.field_values.specs.declared.numbers.FilterNo.{FilterNo}
+use Rattle.field_values.specs.declared.numbers.SprintNo.{SprintNo}
 use Rattle.field_values.specs.declared.numbers.UserNo.{UserNo}
 use Rattle.field_values.specs.declared.value.Value.{Value}
 use Rattle.field_values.specs.Parts.{Parts}
@@ -20,6 +21,9 @@ use Rattle.change_history.specs.declared.entry.Group.{Group}
 use Rattle.change_history.specs.History.{History, present, AreGroupEntries, MayAdd}
 use Rattle.field_forms.specs.Known.{Names}
 use Rattle.board.specs.declared.board.Board.{Board}
+use Rattle.sprints.specs.declared.sprint.Sprint.{Sprint}
+use Rattle.sprints.specs.declared.state.SprintState.{SprintState}
+use Rattle.sprints.specs.Sprint.{IsThere, future, sprint_of}
 use Rattle.rank_strings.specs.Rank.{RankParts}
 use Rattle.rank_balancer.specs.Step.{Move}
 use Rattle.tracker_ranks.specs.Ranked.{IsNext, with_last}
@@ -31,14 +35,17 @@ use Rattle.tracker_machine.specs.Machine.{Machine, opening}
 use Rattle.tracker_machine.specs.Chronicle.{HasEntry}
 use Rattle.tracker_machine.specs.Tracker.{RunsFrom, IsTracker, MayOpen, MayGroup}
 use Rattle.tracker_machine.specs.Saved.{SavedFilter, filter_number, board_number, is_board_of, IsFilter, IsBoard}
-use Rattle.tracker_machine.specs.Effect.{Effect, applied, IsAllowed, with_issue, longer, with_group, without_filter, without_board}
-use Rattle.tracker_machine.specs.Effect.Effect.{NewMoment, NewIssue, NewGroup, NewRank, NewBalance, NewRanks, NewFilter, NoFilter, NewBoard, NoBoard}
-use Rattle.tracker_machine.specs.Kept.{Kind, kind_of, lone, part_in, filter_part, board_part, board_drops, drops_of, setup_part, present_part, issue_part, group_part, rank_part, issue_numbered, entries_of_change, group_of, issue_group, group_numbered, rank_numbered, part_at, rows_of, put_parts, group_parts, rank_parts, parts_of, ops_of, opening_parts, opening_ops}
-use Rattle.tracker_machine.proofs.Puts.{with_at, with_parts, texts, parts_put, part_dropped, part_set, lone_new, lone_kind, issue_kind, group_kind, rank_kind, filter_kind, board_kind, kinds_before, saved_kinds, other_kinds, present_set}
+use Rattle.tracker_machine.specs.SprintRules.{with_future}
+use Rattle.tracker_machine.specs.Effect.{Effect, applied, IsAllowed, with_issue, longer, with_group, with_state, without_filter, without_board}
+use Rattle.tracker_machine.specs.Effect.Effect.{NewMoment, NewIssue, NewGroup, NewRank, NewBalance, NewRanks, NewSprint, NewState, NewFilter, NoFilter, NewBoard, NoBoard}
+use Rattle.tracker_machine.specs.Kept.{Kind, kind_of, lone, part_in, sprint_part, filter_part, board_part, board_drops, drops_of, setup_part, present_part, issue_part, group_part, rank_part, issue_numbered, entries_of_change, group_of, issue_group, group_numbered, rank_numbered, sprint_numbered, part_at, rows_of, put_parts, group_parts, rank_parts, state_parts, parts_of, ops_of, opening_parts, opening_ops}
+use Rattle.tracker_machine.proofs.Puts.{with_at, with_parts, texts, parts_put, part_dropped, part_set, lone_new, lone_kind, issue_kind, group_kind, rank_kind, sprint_kind, filter_kind, board_kind, ranked_kinds, kinds_before, saved_kinds, planned_kinds, other_kinds, present_set}
 use Rattle.tracker_machine.proofs.Ranks.{IsNumbered, moves_are_numbered}
 use Rattle.tracker_machine.proofs.RankRows.{rank_added, rank_applied, balance_applied, moves_applied}
 use Rattle.tracker_machine.proofs.Saved.{all_found, all_filter, found_there}
 use Rattle.tracker_machine.proofs.SavedRows.{part_put, part_without, boards_dropped, others_left}
+use Rattle.tracker_machine.proofs.SprintRules.{sprint_there}
+use Rattle.tracker_machine.proofs.SprintRows.{sprint_added, sprint_changed, no_sprint_numbered}
 use Rattle.tracker_machine.proofs.Settled.{at_place, from_found}
 use Rattle.tracker_machine.proofs.Chronicle.{few_groups}
 
@@ -171,9 +178,9 @@ group_applied m place g h is may at k n =
     let now : Part = present_part (with_group m place g) in
     let later : List History = set m.histories place (longer h g.entries) in
     rw at
-    (ap (λ (o : Option Part). part_in (lone_kind 1 setup ∷ lone_kind 2 now ∷ kind_of 3 (λ i. o) ∷ group_kind later ∷ rank_kind m.order ∷ saved_kinds m) k n)
+    (ap (λ (o : Option Part). part_in (lone_kind 1 setup ∷ lone_kind 2 now ∷ kind_of 3 (λ i. o) ∷ group_kind later ∷ rank_kind m.order ∷ planned_kinds m) k n)
     (issue_stays m.histories place h g.entries n at)
-    ∙ (part_set (lone_kind 1 setup ∷ lone_kind 2 now ∷ issue_kind m.histories ∷ []) (rank_kind m.order ∷ saved_kinds m) 4 g.change
+    ∙ (part_set (lone_kind 1 setup ∷ lone_kind 2 now ∷ issue_kind m.histories ∷ []) (rank_kind m.order ∷ planned_kinds m) 4 g.change
     (group_numbered m.histories) (group_numbered later) (Some (group_part h g)) k n refl (groups_found m.histories place h g n at (next_is_none m g.change is may.change) added)
     ∙ ap (λ (o : Option Part). if (4 == k) && (g.change == n) then Some (group_part h g) else o) (present_set setup (present_part m) now (other_kinds m) k n)))
 
@@ -185,16 +192,26 @@ issue_applied m h rank is may next k n =
     let setup : Part = setup_part m in
     let now : Part = present_part (with_issue m h rank) in
     let later : List History = m.histories ++ h ∷ [] in
-    part_set (lone_kind 1 setup ∷ lone_kind 2 now ∷ issue_kind later ∷ group_kind later ∷ []) (saved_kinds m) 5 h.no.0
+    part_set (lone_kind 1 setup ∷ lone_kind 2 now ∷ issue_kind later ∷ group_kind later ∷ []) (planned_kinds m) 5 h.no.0
     (rank_numbered m.order) (rank_numbered (with_last m.order h.no rank)) (Some (rank_part h.no rank)) k n refl (rank_added m.order m.balance h.no rank n is.ranked next)
     ∙ ap (λ (o : Option Part). if (5 == k) && (h.no.0 == n) then Some (rank_part h.no rank) else o)
-    (part_set (lone_kind 1 setup ∷ lone_kind 2 now ∷ []) (group_kind later ∷ rank_kind m.order ∷ saved_kinds m) 3 h.no.0
+    (part_set (lone_kind 1 setup ∷ lone_kind 2 now ∷ []) (group_kind later ∷ rank_kind m.order ∷ planned_kinds m) 3 h.no.0
     (λ i. option_map issue_part (issue_numbered m.histories i)) (λ i. option_map issue_part (issue_numbered later i)) (Some (issue_part h)) k n refl
     (issue_found m.histories h n is.numbers may.no)
     ∙ ap (λ (o : Option Part). if (3 == k) && (h.no.0 == n) then Some (issue_part h) else o)
-    (ap (λ (o : Option Part). part_in (lone_kind 1 setup ∷ lone_kind 2 now ∷ issue_kind m.histories ∷ kind_of 4 (λ i. o) ∷ rank_kind m.order ∷ saved_kinds m) k n)
+    (ap (λ (o : Option Part). part_in (lone_kind 1 setup ∷ lone_kind 2 now ∷ issue_kind m.histories ∷ kind_of 4 (λ i. o) ∷ rank_kind m.order ∷ planned_kinds m) k n)
     (no_group_more m.histories h n may.entries)
     ∙ present_set setup (present_part m) now (other_kinds m) k n))
+
+-- the parts after a sprint that is there comes to another state
+state_applied : (m : Machine) (sprint : SprintNo) (state : SprintState) (s : Sprint) → IsThere m.sprints sprint.0 → sprint_of m.sprints sprint.0 ≡ Some s → (k n : ℕ)
+    → part_at (with_state m sprint state) k n ≡ with_parts (state_parts m.sprints sprint state) (part_at m) k n
+unfolding part_at
+state_applied m sprint state s there at k n =
+    let new : Sprint = record s { state = state } in
+    rw at
+    (part_set (ranked_kinds m) (saved_kinds m) 7 sprint.0 (sprint_numbered m.sprints) (sprint_numbered (set m.sprints (sprint.0 - 1) new)) (Some (sprint_part sprint new)) k n refl
+    (sprint_changed m.sprints sprint new n there))
 
 -- the parts of filters and of boards
 abbrev filter_parts : List SavedFilter → ℕ → Option Part
@@ -219,6 +236,12 @@ parts_applied (NewGroup place g) m may is puts k n =
 parts_applied (NewRank issue rank) m may is puts k n = rank_applied m issue rank k n
 parts_applied (NewBalance balance) m may is puts k n = balance_applied m balance k n
 parts_applied (NewRanks moves) m may is puts k n = ap (λ (parts : ℕ → ℕ → Option Part). parts k n) (moves_applied m moves)
+parts_applied (NewSprint name) m may is puts k n =
+    let number : SprintNo = record { 0 = length m.sprints + 1 } in
+    part_set (ranked_kinds m) (saved_kinds m) 7 number.0 (sprint_numbered m.sprints) (sprint_numbered (with_future m.sprints name)) (Some (sprint_part number (future name))) k n refl
+    (sprint_added m.sprints (future name) n)
+parts_applied (NewState sprint state) m may is puts k n =
+    let found = sprint_there m.sprints sprint.0 may.there in state_applied m sprint state found.0 may.there found.2 k n
 parts_applied (NewFilter f) m may is puts k n =
     part_set (kinds_before m) (board_kind m.boards ∷ []) 8 f.no.0 (filter_parts m.filters) (filter_parts (put_by_number filter_number f m.filters)) (Some (filter_part f)) k n refl
     (part_put filter_number filter_part f m.filters n)
@@ -236,6 +259,8 @@ setup_stays (NewGroup place g) m = refl
 setup_stays (NewRank issue rank) m = refl
 setup_stays (NewBalance balance) m = refl
 setup_stays (NewRanks moves) m = refl
+setup_stays (NewSprint name) m = refl
+setup_stays (NewState sprint state) m = refl
 setup_stays (NewFilter f) m = refl
 setup_stays (NoFilter filter_no) m = refl
 setup_stays (NewBoard b) m = refl
@@ -292,6 +317,8 @@ rows_applied (NewGroup place g) m may is = rows_put (NewGroup place g) m may is 
 rows_applied (NewRank issue rank) m may is = rows_put (NewRank issue rank) m may is tt
 rows_applied (NewBalance balance) m may is = rows_put (NewBalance balance) m may is tt
 rows_applied (NewRanks moves) m may is = rows_put (NewRanks moves) m may is tt
+rows_applied (NewSprint name) m may is = rows_put (NewSprint name) m may is tt
+rows_applied (NewState sprint state) m may is = rows_put (NewState sprint state) m may is tt
 rows_applied (NewFilter f) m may is = rows_put (NewFilter f) m may is tt
 rows_applied (NoFilter filter_no) m may is = filter_rows m filter_no is
 rows_applied (NewBoard b) m may is = rows_put (NewBoard b) m may is tt
@@ -321,12 +348,12 @@ unfolding part_at
 opening_are text setup k n =
     let first : Part = setup_part (opening text setup) in
     let now : Part = present_part (opening text setup) in
-    let others : List Kind = issue_kind [] ∷ group_kind [] ∷ rank_kind [] ∷ filter_kind [] ∷ board_kind [] ∷ [] in
+    let others : List Kind = issue_kind [] ∷ group_kind [] ∷ rank_kind [] ∷ sprint_kind [] ∷ filter_kind [] ∷ board_kind [] ∷ [] in
     part_set (lone_kind 1 first ∷ []) others 2 0 no_parts (lone now) (Some now) k n refl (lone_new now n)
     ∙ ap (λ (o : Option Part). if (2 == k) && (0 == n) then Some now else o)
     (part_set [] (kind_of 2 no_parts ∷ others) 1 0 no_parts (lone first) (Some first) k n refl (lone_new first n)
     ∙ ap (λ (o : Option Part). if (1 == k) && (0 == n) then Some first else o)
-    (none_in (kind_of 1 no_parts ∷ kind_of 2 no_parts ∷ others) k n (refl, (refl, (refl, (refl, (refl, (refl, (refl, tt)))))))))
+    (none_in (kind_of 1 no_parts ∷ kind_of 2 no_parts ∷ others) k n (refl, (refl, (refl, (refl, (refl, (no_sprint_numbered n, (refl, (refl, tt))))))))))
 
 -- the rows of a new tracker are its setup's and its moment's
 pub rows_opening : (text : List ℕ) (setup : Parts) → with_ops (opening_ops (opening text setup)) no_rows ≡ rows_of (opening text setup)
@@ -362,6 +389,13 @@ rank_ops setup count (move ∷ moves) few numbered =
     let here = All-head (IsNumbered count) move moves numbered in
     All-cons IsSmallOp _ _ (omega (arith, here.0, few)) (rank_ops setup count moves few (All-tail (IsNumbered count) move moves numbered))
 
+-- a sprint in another state
+state_ops : (m : Machine) (sprint : SprintNo) (state : SprintState) (s : Sprint) → IsTracker m → IsThere m.sprints sprint.0 → sprint_of m.sprints sprint.0 ≡ Some s
+    → All IsSmallOp (put_parts m.setup (state_parts m.sprints sprint state))
+state_ops m sprint state s is there at =
+    subst (λ o. All IsSmallOp (put_parts m.setup (option_map_or (λ x. sprint_part sprint (record x { state = state }) ∷ []) o []))) (sym at)
+    (one_op _ (omega (arith, there.1, is.sprints.few)))
+
 -- what is there has its number
 filter_there : (m : Machine) (filter_no : FilterNo) → by_number filter_number filter_no.0 m.filters ≢ None
     → (f : SavedFilter) × (f.no.0 ≡ filter_no.0) × (by_number filter_number filter_no.0 m.filters ≡ Some f)
@@ -389,6 +423,9 @@ ops_small (NewBalance balance) m may is = one_op _ (omega arith)
 ops_small (NewRanks moves) m may is =
     All-cons IsSmallOp _ _ (omega arith)
     (rank_ops m.setup (length m.order) moves (omega (arith, is.each, is.few_issues)) (moves_are_numbered m.order m.balance moves is.ranked may.0 may.1))
+ops_small (NewSprint name) m may is = one_op _ (omega (arith, may.few))
+ops_small (NewState sprint state) m may is =
+    let found = sprint_there m.sprints sprint.0 may.there in state_ops m sprint state found.0 is may.there found.2
 ops_small (NewFilter f) m may is = one_op _ (omega (arith, may.filter.small))
 ops_small (NoFilter filter_no) m may is =
     let found = filter_there m filter_no may in

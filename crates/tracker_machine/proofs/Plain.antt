@@ -5,11 +5,15 @@ use Rattle.std.specs.Option.{option_map_or}
 use Rattle.std.proofs.lemmas.List.{length-set}
 use Rattle.field_values.specs.declared.numbers.BoardNo.{BoardNo}
 use Rattle.field_values.specs.declared.numbers.FilterNo.{FilterNo}
+use Rattle.field_values.specs.declared.numbers.SprintNo.{SprintNo}
 use Rattle.field_values.specs.declared.rules.Permission.TheVariants as permission
 use Rattle.change_history.specs.declared.change.Change.{Change}
 use Rattle.change_history.specs.declared.entry.Group.{Group}
 use Rattle.change_history.specs.History.{History}
 use Rattle.board.specs.declared.board.Board.{Board}
+use Rattle.sprints.specs.declared.state.SprintState.{SprintState}
+use Rattle.sprints.specs.State.{after_start, after_close}
+use Rattle.tracker_work.specs.Seen.{state_in}
 use Rattle.tracker_calls.specs.declared.call.Part.{Part}
 use Rattle.tracker_calls.specs.declared.given.GivenField.{GivenField}
 use Rattle.tracker_calls.specs.declared.reply.Answer.{Answer}
@@ -19,7 +23,7 @@ use Rattle.tracker_machine.specs.Machine.{Machine}
 use Rattle.tracker_machine.specs.Known.{place_of_issue, history_named}
 use Rattle.tracker_machine.specs.Tracker.{RunsFrom, HasRanks}
 use Rattle.tracker_machine.specs.Effect.{Effect, applied, longer, with_group}
-use Rattle.tracker_machine.specs.Effect.Effect.{NewMoment, NewIssue, NewGroup, NewRank, NewBalance, NewRanks, NewFilter, NoFilter, NewBoard, NoBoard}
+use Rattle.tracker_machine.specs.Effect.Effect.{NewMoment, NewIssue, NewGroup, NewRank, NewBalance, NewRanks, NewSprint, NewState, NewFilter, NoFilter, NewBoard, NoBoard}
 use Rattle.tracker_machine.specs.Meaning.{Meaning, unless, next_after}
 use Rattle.tracker_machine.specs.Meaning.Meaning.{Refuses, Tells, Finds, Makes}
 use Rattle.tracker_machine.specs.Group.{grouped, grouped_at}
@@ -27,6 +31,7 @@ use Rattle.tracker_machine.specs.Edit.{edit_meaning, edit_refusal, edit_answer, 
 use Rattle.tracker_machine.specs.Transition.{transition_meaning, transition_refusal, transition_answer, transition_news, transition_named}
 use Rattle.tracker_machine.specs.Tick.{tick_meaning, tick_refusal, ticked}
 use Rattle.tracker_machine.specs.Checks.{permission_refusal}
+use Rattle.tracker_machine.specs.Sprints.{make_sprint_refusal, next_sprint, make_sprint_meaning, plan_sprint_refusal, turned, start_sprint_meaning, close_sprint_meaning, burndown_answer, burndown_meaning}
 use Rattle.tracker_machine.specs.Show.{show_meaning, show_refusal, show_answer_of}
 use Rattle.tracker_machine.specs.Entries.{history_meaning, history_refusal, history_answer_of}
 use Rattle.tracker_machine.specs.Ranks.{ranks_meaning, ranks_answer}
@@ -46,6 +51,8 @@ IsPlainEffect (NewGroup place group) = Unit {0}
 IsPlainEffect (NewRank issue rank) = ⊥
 IsPlainEffect (NewBalance balance) = ⊥
 IsPlainEffect (NewRanks moves) = ⊥
+IsPlainEffect (NewSprint name) = Unit {0}
+IsPlainEffect (NewState sprint state) = Unit {0}
 IsPlainEffect (NewFilter f) = Unit {0}
 IsPlainEffect (NoFilter filter_no) = Unit {0}
 IsPlainEffect (NewBoard b) = Unit {0}
@@ -151,6 +158,29 @@ board_plain m caller board_no part = by (board_numbered m board_no)
     by None = tt
     by (Some b) = tt
 
+pub make_sprint_plain : (m : Machine) (caller : ℕ) (name : List ℕ) → IsPlain (make_sprint_meaning m caller name)
+make_sprint_plain m caller name =
+    unless_plain (make_sprint_refusal m caller) (Makes (answer.MakeSprint (next_sprint m)) (NewSprint name)) tt
+
+turned_plain : (sprint : SprintNo) (kept : SprintState) (o : Option SprintState) → IsPlain (turned sprint kept o)
+turned_plain sprint kept None = tt
+turned_plain sprint kept (Some next) = tt
+
+pub start_sprint_plain : (m : Machine) (caller : ℕ) (sprint : SprintNo) → IsPlain (start_sprint_meaning m caller sprint)
+start_sprint_plain m caller sprint =
+    let kept : SprintState = state_in m.sprints sprint.0 in
+    let next : Option SprintState = after_start kept m.moment m.change in
+    unless_plain (plan_sprint_refusal m caller sprint) (turned sprint kept next) (turned_plain sprint kept next)
+
+pub close_sprint_plain : (m : Machine) (caller : ℕ) (sprint : SprintNo) → IsPlain (close_sprint_meaning m caller sprint)
+close_sprint_plain m caller sprint =
+    let kept : SprintState = state_in m.sprints sprint.0 in
+    let next : Option SprintState = after_close kept m.moment m.change in
+    unless_plain (plan_sprint_refusal m caller sprint) (turned sprint kept next) (turned_plain sprint kept next)
+
+pub burndown_plain : (m : Machine) (caller : ℕ) (sprint : SprintNo) (part : Part) → IsPlain (burndown_meaning m caller sprint part)
+burndown_plain m caller sprint part = unless_plain (plan_sprint_refusal m caller sprint) (Tells (burndown_answer m sprint part)) tt
+
 -- ---- ranks stay
 
 group_keeps : (m : Machine) (place : ℕ) (group : Group) → HasRanks m → HasRanks (with_group m place group)
@@ -173,6 +203,8 @@ effect_keeps (NewGroup place group) m plain has = group_keeps m place group has
 effect_keeps (NewRank issue rank) m plain has = absurd plain
 effect_keeps (NewBalance balance) m plain has = absurd plain
 effect_keeps (NewRanks moves) m plain has = absurd plain
+effect_keeps (NewSprint name) m plain has = record { numbers = has.numbers; each = has.each; ranked = has.ranked }
+effect_keeps (NewState sprint state) m plain has = record { numbers = has.numbers; each = has.each; ranked = has.ranked }
 effect_keeps (NewFilter f) m plain has = record { numbers = has.numbers; each = has.each; ranked = has.ranked }
 effect_keeps (NoFilter filter_no) m plain has = record { numbers = has.numbers; each = has.each; ranked = has.ranked }
 effect_keeps (NewBoard b) m plain has = record { numbers = has.numbers; each = has.each; ranked = has.ranked }

@@ -8,6 +8,7 @@ use Rattle.field_forms.specs.Known.{Names}
 use Rattle.change_history.specs.History.{History}
 use Rattle.board.specs.Order.{Pair}
 use Rattle.board.specs.declared.board.Board.{Board}
+use Rattle.sprints.specs.declared.sprint.Sprint.{Sprint}
 use Rattle.tracker_keeper.specs.declared.part.Part.{Part}
 use Rattle.tracker_keeper.specs.declared.row.RowOp.TheVariants.{Drop}
 use Rattle.tracker_keeper.specs.Parts.{part_kind, part_number}
@@ -15,7 +16,7 @@ use Rattle.tracker_keeper.specs.Bodies.{body_text}
 use Rattle.tracker_keeper.specs.Rows.{Rows, with_op, with_ops}
 use Rattle.tracker_machine.specs.Machine.{Machine}
 use Rattle.tracker_machine.specs.Saved.{SavedFilter, filter_number, board_number}
-use Rattle.tracker_machine.specs.Kept.{Kind, kind_of, lone, part_in, put_part, setup_part, present_part, issue_part, issue_numbered, group_numbered, rank_numbered, filter_part, board_part}
+use Rattle.tracker_machine.specs.Kept.{Kind, kind_of, lone, part_in, put_part, setup_part, present_part, issue_part, issue_numbered, group_numbered, rank_numbered, sprint_numbered, filter_part, board_part}
 
 -- ---- parts that are put
 
@@ -106,22 +107,33 @@ group_kind histories = kind_of 4 (group_numbered histories)
 abbrev pub rank_kind : List Pair → Kind
 rank_kind order = kind_of 5 (rank_numbered order)
 
+abbrev pub sprint_kind : List Sprint → Kind
+sprint_kind sprints = kind_of 7 (sprint_numbered sprints)
+
 abbrev pub filter_kind : List SavedFilter → Kind
 filter_kind filters = kind_of 8 (λ n. option_map filter_part (by_number filter_number n filters))
 
 abbrev pub board_kind : List Board → Kind
 board_kind boards = kind_of 9 (λ n. option_map board_part (by_number board_number n boards))
 
+-- those before sprints
+abbrev pub ranked_kinds : Machine → List Kind
+ranked_kinds m = lone_kind 1 (setup_part m) ∷ lone_kind 2 (present_part m) ∷ issue_kind m.histories ∷ group_kind m.histories ∷ rank_kind m.order ∷ []
+
 -- those before filters and boards, and these
 abbrev pub kinds_before : Machine → List Kind
-kinds_before m = lone_kind 1 (setup_part m) ∷ lone_kind 2 (present_part m) ∷ issue_kind m.histories ∷ group_kind m.histories ∷ rank_kind m.order ∷ []
+kinds_before m = ranked_kinds m ++ sprint_kind m.sprints ∷ []
 
 abbrev pub saved_kinds : Machine → List Kind
 saved_kinds m = filter_kind m.filters ∷ board_kind m.boards ∷ []
 
+-- those behind ranks
+abbrev pub planned_kinds : Machine → List Kind
+planned_kinds m = sprint_kind m.sprints ∷ saved_kinds m
+
 -- those behind setup and present
 abbrev pub other_kinds : Machine → List Kind
-other_kinds m = issue_kind m.histories ∷ group_kind m.histories ∷ rank_kind m.order ∷ saved_kinds m
+other_kinds m = issue_kind m.histories ∷ group_kind m.histories ∷ rank_kind m.order ∷ planned_kinds m
 
 -- present is put anew
 pub present_set : (setup old new : Part) (others : List Kind) (k n : ℕ)

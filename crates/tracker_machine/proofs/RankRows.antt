@@ -15,7 +15,7 @@ use Rattle.tracker_keeper.specs.declared.part.Part.{Part}
 use Rattle.tracker_machine.specs.Machine.{Machine}
 use Rattle.tracker_machine.specs.Effect.{with_new_rank, with_balance, with_moves}
 use Rattle.tracker_machine.specs.Kept.{setup_part, present_part, rank_part, rank_numbered, rank_parts, part_at}
-use Rattle.tracker_machine.proofs.Puts.{with_part, with_parts, part_set, lone_kind, issue_kind, group_kind, saved_kinds, other_kinds, present_set}
+use Rattle.tracker_machine.proofs.Puts.{with_part, with_parts, part_set, lone_kind, issue_kind, group_kind, planned_kinds, other_kinds, present_set}
 
 -- an issue that is given a rank has its part, and all others have theirs
 pub rank_moved : (ps : List Pair) (issue : IssueNo) (rank : RankParts) (n : ℕ)
@@ -43,7 +43,7 @@ rank_added ps b issue rank n ranked next =
 pub rank_applied : (m : Machine) (issue : IssueNo) (rank : RankParts) (k n : ℕ) → part_at (with_new_rank m issue rank) k n ≡ with_part (rank_part issue rank) (part_at m) k n
 unfolding part_at
 rank_applied m issue rank k n =
-    part_set (lone_kind 1 (setup_part m) ∷ lone_kind 2 (present_part m) ∷ issue_kind m.histories ∷ group_kind m.histories ∷ []) (saved_kinds m) 5 issue.0
+    part_set (lone_kind 1 (setup_part m) ∷ lone_kind 2 (present_part m) ∷ issue_kind m.histories ∷ group_kind m.histories ∷ []) (planned_kinds m) 5 issue.0
     (rank_numbered m.order) (rank_numbered (after_move m.order (issue, rank))) (Some (rank_part issue rank)) k n refl (rank_moved m.order issue rank n)
 
 -- one after the other

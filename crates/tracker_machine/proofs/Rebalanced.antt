@@ -83,6 +83,10 @@ call_reranks m user (call.Filter filter_no part) has is = absurd (cc)
 call_reranks m user (call.MakeBoard name filter_no) has is = absurd (cc)
 call_reranks m user (call.DropBoard board_no) has is = absurd (cc)
 call_reranks m user (call.Board board_no part) has is = absurd (cc)
+call_reranks m user (call.MakeSprint name) has is = absurd (cc)
+call_reranks m user (call.StartSprint sprint) has is = absurd (cc)
+call_reranks m user (call.CloseSprint sprint) has is = absurd (cc)
+call_reranks m user (call.Burndown sprint part) has is = absurd (cc)
 
 asked_reranks : (m : Machine) (asked : Result (List ℕ × Call) Refusal) → HasRanks m → asks_to_rebalance asked ≡ true → Reranks m (asked_next m asked)
 unfolding next_of meaning

@@ -47,6 +47,7 @@ unmarked old new line user c (refusal.Validator k) asked due same = refused old 
 unmarked old new line user c (refusal.Unfit f) asked due same = refused old new line user c (refusal.Unfit f) asked due same
 unmarked old new line user c (refusal.Query k p) asked due same = refused old new line user c (refusal.Query k p) asked due same
 unmarked old new line user c (refusal.NoRoom low high) asked due same = refused old new line user c (refusal.NoRoom low high) asked due same
+unmarked old new line user c (refusal.SprintIs p) asked due same = refused old new line user c (refusal.SprintIs p) asked due same
 unmarked old new line user c (refusal.Limit l) asked due same = refused old new line user c (refusal.Limit l) asked due same
 unmarked old new line user c (refusal.Earlier k) asked due same = refused old new line user c (refusal.Earlier k) asked due same
 unmarked old new line user c (refusal.BalanceIs balance) asked due same = refused old new line user c (refusal.BalanceIs balance) asked due same

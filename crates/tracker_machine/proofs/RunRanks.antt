@@ -41,7 +41,7 @@ use Rattle.tracker_machine.specs.Checks.{caller_refusal}
 use Rattle.tracker_machine.specs.Run.{Mark, plain, memory, keeper, asked_next, marked_next}
 use Rattle.tracker_machine.specs.RankLaws.{TrackersHaveRanks, NewTrackersHaveRanks, RunsKeepRanks}
 use Rattle.tracker_machine.proofs.Tracker.{runs_on}
-use Rattle.tracker_machine.proofs.Plain.{plain_keeps, edit_plain, transition_plain, tick_plain, show_plain, history_plain, search_plain, ranks_plain, save_filter_plain, drop_filter_plain, filter_plain, make_board_plain, drop_board_plain, board_plain}
+use Rattle.tracker_machine.proofs.Plain.{plain_keeps, edit_plain, transition_plain, tick_plain, show_plain, history_plain, search_plain, ranks_plain, save_filter_plain, drop_filter_plain, filter_plain, make_board_plain, drop_board_plain, board_plain, make_sprint_plain, start_sprint_plain, close_sprint_plain, burndown_plain}
 use Rattle.tracker_machine.proofs.Placed.{apart, are_numbered}
 
 -- each issue has its rank after what a call means
@@ -163,6 +163,10 @@ call_keeps m user (call.Filter filter_no part) has form = plain_keeps _ m (filte
 call_keeps m user (call.MakeBoard name filter_no) has form = plain_keeps _ m (make_board_plain m user name filter_no) has
 call_keeps m user (call.DropBoard board_no) has form = plain_keeps _ m (drop_board_plain m user board_no) has
 call_keeps m user (call.Board board_no part) has form = plain_keeps _ m (board_plain m user board_no part) has
+call_keeps m user (call.MakeSprint name) has form = plain_keeps _ m (make_sprint_plain m user name) has
+call_keeps m user (call.StartSprint sprint) has form = plain_keeps _ m (start_sprint_plain m user sprint) has
+call_keeps m user (call.CloseSprint sprint) has form = plain_keeps _ m (close_sprint_plain m user sprint) has
+call_keeps m user (call.Burndown sprint part) has form = plain_keeps _ m (burndown_plain m user sprint part) has
 
 pub next_keeps : (m : Machine) (caller : List ℕ) (c : Call) → HasRanks m → HasRanks (next_of m caller c)
 unfolding next_of meaning

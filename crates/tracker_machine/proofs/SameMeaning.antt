@@ -2,6 +2,7 @@
 use Rattle.std.proofs.Common.{◌≡◌, ℕ, ◌∷◌, [], List, Option, Some, None, Result, Ok, Err, refl, ap}
 use Rattle.field_values.specs.declared.numbers.BoardNo.{BoardNo}
 use Rattle.field_values.specs.declared.numbers.FilterNo.{FilterNo}
+use Rattle.field_values.specs.declared.numbers.SprintNo.{SprintNo}
 use Rattle.field_values.specs.declared.rules.Permission.{Permission}
 use Rattle.field_values.specs.declared.rules.Permission.TheVariants as permission
 use Rattle.field_values.specs.declared.parts.Transition.{Transition}
@@ -28,6 +29,7 @@ use Rattle.tracker_machine.specs.Search.{found}
 use Rattle.tracker_machine.specs.Meaning.{unless}
 use Rattle.tracker_machine.specs.Filters.{filters_refusal, saved, save_filter_meaning, owner_refusal, drop_filter_meaning, filter_numbered}
 use Rattle.tracker_machine.specs.Boards.{make_board_meaning, drop_board_meaning}
+use Rattle.tracker_machine.specs.Sprints.{make_sprint_meaning, start_sprint_meaning, close_sprint_meaning, burndown_answer, burndown_meaning}
 use Rattle.tracker_machine.proofs.Alike.{reranked}
 
 module _ (m : Machine) (order : List Pair) (balance : Balance) where
@@ -140,3 +142,18 @@ module _ (m : Machine) (order : List Pair) (balance : Balance) where
 
   pub drop_board_same : (caller : ℕ) (board_no : BoardNo) → drop_board_meaning new caller board_no ≡ drop_board_meaning m caller board_no
   drop_board_same caller board_no = refl
+
+  -- ---- sprints
+
+  pub make_sprint_same : (caller : ℕ) (name : List ℕ) → make_sprint_meaning new caller name ≡ make_sprint_meaning m caller name
+  make_sprint_same caller name = refl
+
+  pub start_sprint_same : (caller : ℕ) (sprint : SprintNo) → start_sprint_meaning new caller sprint ≡ start_sprint_meaning m caller sprint
+  start_sprint_same caller sprint = refl
+
+  pub close_sprint_same : (caller : ℕ) (sprint : SprintNo) → close_sprint_meaning new caller sprint ≡ close_sprint_meaning m caller sprint
+  close_sprint_same caller sprint = refl
+
+  pub burndown_same : (caller : ℕ) (sprint : SprintNo) (part : Part) → burndown_meaning new caller sprint part ≡ burndown_meaning m caller sprint part
+  unfolding burndown_answer
+  burndown_same caller sprint part = refl

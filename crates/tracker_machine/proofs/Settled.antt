@@ -47,7 +47,7 @@ entries_hold : (names : Names) (v : Value) (es : List Entry) (f : FieldNo) → A
 entries_hold names v [] f all here = here
 entries_hold names v (e ∷ es) f all here = entries_hold names (if e.field.0 == f.0 then e.to else v) es f all.1 (entry_at names e v f (e.field.0 == f.0) refl all.0 here)
 
-value_after-append : (v : Value) (xs ys : List Entry) (f : FieldNo) → value_after v (xs ++ ys) f ≡ value_after (value_after v xs f) ys f
+pub value_after-append : (v : Value) (xs ys : List Entry) (f : FieldNo) → value_after v (xs ++ ys) f ≡ value_after (value_after v xs f) ys f
 value_after-append v [] ys f = refl
 value_after-append v (x ∷ xs) ys f = value_after-append (if x.field.0 == f.0 then x.to else v) xs ys f
 

@@ -28,9 +28,11 @@ use Rattle.tracker_ranks.specs.Ranked.{IsRanked, IsGiven, IsNext, balance_moved}
 use Rattle.tracker_ranks.proofs.Given.{length-moved}
 use Rattle.tracker_ranks.proofs.Keeping.{no_issue_is_ranked, numbers_are_ranked, new_issues_go_last, moves_change_one_rank, starts_keep_ranks, steps_keep_ranks}
 use Rattle.tracker_machine.specs.Machine.{Machine}
+use Rattle.sprints.specs.declared.sprint.Sprint.{Sprint}
+use Rattle.tracker_machine.specs.SprintRules.{with_future, in_state, BringsSprints, AreSprints}
 use Rattle.tracker_machine.specs.Saved.{SavedFilter, filter_number, board_number, without_boards_of, AreSaved}
 use Rattle.tracker_machine.specs.Effect.{Effect, applied, IsAllowed, with_issue, longer, with_group, with_new_rank, with_balance, with_moves}
-use Rattle.tracker_machine.specs.Effect.Effect.{NewMoment, NewIssue, NewGroup, NewRank, NewBalance, NewRanks, NewFilter, NoFilter, NewBoard, NoBoard}
+use Rattle.tracker_machine.specs.Effect.Effect.{NewMoment, NewIssue, NewGroup, NewRank, NewBalance, NewRanks, NewSprint, NewState, NewFilter, NoFilter, NewBoard, NoBoard}
 use Rattle.fields.specs.Naming.{name_at, key_of}
 use Rattle.jql_meaning.specs.Comparison.{project_of}
 use Rattle.tracker_machine.specs.Known.{project_keys, issues_of}
@@ -39,6 +41,7 @@ use Rattle.tracker_machine.specs.Tracker.{AllEntriesFit, AllSmall, IsSettled, Ru
 use Rattle.tracker_machine.proofs.Totals.{history_bytes-more, bytes_kept-push, bytes_kept-set, entries_kept-push, entries_kept-set}
 use Rattle.tracker_machine.proofs.Chronicle.{chronicle_next, chronicle_later, chronicle_nil, change_pushed, change_added, groups_more, groups_kept-push, groups_kept-set}
 use Rattle.tracker_machine.proofs.Saved.{no_filters, filter_saved, filter_dropped, board_made, board_dropped}
+use Rattle.tracker_machine.proofs.SprintRules.{no_sprints, sprints_later, sprints_push, sprint_made, sprint_turned, sprints_grown}
 use Rattle.tracker_machine.proofs.Settled.{at_place, from_found, all_settled_later, settled_new, settled_added, settled_at}
 
 -- ---- lists with one more
@@ -96,7 +99,7 @@ keyed_set setup before (h ∷ hs) (suc k) old new at same keyed = (keyed.0, keye
 
 -- ---- a new tracker
 
-pub tracker_opening : (text : List ℕ) (setup : Parts) (moment : ℕ) → moment ≤ last_second → IsTracker (record { text = text; setup = setup; moment = moment; change = 0; histories = []; order = []; balance = Idle 0; filters = []; boards = [] })
+pub tracker_opening : (text : List ℕ) (setup : Parts) (moment : ℕ) → moment ≤ last_second → IsTracker (record { text = text; setup = setup; moment = moment; change = 0; histories = []; order = []; balance = Idle 0; sprints = []; filters = []; boards = [] })
 tracker_opening text setup moment timely = record {
   few_issues = omega arith;
   few_entries = omega arith;
@@ -110,6 +113,7 @@ tracker_opening text setup moment timely = record {
   rising = tt;
   chronicle = chronicle_nil moment 0;
   settled = λ k d in'. absurd (omega (arith, in'));
+  sprints = no_sprints moment 0;
   saved = no_filters setup;
 }
 
@@ -129,6 +133,7 @@ tracker_later m now later timely is = record {
   rising = is.rising;
   chronicle = chronicle_later m.histories m.moment now m.change later is.chronicle;
   settled = all_settled_later (names_in m.setup) m.moment now m.change m.change m.histories later (omega arith) is.settled;
+  sprints = sprints_later m.moment m.change m.sprints m.histories is.sprints now m.change later (omega arith);
   saved = is.saved;
 }
 
@@ -153,16 +158,18 @@ tracker_push m h rank is may next = record {
   settled = All-push (IsSettled (names_in m.setup) m.moment (m.change + 1)) m.histories h
       (all_settled_later (names_in m.setup) m.moment m.moment m.change (m.change + 1) m.histories (omega arith) (omega arith) is.settled)
       (settled_new (names_in m.setup) m.moment (m.change + 1) h may.at may.change may.entries may.fitting may.listed may.opened may.author);
+  sprints = sprints_push m.moment m.change m.sprints m.histories is.sprints (m.change + 1) h (omega arith) may.entries may.sprints;
   saved = is.saved;
 }
 
 -- ---- a group
 
 pub tracker_add : (m : Machine) (k : ℕ) (h : History) (author : UserNo) (es : List Entry) → IsTracker m → slice_get m.histories k ≡ Some h
-    → MayAdd h (m.change + 1) m.moment author es → AllEntriesFit (names_in m.setup) es → AllSmall es → author.0 < length m.setup.users
+    → MayAdd h (m.change + 1) m.moment author es → AllEntriesFit (names_in m.setup) es → AllSmall es
+    → BringsSprints (length m.sprints) es → author.0 < length m.setup.users
     → entries_kept m.histories + length es ≤ 2_000_000 → bytes_kept m.histories + sum_by entry_bytes es ≤ 500_000_000
     → IsTracker (record m { change = m.change + 1; histories = set m.histories k (record h { entries = h.entries ++ es }) })
-tracker_add m k h author es is at may fit small user few light =
+tracker_add m k h author es is at may fit small brings user few light =
     let new : History = record h { entries = h.entries ++ es } in
     let total = entries_kept-set m.histories k h new at in
     let more = length-append h.entries es in
@@ -182,6 +189,7 @@ tracker_add m k h author es is at may fit small user few light =
       settled = All-set (IsSettled (names_in m.setup) m.moment (m.change + 1)) m.histories k new
           (settled_added (names_in m.setup) m.moment m.change (m.change + 1) h author es may fit small user (settled_at (names_in m.setup) m.moment m.change m.histories k h at is.settled))
           (all_settled_later (names_in m.setup) m.moment m.moment m.change (m.change + 1) m.histories (omega arith) (omega arith) is.settled);
+      sprints = sprints_grown m.moment m.change (m.change + 1) m.sprints m.histories k h es (omega arith) at brings is.sprints;
       saved = is.saved;
     }
 
@@ -203,6 +211,7 @@ with_order m order balance is same ranked = record {
   rising = is.rising;
   chronicle = is.chronicle;
   settled = is.settled;
+  sprints = is.sprints;
   saved = is.saved;
 }
 
@@ -225,6 +234,26 @@ tracker_stepped m moves is moving picks =
     with_order m (after_moves m.order moves) (balance_moved m.order m.balance moves) is
     (places_go_by_issues (after_moves m.order moves) m.order kept.issues).count kept.ranked
 
+-- ---- sprints
+
+with_sprints : (m : Machine) (sprints : List Sprint) → IsTracker m → AreSprints m.moment m.change sprints m.histories → IsTracker (record m { sprints = sprints })
+with_sprints m sprints is are = record {
+  few_issues = is.few_issues;
+  few_entries = is.few_entries;
+  few_bytes = is.few_bytes;
+  timely = is.timely;
+  numbers = is.numbers;
+  each = is.each;
+  ranked = is.ranked;
+  keys = is.keys;
+  numbered = is.numbered;
+  rising = is.rising;
+  chronicle = is.chronicle;
+  settled = is.settled;
+  sprints = are;
+  saved = is.saved;
+}
+
 -- ---- filters and boards
 
 with_saved : (m : Machine) (filters : List SavedFilter) (boards : List Board) → IsTracker m → AreSaved m.setup filters boards
@@ -242,6 +271,7 @@ with_saved m filters boards is saved = record {
   rising = is.rising;
   chronicle = is.chronicle;
   settled = is.settled;
+  sprints = is.sprints;
   saved = saved;
 }
 
@@ -254,7 +284,7 @@ group_applied m place g h is may at =
     let now : MayAdd h (m.change + 1) m.moment g.author g.entries =
     subst (λ n. MayAdd h n m.moment g.author g.entries) may.change (subst (λ n. MayAdd h g.change n g.author g.entries) may.at added) in
     subst (λ o. IsTracker (record m { change = m.change + 1; histories = option_map_or (λ i. set m.histories place (longer i g.entries)) o m.histories })) (sym at)
-    (tracker_add m place h g.author g.entries is at now may.fitting may.small may.author may.few may.light)
+    (tracker_add m place h g.author g.entries is at now may.fitting may.small may.sprints may.author may.few may.light)
 
 pub tracker_applied : (effect : Effect) (m : Machine) → IsAllowed effect m → IsTracker m → IsTracker (applied effect m)
 unfolding applied IsAllowed
@@ -264,6 +294,10 @@ tracker_applied (NewGroup place g) m may is = let found = at_place m.histories p
 tracker_applied (NewRank issue rank) m may is = tracker_ranked m issue rank is may
 tracker_applied (NewBalance balance) m may is = tracker_started m balance is may
 tracker_applied (NewRanks moves) m may is = tracker_stepped m moves is may.0 may.1
+tracker_applied (NewSprint name) m may is =
+    with_sprints m (with_future m.sprints name) is (sprint_made m.moment m.change m.sprints m.histories is.sprints name may)
+tracker_applied (NewState sprint state) m may is =
+    with_sprints m (in_state m.sprints sprint.0 state) is (sprint_turned m.moment m.change m.sprints m.histories is.sprints sprint state may)
 tracker_applied (NewFilter f) m may is =
     with_saved m (put_by_number filter_number f m.filters) m.boards is (filter_saved m.setup m.filters m.boards is.saved f may)
 tracker_applied (NoFilter filter_no) m may is =

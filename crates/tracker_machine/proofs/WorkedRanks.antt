@@ -36,10 +36,10 @@ use Rattle.tracker_machine.specs.Step.{meaning, meaning_for, form_refusal, reply
 abbrev user : ℕ → UserNo
 user place = record { 0 = place }
 
-abbrev team : List GroupNo
+abbrev pub team : List GroupNo
 team = (record { 0 = 1 }) ∷ []
 
-abbrev setup : Parts
+abbrev pub setup : Parts
 setup = record {
   utc_offset_minutes = pos 0;
   week_starts = Monday;
@@ -60,7 +60,7 @@ setup = record {
   offset = [];
 }
 
-abbrev issue : ℕ → List ℕ → History
+abbrev pub issue : ℕ → List ℕ → History
 issue n key = record { no = record { 0 = n }; key = key; change = n; at = 0; author = user 0; opening = []; entries = [] }
 
 -- a rank of six digits, and the pair of an issue
@@ -76,12 +76,13 @@ tracker order balance = record {
   histories = issue 1 (codes "OPS-1") ∷ issue 2 (codes "OPS-2") ∷ issue 3 (codes "OPS-3") ∷ [];
   order = order;
   balance = balance;
+  sprints = [];
   filters = [];
   boards = [];
 }
 
 -- the ranks that three creates give: `0|i00000:`, `0|i006bk:` and `0|i00cn4:`
-abbrev three : Machine
+abbrev pub three : Machine
 three = tracker (pair 0 (18 ∷ 0 ∷ 0 ∷ 0 ∷ 0 ∷ 0 ∷ []) 1 ∷ pair 0 (18 ∷ 0 ∷ 0 ∷ 6 ∷ 11 ∷ 20 ∷ []) 2 ∷ pair 0 (18 ∷ 0 ∷ 0 ∷ 12 ∷ 23 ∷ 4 ∷ []) 3 ∷ []) (Idle 0)
 
 abbrev tells : Machine → Call → Reply

@@ -107,6 +107,7 @@ tracker = record {
   histories = issue 1 (codes "OPS-1") 1 entries ∷ issue 2 (codes "OPS-2") 2 [] ∷ [];
   order = (first, numbered 1) ∷ (second, numbered 2) ∷ [];
   balance = Idle 0;
+  sprints = [];
   filters = [];
   boards = [];
 }

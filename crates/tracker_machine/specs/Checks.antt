@@ -1,7 +1,7 @@
 -- Checks, the first of which that fails refuses a call.
 use Rattle.std.specs.Option.{is_some}
 use Rattle.std.specs.Str.{bytes_eq}
-use Rattle.std.specs.Prelude.{ℕ, ◌+◌, ◌*◌, ◌&&◌, Bool, List, [], ◌∷◌, Option, Some, None, if◌then◌else◌, option_map, option_and_then, length, nat_lt, nat_le, sum_by, decimal, codes}
+use Rattle.std.specs.Prelude.{ℕ, ◌+◌, ◌*◌, ◌&&◌, ◌||◌, Bool, false, not, List, [], ◌∷◌, Option, Some, None, if◌then◌else◌, option_map, option_and_then, length, nat_lt, nat_le, sum_by, decimal, codes}
 use Rattle.field_values.specs.declared.numbers.TheConstants.FieldNo as number
 use Rattle.field_values.specs.declared.field.Field.{Field}
 use Rattle.field_values.specs.declared.value.Value.{Value}
@@ -19,9 +19,14 @@ use Rattle.tracker_calls.specs.declared.given.GivenField.{GivenField}
 use Rattle.tracker_calls.specs.declared.reply.Refusal.{Refusal}
 use Rattle.tracker_calls.specs.declared.reply.Refusal.TheVariants as refusal
 use Rattle.tracker_calls.specs.declared.reply.Limit.TheVariants as limit
+use Rattle.tracker_calls.specs.declared.reply.SprintPhase.TheVariants as phase
 use Rattle.tracker_calls.specs.declared.reply.Thing.TheVariants as thing
 use Rattle.tracker_machine.specs.declared.wanted.Wanted.{Wanted}
+use Rattle.sprints.specs.declared.sprint.Sprint.{Sprint}
+use Rattle.sprints.specs.Sprint.{sprint_of}
+use Rattle.tracker_work.specs.Seen.{state_in}
 use Rattle.tracker_machine.specs.Machine.{Machine}
+use Rattle.tracker_machine.specs.SprintRules.{is_closed, is_in_sprint}
 use Rattle.fields.specs.Naming.{name_at, field_name}
 use Rattle.tracker_machine.specs.Known.{is_field, names_field, project_keys}
 use Rattle.tracker_machine.specs.Wanted.{given_for, sprint_number, field_at_fault}
@@ -57,7 +62,7 @@ count_refusal most n = only_if (nat_le 1 n && nat_le n most) (refusal.Form (code
 abbrev pub other_refusal : List ℕ → List ℕ → Option Refusal
 other_refusal issue other = if bytes_eq other issue then Some (refusal.Form (codes "other")) else None
 
--- a filter or a board has a name of its form
+-- a filter, a board or a sprint has a name of its form
 abbrev pub title_refusal : List ℕ → Option Refusal
 title_refusal name = only_if (is_title name) (refusal.Form (codes "name"))
 
@@ -71,22 +76,29 @@ caller_refusal m caller = unless_known (place_named caller m.setup.users) (refus
 abbrev pub sprint_given : List Field → List GivenField → Option ℕ
 sprint_given fields set = option_and_then sprint_number (given_for fields number.SPRINT.0 set)
 
--- that sprint is there; there are none yet
+-- the same where that sprint isn't there
+abbrev pub missing_sprint : List Sprint → Option ℕ → Option ℕ
+missing_sprint sprints None = None
+missing_sprint sprints (Some k) = if is_some (sprint_of sprints k) then None else Some k
+
+-- no sprint is missing
 abbrev pub sprint_refusal : Option ℕ → Option Refusal
 sprint_refusal None = None
 sprint_refusal (Some k) = Some (refusal.Unknown thing.Sprint (decimal k))
 
--- the name is a field's, and where it is that of the sprint field, the sprint is there
-abbrev pub name_refusal : List Field → List GivenField → List ℕ → Option Refusal
-name_refusal fields set name =
+-- the name is a field's, and where it is that of the sprint field, no sprint is missing
+abbrev pub name_refusal : List Field → Option ℕ → List ℕ → Option Refusal
+name_refusal fields missing name =
     if is_field fields name
-    then (if names_field fields number.SPRINT.0 name then sprint_refusal (sprint_given fields set) else None)
+    then (if names_field fields number.SPRINT.0 name then sprint_refusal missing else None)
     else Some (refusal.Unknown thing.Field name)
 
--- the names in some part of `set` that are refused
-abbrev pub refused_names : List Field → List GivenField → List GivenField → List (List ℕ)
-refused_names fields set [] = []
-refused_names fields set (g ∷ gs) = if is_some (name_refusal fields set g.name) then g.name ∷ refused_names fields set gs else refused_names fields set gs
+-- the names in `set` that are refused
+abbrev pub refused_names : List Field → Option ℕ → List GivenField → List (List ℕ)
+refused_names fields missing [] = []
+refused_names fields missing (g ∷ gs) =
+    if is_some (name_refusal fields missing g.name) then g.name ∷ refused_names fields missing gs
+    else refused_names fields missing gs
 
 -- of a name found before, if there is one, and another the one that comes first in byte order
 abbrev pub sooner : Option (List ℕ) → List ℕ → List ℕ
@@ -99,11 +111,11 @@ first_with found [] = found
 first_with found (name ∷ names) = first_with (Some (sooner found name)) names
 
 -- each name in `set` is looked at in byte order, wherever it stands
-abbrev pub names_refusal : List Field → List GivenField → Option Refusal
-names_refusal fields set = option_and_then (name_refusal fields set) (first_with None (refused_names fields set set))
+abbrev pub names_refusal : List Field → Option ℕ → List GivenField → Option Refusal
+names_refusal fields missing set = option_and_then (name_refusal fields missing) (first_with None (refused_names fields missing set))
 
 abbrev pub set_refusal : Machine → List GivenField → Option Refusal
-set_refusal m set = names_refusal m.setup.field set
+set_refusal m set = names_refusal m.setup.field (missing_sprint m.sprints (sprint_given m.setup.field set)) set
 
 -- ---- permissions
 
@@ -111,6 +123,22 @@ set_refusal m set = names_refusal m.setup.field set
 abbrev pub permission_refusal : Machine → ℕ → Permission → Option ℕ → Option Refusal
 permission_refusal m caller permission place =
     only_if (may m.setup caller permission place) (refusal.Forbidden permission (option_map (name_at (project_keys m.setup)) place))
+
+-- ---- sprints
+
+-- an issue, if there is one, is in the sprint
+abbrev pub is_in : Option History → ℕ → Bool
+is_in None sprint = false
+is_in (Some h) sprint = is_in_sprint sprint h
+
+-- the sprint isn't closed, unless the issue is in it already
+abbrev pub sprint_closed_refusal : List Sprint → Option History → ℕ → Option Refusal
+sprint_closed_refusal sprints h sprint =
+    only_if (not (is_closed (state_in sprints sprint)) || is_in h sprint) (refusal.SprintIs phase.Closed)
+
+-- so is the one into which `set` puts an issue
+abbrev pub closed_refusal : Machine → List GivenField → Option History → Option Refusal
+closed_refusal m set h = option_and_then (sprint_closed_refusal m.sprints h) (sprint_given m.setup.field set)
 
 -- ---- limits
 

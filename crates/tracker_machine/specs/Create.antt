@@ -1,5 +1,5 @@
 -- The call `create`: a new issue of a project.
-use Rattle.std.specs.Prelude.{ℕ, ◌+◌, ◌==◌, false, not, List, [], filter, length, Option, if◌then◌else◌}
+use Rattle.std.specs.Prelude.{ℕ, ◌+◌, ◌==◌, false, not, List, [], filter, length, Option, None, if◌then◌else◌}
 use Rattle.std.specs.Option.{is_some, option_map_or}
 use Rattle.field_values.specs.declared.numbers.TheConstants.FieldNo as number
 use Rattle.field_values.specs.declared.rules.Permission.TheVariants as permission
@@ -23,7 +23,7 @@ use Rattle.tracker_machine.specs.Machine.{Machine}
 use Rattle.fields.specs.Naming.{name_at}
 use Rattle.tracker_machine.specs.Known.{project_keys, known_place, next_key}
 use Rattle.tracker_machine.specs.Wanted.{given_for, wanted_or, wanted_given, wanted_in, changes_of}
-use Rattle.tracker_machine.specs.Checks.{or_then, unless_known, set_refusal, permission_refusal, issues_refusal, bytes_refusal, values_refusal}
+use Rattle.tracker_machine.specs.Checks.{or_then, unless_known, set_refusal, permission_refusal, closed_refusal, issues_refusal, bytes_refusal, values_refusal}
 use Rattle.tracker_machine.specs.Effect.Effect.{NewIssue}
 use Rattle.tracker_machine.specs.Rank.{with_given, last_rank}
 use Rattle.tracker_machine.specs.Meaning.{Meaning, unless}
@@ -55,9 +55,10 @@ create_refusal m caller project issue_type summary set =
     (or_then (set_refusal m set)
     (or_then (permission_refusal m caller permission.Browse (place_named project (project_keys m.setup)))
     (or_then (permission_refusal m caller permission.Create (place_named project (project_keys m.setup)))
+    (or_then (closed_refusal m set None)
     (or_then (issues_refusal m)
     (or_then (bytes_refusal m)
-    (values_refusal m (create_wants m.setup caller issue_type summary set)))))))
+    (values_refusal m (create_wants m.setup caller issue_type summary set))))))))
 
 -- the project's key as the setup spells it
 abbrev pub spelled_key : Machine → List ℕ → List ℕ

@@ -15,7 +15,7 @@ use Rattle.tracker_machine.specs.declared.wanted.Wanted.{Wanted}
 use Rattle.tracker_machine.specs.Machine.{Machine}
 use Rattle.tracker_machine.specs.Known.{place_of_issue, history_named}
 use Rattle.tracker_machine.specs.Wanted.{wanted_in, changes_of}
-use Rattle.tracker_machine.specs.Checks.{or_then, unless_known, set_refusal, entries_refusal, bytes_refusal, values_refusal}
+use Rattle.tracker_machine.specs.Checks.{or_then, unless_known, set_refusal, closed_refusal, entries_refusal, bytes_refusal, values_refusal}
 use Rattle.tracker_machine.specs.Access.{access_refusal}
 use Rattle.tracker_machine.specs.Group.{grouped_at}
 use Rattle.tracker_machine.specs.Meaning.{Meaning, unless}
@@ -33,9 +33,10 @@ edit_refusal m caller issue set =
     (or_then (set_refusal m set)
     (or_then (access_refusal m caller permission.Browse (history_named m issue))
     (or_then (access_refusal m caller permission.Edit (history_named m issue))
+    (or_then (closed_refusal m set (history_named m issue))
     (or_then (entries_refusal m)
     (or_then (bytes_refusal m)
-    (values_refusal m (set_wants m set)))))))
+    (values_refusal m (set_wants m set))))))))
 
 -- the values that differ from the present ones
 abbrev pub edit_news : Machine → List GivenField → Option History → List Change

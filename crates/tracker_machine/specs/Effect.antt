@@ -9,14 +9,17 @@ use Rattle.change_history.specs.History.{History}
 use Rattle.field_values.specs.declared.numbers.BoardNo.{BoardNo}
 use Rattle.field_values.specs.declared.numbers.FilterNo.{FilterNo}
 use Rattle.field_values.specs.declared.numbers.IssueNo.{IssueNo}
+use Rattle.field_values.specs.declared.numbers.SprintNo.{SprintNo}
 use Rattle.rank_strings.specs.Rank.{RankParts}
 use Rattle.board.specs.declared.board.Board.{Board}
 use Rattle.rank_balancer.specs.declared.balance.Balance.{Balance}
 use Rattle.rank_balancer.specs.Balance.{IsMoving, after_start, from_of, to_of}
 use Rattle.rank_balancer.specs.Step.{Move, ArePicks, after_move, after_moves}
 use Rattle.tracker_ranks.specs.Ranked.{IsGiven, IsNext, with_last, balance_moved}
+use Rattle.sprints.specs.declared.state.SprintState.{SprintState}
 use Rattle.tracker_machine.specs.Machine.{Machine}
 use Rattle.tracker_machine.specs.Saved.{SavedFilter, filter_number, board_number, without_boards_of, MaySave, MayMake}
+use Rattle.tracker_machine.specs.SprintRules.{with_future, in_state, MayMakeSprint, MayTurn}
 use Rattle.tracker_machine.specs.Tracker.{MayOpen, MayGroup}
 
 pub data Effect : Type 0 where
@@ -32,6 +35,10 @@ pub data Effect : Type 0 where
   NewBalance : Balance → Effect
   -- a step of a rebalancing makes these moves
   NewRanks : List Move → Effect
+  -- there is a new sprint of this name
+  NewSprint : List ℕ → Effect
+  -- a sprint starts or is closed, and is in this state from then on
+  NewState : SprintNo → SprintState → Effect
   -- a filter is saved, in the place of the one of its number where there is one
   NewFilter : SavedFilter → Effect
   -- a filter is dropped, and its boards with it
@@ -71,6 +78,12 @@ with_moves m moves = record m {
   balance = balance_moved m.order m.balance moves;
 }
 
+abbrev pub with_sprint : Machine → List ℕ → Machine
+with_sprint m name = record m { sprints = with_future m.sprints name }
+
+abbrev pub with_state : Machine → SprintNo → SprintState → Machine
+with_state m sprint state = record m { sprints = in_state m.sprints sprint.0 state }
+
 abbrev pub with_filter : Machine → SavedFilter → Machine
 with_filter m f = record m { filters = put_by_number filter_number f m.filters }
 
@@ -91,6 +104,8 @@ applied (NewGroup place group) m = with_group m place group
 applied (NewRank issue rank) m = with_new_rank m issue rank
 applied (NewBalance balance) m = with_balance m balance
 applied (NewRanks moves) m = with_moves m moves
+applied (NewSprint name) m = with_sprint m name
+applied (NewState sprint state) m = with_state m sprint state
 applied (NewFilter f) m = with_filter m f
 applied (NoFilter filter_no) m = without_filter m filter_no
 applied (NewBoard b) m = with_board m b
@@ -104,6 +119,8 @@ IsAllowed (NewGroup place group) m = MayGroup m place group
 IsAllowed (NewRank issue rank) m = IsGiven m.order m.balance issue rank
 IsAllowed (NewBalance balance) m = after_start m.balance ≡ Some balance
 IsAllowed (NewRanks moves) m = IsMoving m.balance × ArePicks m.order (from_of m.balance) (to_of m.balance) moves
+IsAllowed (NewSprint name) m = MayMakeSprint m.sprints name
+IsAllowed (NewState sprint state) m = MayTurn m.moment m.change m.sprints sprint state
 IsAllowed (NewFilter f) m = MaySave m.setup m.filters f
 IsAllowed (NoFilter filter_no) m = by_number filter_number filter_no.0 m.filters ≢ None
 IsAllowed (NewBoard b) m = MayMake m.filters m.boards b

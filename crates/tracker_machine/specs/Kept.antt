@@ -1,5 +1,5 @@
 -- What is kept of a tracker: its parts by kind and number, the row of each, and the operations that keep an effect.
-use Rattle.std.specs.Prelude.{ℕ, ◌==◌, List, [], ◌∷◌, map, filter, slice_get, Option, Some, None, option_map, if◌then◌else◌}
+use Rattle.std.specs.Prelude.{ℕ, ◌+◌, ◌==◌, List, [], ◌∷◌, map, filter, length, slice_get, Option, Some, None, option_map, if◌then◌else◌}
 use Rattle.std.specs.List.{find}
 use Rattle.std.specs.Option.{option_or, option_map_or}
 use Rattle.rising_numbers.specs.ByNumber.{by_number}
@@ -11,8 +11,12 @@ use Rattle.change_history.specs.declared.entry.Group.{Group}
 use Rattle.change_history.specs.History.{History}
 use Rattle.field_values.specs.declared.numbers.FilterNo.{FilterNo}
 use Rattle.field_values.specs.declared.numbers.IssueNo.{IssueNo}
+use Rattle.field_values.specs.declared.numbers.SprintNo.{SprintNo}
 use Rattle.rank_strings.specs.Rank.{RankParts}
 use Rattle.board.specs.Order.{Pair, rank_in}
+use Rattle.sprints.specs.declared.sprint.Sprint.{Sprint}
+use Rattle.sprints.specs.declared.state.SprintState.{SprintState}
+use Rattle.sprints.specs.Sprint.{future, sprint_of}
 use Rattle.board.specs.declared.board.Board.{Board}
 use Rattle.rank_balancer.specs.Step.{Move}
 use Rattle.tracker_keeper.specs.declared.row.RowOp.{RowOp}
@@ -26,7 +30,7 @@ use Rattle.tracker_keeper.specs.Rows.{Rows}
 use Rattle.tracker_machine.specs.Machine.{Machine}
 use Rattle.tracker_machine.specs.Saved.{SavedFilter, filter_number, board_number, is_board_of}
 use Rattle.tracker_machine.specs.Effect.{Effect, with_issue, with_group, with_balance, with_moves}
-use Rattle.tracker_machine.specs.Effect.Effect.{NewMoment, NewIssue, NewGroup, NewRank, NewBalance, NewRanks, NewFilter, NoFilter, NewBoard, NoBoard}
+use Rattle.tracker_machine.specs.Effect.Effect.{NewMoment, NewIssue, NewGroup, NewRank, NewBalance, NewRanks, NewSprint, NewState, NewFilter, NoFilter, NewBoard, NoBoard}
 
 -- ---- parts
 
@@ -47,6 +51,9 @@ group_part h group = part.Group h.no group
 
 abbrev pub rank_part : IssueNo → RankParts → Part
 rank_part issue rank = part.Rank issue rank
+
+abbrev pub sprint_part : SprintNo → Sprint → Part
+sprint_part sprint_no sprint = part.Sprint sprint_no sprint
 
 abbrev pub filter_part : SavedFilter → Part
 filter_part f = part.Filter f.no f.owner f.name f.text
@@ -82,6 +89,10 @@ group_numbered (h ∷ hs) number = option_or (issue_group number h) (group_numbe
 abbrev pub rank_numbered : List Pair → ℕ → Option Part
 rank_numbered order number = option_map (rank_part (record { 0 = number })) (rank_in order number)
 
+-- the sprint of a number
+abbrev pub sprint_numbered : List Sprint → ℕ → Option Part
+sprint_numbered sprints number = option_map (sprint_part (record { 0 = number })) (sprint_of sprints number)
+
 -- the one part of a kind, which has number 0
 abbrev pub lone : Part → ℕ → Option Part
 lone p number = if number == 0 then Some p else None
@@ -106,6 +117,7 @@ kinds m =
     ∷ kind_of 3 (λ n. option_map issue_part (issue_numbered m.histories n))
     ∷ kind_of 4 (group_numbered m.histories)
     ∷ kind_of 5 (rank_numbered m.order)
+    ∷ kind_of 7 (sprint_numbered m.sprints)
     ∷ kind_of 8 (λ n. option_map filter_part (by_number filter_number n m.filters))
     ∷ kind_of 9 (λ n. option_map board_part (by_number board_number n m.boards))
     ∷ []
@@ -136,6 +148,11 @@ group_parts histories place group = option_map_or (λ h. group_part h group ∷ 
 abbrev pub rank_parts : List Move → List Part
 rank_parts moves = map (λ move. rank_part move.0 move.1) moves
 
+-- a sprint in another state, where it is there
+abbrev pub state_parts : List Sprint → SprintNo → SprintState → List Part
+state_parts sprints sprint_no state =
+    option_map_or (λ s. sprint_part sprint_no (record s { state = state }) ∷ []) (sprint_of sprints sprint_no.0) []
+
 -- the parts that an effect changes or makes, by kind
 unfoldable pub parts_of : Effect → Machine → List Part
 parts_of (NewMoment to) m = present_part (record m { moment = to }) ∷ []
@@ -144,6 +161,8 @@ parts_of (NewGroup place group) m = present_part (with_group m place group) ∷ 
 parts_of (NewRank issue rank) m = rank_part issue rank ∷ []
 parts_of (NewBalance balance) m = present_part (with_balance m balance) ∷ []
 parts_of (NewRanks moves) m = present_part (with_moves m moves) ∷ rank_parts moves
+parts_of (NewSprint name) m = sprint_part (record { 0 = length m.sprints + 1 }) (future name) ∷ []
+parts_of (NewState sprint state) m = state_parts m.sprints sprint state
 parts_of (NewFilter f) m = filter_part f ∷ []
 parts_of (NoFilter filter_no) m = []
 parts_of (NewBoard b) m = board_part b ∷ []

@@ -1,5 +1,6 @@
 pub mod Query
 pub mod Saved
+pub mod SprintRules
 pub mod Machine
 pub mod Known
 pub mod Wanted
@@ -25,6 +26,7 @@ pub mod Listing
 pub mod Search
 pub mod Filters
 pub mod Boards
+pub mod Sprints
 pub mod Step
 pub mod Run
 pub mod Laws

@@ -6,6 +6,7 @@ use Rattle.board.specs.Order.{Pair}
 use Rattle.board.specs.declared.board.Board.{Board}
 use Rattle.rank_balancer.specs.declared.balance.Balance.{Balance}
 use Rattle.rank_balancer.specs.declared.balance.Balance.TheVariants.{Idle}
+use Rattle.sprints.specs.declared.sprint.Sprint.{Sprint}
 use Rattle.tracker_machine.specs.Saved.{SavedFilter}
 
 pub record Machine : Type 0 where
@@ -20,6 +21,8 @@ pub record Machine : Type 0 where
   -- their ranks, the top of a board first, and in which buckets these are
   pub order : List Pair
   pub balance : Balance
+  -- the sprints, by their numbers from 1
+  pub sprints : List Sprint
   -- saved filters and boards, by their numbers
   pub filters : List SavedFilter
   pub boards : List Board
@@ -34,6 +37,7 @@ opening text setup = record {
   histories = [];
   order = [];
   balance = Idle 0;
+  sprints = [];
   filters = [];
   boards = [];
 }

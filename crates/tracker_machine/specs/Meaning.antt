@@ -7,7 +7,8 @@ use Rattle.tracker_calls.specs.declared.reply.Reply.{Reply}
 use Rattle.tracker_calls.specs.declared.reply.Reply.TheVariants as reply
 use Rattle.tracker_machine.specs.Machine.{Machine}
 use Rattle.tracker_machine.specs.Effect.{Effect, applied}
-use Rattle.tracker_machine.specs.Effect.Effect.{NewMoment, NewIssue, NewGroup, NewFilter}
+use Rattle.tracker_machine.specs.SprintRules.{sum_in_sprint}
+use Rattle.tracker_machine.specs.Effect.Effect.{NewMoment, NewIssue, NewGroup, NewState, NewFilter}
 
 pub data Meaning : Type 0 where
   Refuses : Refusal → Meaning
@@ -32,11 +33,13 @@ next_after (Makes a effect) m = applied effect m
 next_after _ m = m
 
 -- how often at most an effect has it asked whether a query holds of an issue, where so many kept verdicts end up to a moment:
--- a saved filter once for each issue, a new or a changed issue once for each filter, and a later moment once for each such verdict
+-- a saved filter once for each issue, a new or a changed issue once for each filter, a sprint's start or close once for each filter
+-- and issue in it, and a later moment once for each such verdict
 abbrev pub cost : (ℕ → ℕ) → Effect → Machine → ℕ
 cost ended (NewMoment to) m = ended to
 cost ended (NewIssue h rank) m = length m.filters
 cost ended (NewGroup place group) m = length m.filters
+cost ended (NewState sprint state) m = sum_in_sprint (length m.filters) sprint.0 m.histories
 cost ended (NewFilter f) m = length m.histories
 cost ended _ m = 0
 

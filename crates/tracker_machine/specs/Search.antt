@@ -1,5 +1,5 @@
 -- The call `search`: the issues of which a query holds now.
-use Rattle.std.specs.Prelude.{ℕ, Bool, ◌&&◌, List, [], map, filter, length, Option, Result, Ok, Err}
+use Rattle.std.specs.Prelude.{ℕ, Bool, ◌&&◌, List, map, filter, length, Option, Result, Ok, Err}
 use Rattle.std.specs.Ordering.{is_lt, nat_cmp}
 use Rattle.std.specs.declared.cmp.Ordering.{Ordering}
 use Rattle.field_values.specs.declared.rules.Permission.TheVariants as permission
@@ -13,6 +13,7 @@ use Rattle.workflow.specs.Conditions.{project_number}
 use Rattle.jql_bound.specs.Condition.{Condition}
 use Rattle.jql_bound.specs.declared.order.OrderKey.{OrderKey}
 use Rattle.jql_meaning.specs.Surroundings.{Surroundings}
+use Rattle.sprints.specs.declared.sprint.Sprint.{Sprint}
 use Rattle.jql_meaning.specs.Truth.{query_holds}
 use Rattle.jql_meaning.specs.Order.{issue_cmp}
 use Rattle.tracker_calls.specs.Part.{part_of}
@@ -21,6 +22,7 @@ use Rattle.tracker_calls.specs.declared.reply.Answer.{Answer}
 use Rattle.tracker_calls.specs.declared.reply.Answer.TheVariants as answer
 use Rattle.tracker_calls.specs.declared.reply.Refusal.{Refusal}
 use Rattle.tracker_machine.specs.Machine.{Machine}
+use Rattle.tracker_machine.specs.SprintRules.{phase_of}
 use Rattle.tracker_machine.specs.Query.{Query, asked}
 use Rattle.tracker_machine.specs.Listing.{in_order}
 use Rattle.tracker_machine.specs.Meaning.{Meaning}
@@ -28,10 +30,10 @@ use Rattle.tracker_machine.specs.Meaning.Meaning.{Refuses, Finds}
 
 -- ---- what is found
 
--- there are no sprints yet
-abbrev pub surroundings_in : Parts → Surroundings
-surroundings_in setup = record {
-  sprints = [];
+-- what decides beside an issue and the moment, with these sprints
+abbrev pub surroundings_in : Parts → List Sprint → Surroundings
+surroundings_in setup sprints = record {
+  sprints = map (λ s. phase_of s.state) sprints;
   members = map (λ g. g.members) setup.group;
   calendar = record { zone = zone_of setup.utc_offset_minutes setup.offset; first_day = day_number setup.week_starts };
 }
@@ -39,7 +41,7 @@ surroundings_in setup = record {
 -- the user may browse the issue, and the query holds of it now
 abbrev pub is_found : Machine → ℕ → Option Condition → History → Bool
 is_found m caller condition h =
-    may m.setup caller permission.Browse (project_number m.setup h) && query_holds (surroundings_in m.setup) h m.moment condition
+    may m.setup caller permission.Browse (project_number m.setup h) && query_holds (surroundings_in m.setup m.sprints) h m.moment condition
 
 unfoldable pub found : Machine → ℕ → Option Condition → List History
 found m caller condition = filter (is_found m caller condition) m.histories

@@ -20,6 +20,7 @@ use Rattle.tracker_machine.specs.Entries.{history_meaning}
 use Rattle.tracker_machine.specs.Search.{search_meaning}
 use Rattle.tracker_machine.specs.Filters.{save_filter_meaning, drop_filter_meaning, filter_meaning}
 use Rattle.tracker_machine.specs.Boards.{make_board_meaning, drop_board_meaning, board_meaning}
+use Rattle.tracker_machine.specs.Sprints.{make_sprint_meaning, start_sprint_meaning, close_sprint_meaning, burndown_meaning}
 
 -- the call of a user, who is known, by place
 unfoldable pub meaning_for : Machine → ℕ → Call → Meaning
@@ -42,6 +43,10 @@ meaning_for m user (call.Filter filter part) = filter_meaning m user filter part
 meaning_for m user (call.MakeBoard name filter) = make_board_meaning m user name filter
 meaning_for m user (call.DropBoard board) = drop_board_meaning m user board
 meaning_for m user (call.Board board part) = board_meaning m user board part
+meaning_for m user (call.MakeSprint name) = make_sprint_meaning m user name
+meaning_for m user (call.StartSprint sprint) = start_sprint_meaning m user sprint
+meaning_for m user (call.CloseSprint sprint) = close_sprint_meaning m user sprint
+meaning_for m user (call.Burndown sprint part) = burndown_meaning m user sprint part
 
 -- the fault of a call's form; a call that was read from a line has none
 unfoldable pub form_refusal : Call → Option Refusal
@@ -58,6 +63,8 @@ form_refusal (call.SaveFilter name jql) = title_refusal name
 form_refusal (call.Filter filter part) = part_refusal 1_000 part
 form_refusal (call.MakeBoard name filter) = title_refusal name
 form_refusal (call.Board board part) = part_refusal 1_000 part
+form_refusal (call.MakeSprint name) = title_refusal name
+form_refusal (call.Burndown sprint part) = part_refusal 1_000 part
 form_refusal _ = None
 
 -- the caller by place

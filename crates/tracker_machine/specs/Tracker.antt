@@ -19,6 +19,7 @@ use Rattle.tracker_keeper.specs.Forms.{is_small, are_opening}
 use Rattle.tracker_ranks.specs.Ranked.{IsRanked}
 use Rattle.tracker_machine.specs.Machine.{Machine}
 use Rattle.tracker_machine.specs.Saved.{AreSaved}
+use Rattle.tracker_machine.specs.SprintRules.{OpensInSprints, BringsSprints, AreSprints}
 use Rattle.tracker_machine.specs.Known.{project_keys, issues_of}
 use Rattle.tracker_machine.specs.Checks.{entries_kept, bytes_kept, history_bytes, entry_bytes}
 use Rattle.tracker_machine.specs.Chronicle.{IsChronicle, groups_kept}
@@ -121,6 +122,7 @@ pub record IsTracker (m : Machine) : Type 0 where
   pub rising : RisesAbove 0 (map (λ h. h.change) m.histories)
   pub chronicle : IsChronicle m.histories m.moment m.change
   pub settled : All (IsSettled (names_in m.setup) m.moment m.change) m.histories
+  pub sprints : AreSprints m.moment m.change m.sprints m.histories
   pub saved : AreSaved m.setup m.filters m.boards
 
 -- an issue that may be the next one
@@ -134,6 +136,7 @@ pub record MayOpen (m : Machine) (h : History) : Type 0 where
   pub opened : AreNamed (opening_value h.opening)
   pub fitting : AllFit (names_in m.setup) h.opening
   pub listed : are_opening (names_in m.setup) h.opening ≡ true
+  pub sprints : OpensInSprints (length m.sprints) h.opening
   pub entries : h.entries ≡ []
   pub light : bytes_kept m.histories + history_bytes h ≤ 500_000_000
 
@@ -146,5 +149,6 @@ pub record MayGroup (m : Machine) (place : ℕ) (g : Group) : Type 0 where
   pub group : IfSome (slice_get m.histories place) (λ h. MayAdd h g.change g.at g.author g.entries)
   pub fitting : AllEntriesFit (names_in m.setup) g.entries
   pub small : AllSmall g.entries
+  pub sprints : BringsSprints (length m.sprints) g.entries
   pub author : g.author.0 < length m.setup.users
   pub light : bytes_kept m.histories + sum_by entry_bytes g.entries ≤ 500_000_000

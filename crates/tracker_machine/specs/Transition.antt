@@ -17,7 +17,7 @@ use Rattle.tracker_calls.specs.declared.reply.Refusal.TheVariants as refusal
 use Rattle.tracker_calls.specs.declared.reply.Thing.TheVariants as thing
 use Rattle.tracker_machine.specs.Machine.{Machine}
 use Rattle.tracker_machine.specs.Known.{place_of_issue, history_named}
-use Rattle.tracker_machine.specs.Checks.{or_then, unless_known, set_refusal, entries_refusal, bytes_refusal, values_refusal}
+use Rattle.tracker_machine.specs.Checks.{or_then, unless_known, set_refusal, closed_refusal, entries_refusal, bytes_refusal, values_refusal}
 use Rattle.tracker_machine.specs.Access.{access_refusal}
 use Rattle.tracker_machine.specs.Group.{grouped_at}
 use Rattle.tracker_machine.specs.Edit.{set_wants, set_changes}
@@ -54,9 +54,10 @@ transition_refusal m caller issue transition set =
     (or_then (set_refusal m set)
     (or_then (access_refusal m caller permission.Browse (history_named m issue))
     (or_then (access_refusal m caller permission.Transition (history_named m issue))
+    (or_then (closed_refusal m set (history_named m issue))
     (or_then (entries_refusal m)
     (or_then (bytes_refusal m)
-    (plan_refusal m caller set (history_named m issue) (transition_named m transition))))))))
+    (plan_refusal m caller set (history_named m issue) (transition_named m transition)))))))))
 
 -- what the transition changes: the inputs, the status and what its post functions set, as far as it differs
 abbrev pub transition_news : Machine → ℕ → List GivenField → Option History → Option Transition → List Change

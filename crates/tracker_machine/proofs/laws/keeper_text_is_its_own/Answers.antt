@@ -23,6 +23,7 @@ its_own (reply.Refused (refusal.Validator k)) e = absurd (apart 105 110 (lit< tt
 its_own (reply.Refused (refusal.Unfit f)) e = absurd (apart 102 110 (lit< tt) (ap (λ l. slice_index l 13) e))
 its_own (reply.Refused (refusal.Query k p)) e = absurd (apart 107 110 (lit< tt) (ap (λ l. slice_index l 13) e))
 its_own (reply.Refused (refusal.NoRoom low high)) e = absurd (apart 104 110 (lit< tt) (ap (λ l. slice_index l 13) e))
+its_own (reply.Refused (refusal.SprintIs p)) e = absurd (apart 49 57 (lit< tt) (sym (ap (λ l. slice_index l 17) e)))
 its_own (reply.Refused (refusal.Limit l)) e = absurd (apart 108 110 (lit< tt) (ap (λ l. slice_index l 13) e))
 its_own (reply.Refused (refusal.Earlier k)) e = absurd (apart 107 110 (lit< tt) (ap (λ l. slice_index l 13) e))
 its_own (reply.Refused (refusal.BalanceIs balance)) e = absurd (apart 107 110 (lit< tt) (ap (λ l. slice_index l 13) e))
