@@ -7,7 +7,7 @@ use Rattle.std.proofs.lemmas.Option.{same_Some, slice_get_within, get_or_from_sl
 use Rattle.field_values.specs.declared.numbers.SprintNo.{SprintNo}
 use Rattle.change_history.specs.History.{History}
 use Rattle.jql_meaning.specs.Surroundings.{Surroundings}
-use Rattle.jql_meaning.specs.Sprints.{DifferInOneSprint}
+use Rattle.jql_meaning.specs.Sprints.{DifferInOneSprint, IsNotIn}
 use Rattle.jql_meaning.proofs.Sprints.{others_stand}
 use Rattle.jql_eval.proofs.Rights.{right_elsewhere}
 use Rattle.filter_views.specs.Cell.{Views, cell_of}
@@ -17,7 +17,7 @@ use Rattle.rising_numbers.specs.ByNumber.{by_number}
 use Rattle.tracker_filters.specs.Saved.{number, condition_of}
 use Rattle.tracker_filters.specs.Watched.{CellIsRight, AreWatched}
 use Rattle.tracker_filters.specs.Cells.{SettlesIssue}
-use Rattle.tracker_filters.specs.Sprint.{is_in_sprint, HoldOneSprint, cost_in, sprint_cost, SettlesSprint}
+use Rattle.tracker_filters.specs.Sprint.{is_in_sprint, DifferInEmptySprint, HoldOneSprint, cost_in, sprint_cost, SettlesSprint}
 use Rattle.tracker_filters.proofs.Shapes.{cells_same}
 
 -- the cells of the first issues are settled, and the others stand
@@ -97,3 +97,15 @@ watched_sprint fs hs one other moment sprint v w differ hold settled kept = reco
     by n place f h found at false is =
         subst (CellIsRight other moment f h) (sym (settled.others n place h at is))
         (right_elsewhere one other h (condition_of f) moment _ _ (others_stand one other h sprint differ (hold place h at is)) (kept.right.each n place f h found at))
+
+-- a sprint that no issue is in decides nothing
+pub watched_beside : (fs : List Filter) (hs : List History) (one other : Surroundings) (moment : ℕ) (v : Views) → DifferInEmptySprint one other hs → AreWatched fs v hs one moment → AreWatched fs v hs other moment
+watched_beside fs hs one other moment v differ kept = record {
+  saved = kept.saved;
+  cells = kept.cells;
+  right = record {
+    each = λ n place f h found at.
+        let absent : IsNotIn h differ.sprint = subst (λ (x : History). IsNotIn x differ.sprint) (get_or_from_slice_get hs place h h at) (differ.empty place h (slice_get_within hs place h at)) in
+        right_elsewhere one other h (condition_of f) moment _ _ (others_stand one other h differ.sprint differ.differ absent) (kept.right.each n place f h found at);
+  };
+}

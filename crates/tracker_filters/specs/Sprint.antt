@@ -1,11 +1,12 @@
 -- Cells of the issues that are in one sprint.
 use Rattle.std.specs.Prelude.{ℕ, ◌≡◌, ◌+◌, ◌==◌, Bool, true, false, List, slice_get, Some, sum_by, if◌then◌else◌}
+use Rattle.std.specs.List.{All}
 use Rattle.field_values.specs.declared.numbers.TheConstants.FieldNo as number_of
 use Rattle.field_values.specs.declared.numbers.SprintNo.{SprintNo}
 use Rattle.field_values.specs.declared.value.Value.{Value}
 use Rattle.change_history.specs.History.{History, present}
 use Rattle.jql_meaning.specs.Surroundings.{Surroundings}
-use Rattle.jql_meaning.specs.Sprints.{IsNotIn}
+use Rattle.jql_meaning.specs.Sprints.{DifferInOneSprint, IsNotIn}
 use Rattle.filter_views.specs.Cell.{Views, cell_of}
 use Rattle.filter_views.specs.Views.{shape}
 use Rattle.tracker_filters.specs.declared.filter.Filter.{Filter}
@@ -25,6 +26,12 @@ is_in_sprint n h = is_sprint n (present h number_of.SPRINT)
 abbrev pub HoldOneSprint : List History → SprintNo → Type 0
 HoldOneSprint hs sprint =
     (place : ℕ) (h : History) → slice_get hs place ≡ Some h → is_in_sprint sprint.0 h ≡ false → IsNotIn h sprint
+
+-- what decides beside issues differs in one sprint, and no issue is in it
+pub record DifferInEmptySprint (one other : Surroundings) (hs : List History) : Type 0 where
+  pub sprint : SprintNo
+  pub differ : DifferInOneSprint one other sprint
+  pub empty : All (λ h. IsNotIn h sprint) hs
 
 -- the issues stand by their numbers from 1
 abbrev pub AreNumbered : List History → Type 0

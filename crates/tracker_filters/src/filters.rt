@@ -10,7 +10,7 @@ ghost use Rattle.rising_numbers.specs.ByNumber.{by_number, put_by_number, withou
 ghost use Rattle.tracker_filters.specs.Saved.{number, condition_of, by_owner, AreSaved, MayPut};
 ghost use Rattle.tracker_filters.specs.Watched.{HasFilterRoom, HasIssueRoom, AreWatched, histories_of, holders_from};
 ghost use Rattle.tracker_filters.specs.Ready.{AreVerdicts};
-ghost use Rattle.tracker_filters.specs.Sprint.{AreNumbered, HoldOneSprint, sprint_cost};
+ghost use Rattle.tracker_filters.specs.Sprint.{AreNumbered, DifferInEmptySprint, HoldOneSprint, sprint_cost};
 
 use crate::cells::{put_row, settle_filter, settle_issue};
 use crate::due::catch_up;
@@ -263,7 +263,15 @@ impl Filters {
         self.moment = Snapshot::of(&to);
     }
 
-    /// Sees that a sprint has come to another phase, or has come: each filter is asked once whether it holds of each issue in that
+    /// Sees that a sprint has come, which no issue is in: no filter is asked, and no cell changes. It takes no memory.
+    pub fn see_new_sprint(&mut self, context: &Context)
+        requires { DifferInEmptySprint self.old.around (surroundings_of context.now) self.old.histories }
+        ensures { self.new ≡ record self.old { around = surroundings_of context.now } }
+    {
+        self.around = Snapshot::of(context);
+    }
+
+    /// Sees that a sprint has come to another phase: each filter is asked once whether it holds of each issue in that
     /// sprint, and of no other issue. It takes no memory.
     pub fn see_sprint<L: Ledger>(
         &mut self,

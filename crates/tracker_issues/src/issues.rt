@@ -91,6 +91,13 @@ impl Issues {
         self.list.as_slice()
     }
 
+    /// The list of issues by place, lent.
+    pub fn as_vec(&self) -> &Vec<Issue>
+        ensures { result.now.items ≡ self.now.kept }
+    {
+        &self.list
+    }
+
     /// The issue at a place.
     pub fn get(&self, place: usize) -> Option<&Issue>
         ensures { option_copied result ≡ slice_get self.now.kept place }

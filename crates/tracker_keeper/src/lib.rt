@@ -29,6 +29,6 @@ pub use never_fails::NeverFails;
 pub use part::{Format, Part};
 pub use row::{Row, RowOp};
 pub use rows::{body_of, read_body};
-pub use written::{board_text, filter_text, present_text};
+pub use written::{board_text, filter_text, present_text, sprint_text};
 pub use written_history::group_text;
 pub use written_issue::{Created, issue_text};

@@ -74,7 +74,7 @@ fn put_pair(out: &mut BodyText, one: u64, other: u64) -> Result<(), Memory>
 
 /// The body of a sprint.
 #[tactic(auto, using(crate::proofs::Texts::whole))]
-pub(crate) fn sprint_text(alloc: Global, name: &str, state: &SprintState) -> Result<Text, Memory>
+pub fn sprint_text(alloc: Global, name: &str, state: &SprintState) -> Result<Text, Memory>
     ensures { IfOk result (λ text. text ≡ compact_text (sprint_data name.now state.now)) }
 {
     let mut out = BodyText::new(alloc)?;

@@ -1,9 +1,9 @@
-ghost use Rattle.std.specs.Prelude.{◌≡◌, IfOk, map};
+ghost use Rattle.std.specs.Prelude.{◌≡◌, ◌<◌, ◌-◌, ◌∷◌, ◌++◌, [], IfOk, OnOk, length, map, slice_set, vec_capacity};
 ghost use Rattle.fields.specs.SetupParts.{parts};
 ghost use Rattle.jql_meaning.specs.Surroundings.{surroundings_of};
 ghost use Rattle.tracker_machine.specs.Search.{surroundings_in};
 
-use fields::{Group, Memory, Sequence, Setup, UserNo};
+use fields::{Group, Memory, Sequence, Setup, SprintNo, UserNo};
 use jql_bound::{Context, Phase};
 use std::alloc::Global;
 
@@ -13,17 +13,55 @@ pub struct Setting {
     pub setup: Setup,
     /// What queries ask of beside issues.
     pub context: Context,
-    // The context is the setup's.
-    pub ghost agree: { surroundings_of context ≡ surroundings_in (parts setup) },
+    // The context is the setup's, but for the phases of sprints.
+    pub ghost agree: { surroundings_of context
+        ≡ record (surroundings_in (parts setup) []) { sprints = context.sprints.items } },
 }
 
 impl Setting {
-    /// The setup with its groups and its calendar as queries ask of them. There are no sprints yet.
+    /// The setup with its groups and its calendar as queries ask of them, and with no sprint.
     pub fn of(alloc: Global, setup: Setup) -> Result<Setting, Memory>
-        ensures { IfOk result (λ setting. setting.setup ≡ setup) }
+        ensures setup { IfOk result (λ setting. setting.setup ≡ setup) }
+        ensures sprints { IfOk result (λ setting. setting.context.sprints.items ≡ []) }
     {
         let context = context_with(alloc, &setup, Vec::new(alloc))?;
         Ok(Setting { setup, context })
+    }
+
+    /// Makes room for the phase of one more sprint, or leaves all but the room as it is.
+    pub fn reserve_phase(&mut self) -> Result<(), Memory>
+        ensures room { OnOk result (length self.new.context.sprints.items
+            < vec_capacity self.new.context.sprints) }
+        ensures setup { self.new.setup ≡ self.old.setup }
+        ensures context { surroundings_of self.new.context ≡ surroundings_of self.old.context }
+    {
+        self.context.sprints.reserve(1)?;
+        Ok(())
+    }
+
+    /// One more sprint has come, which is future. It takes no memory.
+    pub fn add_phase(&mut self)
+        requires { length self.old.context.sprints.items < vec_capacity self.old.context.sprints }
+        ensures setup { self.new.setup ≡ self.old.setup }
+        ensures context { surroundings_of self.new.context
+            ≡ record (surroundings_of self.old.context) {
+              sprints = self.old.context.sprints.items ++ Phase.Future ∷ [];
+            } }
+    {
+        self.context.sprints.push_reserved(Phase::Future);
+    }
+
+    /// A sprint that is there has come to this phase.
+    pub fn set_phase(&mut self, sprint: SprintNo, phase: Phase)
+        requires first { 0 < sprint.0 }
+        requires there { sprint.0 - 1 < length self.old.context.sprints.items }
+        ensures setup { self.new.setup ≡ self.old.setup }
+        ensures context { surroundings_of self.new.context
+            ≡ record (surroundings_of self.old.context) {
+              sprints = slice_set self.old.context.sprints.items (sprint.0 - 1) phase;
+            } }
+    {
+        self.context.sprints[sprint.0 as usize - 1] = phase;
     }
 }
 
@@ -31,7 +69,7 @@ impl Setting {
 #[tactic(auto, using(crate::proofs::Surrounding::members_in_order))]
 pub fn context_with(alloc: Global, setup: &Setup, sprints: Vec<Phase>) -> Result<Context, Memory>
     ensures { IfOk result (λ context. surroundings_of context
-        ≡ record (surroundings_in (parts setup.now)) { sprints = sprints.items }) }
+        ≡ record (surroundings_in (parts setup.now) []) { sprints = sprints.items }) }
 {
     let members = members_of(alloc, setup.group.as_slice())?;
     let calendar = setup.calendar().copy(alloc)?;
