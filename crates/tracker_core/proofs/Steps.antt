@@ -7,6 +7,7 @@ use Rattle.tracker_calls.specs.declared.reply.Refusal.{Refusal}
 use Rattle.tracker_calls.specs.declared.reply.Refusal.TheVariants as refusal
 use Rattle.tracker_calls.specs.declared.reply.Reply.TheVariants as reply
 use Rattle.tracker_machine.specs.Machine.{Machine}
+use Rattle.tracker_machine.specs.SprintRules.{sum_in_sprint}
 use Rattle.tracker_machine.specs.Meaning.{Meaning, IsDue, Performs, allowance}
 use Rattle.tracker_machine.specs.Meaning.Meaning.{Refuses, Tells, Finds, Makes}
 use Rattle.filter_views.specs.Cell.{FilterCells}
@@ -41,6 +42,9 @@ cost_adds s a (plans.Group new) same = omega (arith, many s same)
 cost_adds s a (plans.Rank new) same = omega arith
 cost_adds s a (plans.Balance balance) same = omega arith
 cost_adds s a (plans.Step moves) same = omega arith
+cost_adds s a (plans.Sprint name) same = omega arith
+cost_adds s a (plans.State sprint state) same =
+    omega (arith, ap (λ (n : ℕ). sum_in_sprint n sprint.0 s.machine.histories) (many s same))
 cost_adds s a (plans.Save ready) same = omega arith
 cost_adds s a (plans.DropFilter filter_no) same = omega arith
 cost_adds s a (plans.Board b) same = omega arith
@@ -71,6 +75,7 @@ due_is due (refusal.Condition k) other is = is (λ e. cc)
 due_is due (refusal.Validator k) other is = is (λ e. cc)
 due_is due (refusal.Unfit f) other is = is (λ e. cc)
 due_is due (refusal.Query k p) other is = is (λ e. cc)
+due_is due (refusal.SprintIs phase) other is = is (λ e. cc)
 due_is due (refusal.Limit l) other is = is (λ e. cc)
 due_is due (refusal.Earlier k) other is = is (λ e. cc)
 due_is due (refusal.NoRoom a b) other is = is (λ e. cc)

@@ -159,7 +159,7 @@ own_no_set (Some f) e = by_kind f.kind e where
   by_kind kind.Date is = cc
 
 -- the form by the conditions in their order
-abbrev form_told : (b1 b2 b3 b4 b5 b6 b7 b8 b9 : Bool) → Option Form → Option Form
+abbrev pub form_told : (b1 b2 b3 b4 b5 b6 b7 b8 b9 : Bool) → Option Form → Option Form
 form_told b1 b2 b3 b4 b5 b6 b7 b8 b9 o =
     if b1 then Some Choice else if b2 then Some (Line 255) else if b3 then Some (Prose 4096) else if b4 then Some User else if b5 then Some Set
     else if b6 then Some Labels else if b7 then Some Date else if b8 then Some Points else if b9 then Some Sprint else o
@@ -279,7 +279,7 @@ filled_bytes : (cs : List Change) → bytes_to (filled cs) ≤ bytes_to cs
 filled_bytes [] = omega arith
 filled_bytes (c ∷ cs) = kept_bytes (not (is_empty c.to)) c cs (filled cs) (filled_bytes cs)
 
-fit_behind : (names : Names) (cs ds : List Change) → AllFit names (cs ++ ds) → AllFit names cs × AllFit names ds
+pub fit_behind : (names : Names) (cs ds : List Change) → AllFit names (cs ++ ds) → AllFit names cs × AllFit names ds
 fit_behind names [] ds all = (tt, all)
 fit_behind names (c ∷ cs) ds all = let rest = fit_behind names cs ds all.1 in ((all.0, rest.0), rest.1)
 

@@ -12,6 +12,8 @@ use Rattle.tracker_calls.specs.declared.reply.Refusal.TheVariants as refusal
 use Rattle.tracker_calls.specs.declared.reply.Limit.TheVariants as limit
 use Rattle.tracker_machine.specs.Machine.{Machine}
 use Rattle.tracker_machine.specs.Saved.{board_number, MayMake}
+use Rattle.tracker_machine.specs.SprintRules.{MayMakeSprint}
+use Rattle.tracker_machine.specs.Sprints.{sprints_refusal, make_sprint_refusal}
 use Rattle.tracker_machine.specs.Checks.{or_then, unless_known, only_if, permission_refusal}
 use Rattle.tracker_machine.specs.Tracker.{IsTracker}
 use Rattle.tracker_machine.specs.Filters.{filter_numbered, unless_filter}
@@ -56,3 +58,12 @@ may_make m caller name filter_no is titled passed =
       free = (least_free board_number 1 m.boards is.saved.rising_boards).free;
       few = few;
     }
+
+-- a new sprint may come
+pub may_make_sprint : (m : Machine) (caller : ℕ) (name : List ℕ) → is_title name ≡ true → make_sprint_refusal m caller ≡ None
+    → MayMakeSprint m.sprints name
+may_make_sprint m caller name titled passed = record {
+  named = titled;
+  few = few_passes (length m.sprints) 1_000 (refusal.Limit limit.Sprints)
+      (later_passes (permission_refusal m caller permission.Plan None) (sprints_refusal m) passed);
+}

@@ -1,5 +1,5 @@
 -- What a call means that no check refuses.
-use Rattle.std.proofs.Common.{◌≡◌, ◌+◌, ℕ, List, [], ◌∷◌, false, Option, Some, None, refl, sym, subst, ◌∙◌}
+use Rattle.std.proofs.Common.{◌≡◌, ◌+◌, ℕ, List, [], ◌∷◌, false, Option, Some, None, unwrap_or, refl, sym, ap, subst, ◌∙◌}
 use Rattle.field_forms.specs.Names.{place_named}
 use Rattle.fields.specs.SetupParts.{names_in}
 use Rattle.fields.specs.Naming.{name_at}
@@ -19,6 +19,12 @@ use Rattle.tracker_keeper.specs.declared.row.RowOp.{RowOp}
 use Rattle.tracker_keeper.specs.declared.row.RowOp.TheVariants.{Put}
 use Rattle.tracker_machine.specs.Meaning.{Meaning, unless}
 use Rattle.tracker_machine.specs.Create.{create_wants, create_refusal, create_meaning, created, opened, filled, spelled_key}
+use Rattle.field_values.specs.declared.numbers.SprintNo.{SprintNo}
+use Rattle.sprints.specs.declared.state.SprintState.{SprintState}
+use Rattle.sprints.specs.declared.state.SprintState.TheVariants.{Future}
+use Rattle.sprints.specs.Sprint.{state_of}
+use Rattle.sprints.specs.State.{after_start, after_close}
+use Rattle.tracker_machine.specs.Sprints.{plan_sprint_refusal, start_sprint_meaning, close_sprint_meaning, turned}
 use Rattle.tracker_state.specs.State.{Held}
 use Rattle.tracker_state.specs.Plan.{IssueFits, IsReady, present_op, issue_row, rank_op}
 use Rattle.rank_strings.specs.Rank.{RankParts}
@@ -64,3 +70,21 @@ issue_ready m caller project changes rank s new change told ops same next ranked
       (subst (λ (h : History). MayOpen m h × IsNext m.order m.balance h.no rank) (sym is) (may, next)));
   fits = fits;
 }
+
+-- ---- sprints
+
+-- a sprint of this state, which the caller may plan, starts where it can
+pub start_turns : (m : Machine) (caller : ℕ) (sprint : SprintNo) (kept : SprintState) → state_of m.sprints sprint.0 ≡ Some kept
+    → plan_sprint_refusal m caller sprint ≡ None
+    → start_sprint_meaning m caller sprint ≡ turned sprint kept (after_start kept m.moment m.change)
+start_turns m caller sprint kept is passed =
+    unrefused (plan_sprint_refusal m caller sprint) _ passed
+    ∙ ap (λ (o : Option SprintState). turned sprint (unwrap_or o Future) (after_start (unwrap_or o Future) m.moment m.change)) is
+
+-- and is closed where it can be
+pub close_turns : (m : Machine) (caller : ℕ) (sprint : SprintNo) (kept : SprintState) → state_of m.sprints sprint.0 ≡ Some kept
+    → plan_sprint_refusal m caller sprint ≡ None
+    → close_sprint_meaning m caller sprint ≡ turned sprint kept (after_close kept m.moment m.change)
+close_turns m caller sprint kept is passed =
+    unrefused (plan_sprint_refusal m caller sprint) _ passed
+    ∙ ap (λ (o : Option SprintState). turned sprint (unwrap_or o Future) (after_close (unwrap_or o Future) m.moment m.change)) is

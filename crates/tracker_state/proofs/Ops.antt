@@ -1,8 +1,9 @@
 -- The operations that are prepared are those that keep the effect.
-use Rattle.std.proofs.Common.{◌≡◌, ◌+◌, ℕ, List, [], ◌∷◌, Bool, true, false, not, slice_get, Some, refl, ap, sym, subst, ◌∙◌, arith}
+use Rattle.std.proofs.Common.{◌≡◌, ◌+◌, ℕ, List, [], ◌∷◌, Bool, true, false, not, slice_get, Option, Some, None, option_map, refl, ap, sym, subst, ◌∙◌, arith}
 use Rattle.std.specs.Prelude.{if◌then◌else◌}
 use Rattle.std.specs.List.{All}
 use Rattle.std.specs.Option.{option_map_or}
+use Rattle.std.proofs.lemmas.Option.{none-some, same_Some}
 use Rattle.fields.specs.SetupParts.{names_in}
 use Rattle.field_values.specs.declared.value.Value.{Value}
 use Rattle.field_values.specs.declared.value.Value.TheVariants as value
@@ -12,27 +13,32 @@ use Rattle.change_history.specs.History.{History}
 use Rattle.field_values.specs.declared.numbers.BoardNo.{BoardNo}
 use Rattle.field_values.specs.declared.numbers.FilterNo.{FilterNo}
 use Rattle.field_values.specs.declared.numbers.IssueNo.{IssueNo}
+use Rattle.field_values.specs.declared.numbers.SprintNo.{SprintNo}
 use Rattle.field_values.specs.Parts.{Parts}
 use Rattle.rank_strings.specs.Rank.{RankParts}
 use Rattle.board.specs.declared.board.Board.{Board}
 use Rattle.rank_balancer.specs.declared.balance.Balance.{Balance}
 use Rattle.rank_balancer.specs.Step.{Move}
 use Rattle.tracker_ranks.specs.Ranked.{balance_moved}
+use Rattle.sprints.specs.declared.sprint.Sprint.{Sprint}
+use Rattle.sprints.specs.declared.state.SprintState.{SprintState}
+use Rattle.sprints.specs.Sprint.{future, sprint_of, name_of}
 use Rattle.tracker_keeper.specs.declared.row.RowOp.{RowOp}
 use Rattle.tracker_keeper.specs.declared.row.RowOp.TheVariants.{Put, Drop}
 use Rattle.tracker_keeper.specs.Bodies.{body_text}
 use Rattle.tracker_keeper.specs.Forms.{IsGroupEntry, is_small}
 use Rattle.tracker_keeper.specs.Kept.{IsPart}
 use Rattle.tracker_machine.specs.Machine.{Machine}
+use Rattle.tracker_machine.specs.Sprints.{next_sprint}
 use Rattle.tracker_machine.specs.Saved.{SavedFilter}
 use Rattle.workflow.specs.Same.{is_empty}
 use Rattle.tracker_machine.specs.Create.{filled}
 use Rattle.tracker_machine.specs.Tracker.{IsTracker, MayGroup, AreSmall}
 use Rattle.tracker_machine.specs.Effect.{IsAllowed, with_group}
-use Rattle.tracker_machine.specs.Effect.Effect.{NewMoment, NewIssue, NewGroup, NewRank, NewBalance, NewRanks, NewFilter, NoFilter, NewBoard, NoBoard}
-use Rattle.tracker_machine.specs.Kept.{present_part, group_part, rank_parts, put_parts, parts_of, drops_of, board_drops, ops_of}
+use Rattle.tracker_machine.specs.Effect.Effect.{NewMoment, NewIssue, NewGroup, NewRank, NewBalance, NewRanks, NewSprint, NewState, NewFilter, NoFilter, NewBoard, NoBoard}
+use Rattle.tracker_machine.specs.Kept.{present_part, group_part, rank_parts, sprint_part, put_parts, parts_of, drops_of, board_drops, ops_of}
 use Rattle.tracker_machine.proofs.Keepable.{parts_kept}
-use Rattle.tracker_state.specs.Plan.{present_op, issue_row, group_row, filter_op, board_op, rank_op, rank_ops}
+use Rattle.tracker_state.specs.Plan.{present_op, issue_row, group_row, sprint_op, filter_op, board_op, rank_op, rank_ops}
 
 pub moment_ops_are : (m : Machine) (to : ℕ) → present_op m.balance m.change to ∷ [] ≡ ops_of (NewMoment to) m
 unfolding ops_of parts_of body_text
@@ -69,6 +75,21 @@ unfolding ops_of parts_of body_text
 group_ops_are m place g h at =
     subst (λ o. present_op m.balance (m.change + 1) m.moment ∷ Put (group_row (names_in m.setup) h g) ∷ []
     ≡ put_parts m.setup (present_part (with_group m place g) ∷ option_map_or (λ i. group_part i g ∷ []) o [])) (sym at) refl
+
+pub sprint_ops_are : (m : Machine) (name : List ℕ) → sprint_op (next_sprint m) (future name) ∷ [] ≡ ops_of (NewSprint name) m
+unfolding ops_of parts_of body_text
+sprint_ops_are m name = refl
+
+-- the sprint of this name comes to another state
+pub state_ops_are : (m : Machine) (sprint : SprintNo) (state : SprintState) (name : List ℕ) → name_of m.sprints sprint.0 ≡ Some name
+    → sprint_op sprint (record { name = name; state = state }) ∷ [] ≡ ops_of (NewState sprint state) m
+unfolding ops_of parts_of body_text
+state_ops_are m sprint state name is = by (sprint_of m.sprints sprint.0) is
+  where
+    by : (o : Option Sprint) → option_map (λ s. s.name) o ≡ Some name
+        → sprint_op sprint (record { name = name; state = state }) ∷ [] ≡ put_parts m.setup (option_map_or (λ s. sprint_part sprint (record s { state = state }) ∷ []) o [])
+    by None none = absurd (none-some name none)
+    by (Some s) same = ap (λ n. sprint_op sprint (record { name = n; state = state }) ∷ []) (sym (same_Some s.name name same))
 
 pub save_ops_are : (m : Machine) (f : SavedFilter) → filter_op (names_in m.setup) f ∷ [] ≡ ops_of (NewFilter f) m
 unfolding ops_of parts_of body_text

@@ -76,6 +76,6 @@ shown_is m w caller f seen bound =
     let from = filter_map (browsed m f.owner.0 caller) in
     ap (λ hs. from (holders_from 1 w.around w.moment (condition_of f) hs)) seen.histories
     ∙ ap (λ (around : Surroundings). from (holders_from 1 around w.moment (condition_of f) m.histories)) seen.around
-    ∙ ap (λ moment. from (holders_from 1 (surroundings_in m.setup) moment (condition_of f) m.histories)) seen.moment
-    ∙ holders_picked owner_may caller_may m.histories (surroundings_in m.setup) m.moment (condition_of f) 1 [] m.histories refl refl
-    ∙ ap (λ (q : Query). filter (λ h. owner_may h && (caller_may h && query_holds (surroundings_in m.setup) h m.moment q.condition)) m.histories) (sym (query_is m.setup f bound))
+    ∙ ap (λ moment. from (holders_from 1 (surroundings_in m.setup m.sprints) moment (condition_of f) m.histories)) seen.moment
+    ∙ holders_picked owner_may caller_may m.histories (surroundings_in m.setup m.sprints) m.moment (condition_of f) 1 [] m.histories refl refl
+    ∙ ap (λ (q : Query). filter (λ h. owner_may h && (caller_may h && query_holds (surroundings_in m.setup m.sprints) h m.moment q.condition)) m.histories) (sym (query_is m.setup f bound))

@@ -15,11 +15,18 @@ use Rattle.rank_balancer.specs.declared.balance.Balance.{Balance}
 use Rattle.tracker_ranks.specs.Ranked.{IsNext}
 use Rattle.tracker_machine.specs.Machine.{Machine}
 use Rattle.tracker_machine.specs.Saved.{SavedFilter}
-use Rattle.tracker_machine.specs.Effect.{with_issue}
+use Rattle.tracker_machine.specs.Effect.{with_issue, longer}
+use Rattle.tracker_machine.specs.Search.{surroundings_in}
+use Rattle.tracker_machine.specs.SprintRules.{BringsSprints}
 use Rattle.fields.specs.Naming.{name_at}
 use Rattle.tracker_machine.specs.Checks.{entries_kept, bytes_kept, entry_bytes}
 use Rattle.jql_meaning.specs.Comparison.{project_of}
 use Rattle.tracker_machine.specs.Known.{project_keys, issues_of, next_key}
+use Rattle.jql_bound.specs.declared.context.Context.{Context}
+use Rattle.jql_meaning.specs.Surroundings.{surroundings_of}
+use Rattle.sprints.specs.declared.sprint.Sprint.{Sprint}
+use Rattle.tracker_work.specs.Seen.{Seen, with_histories}
+use Rattle.tracker_work.specs.Work.{TrackedWork}
 use Rattle.filter_views.specs.FilterRow.{HasNumber}
 use Rattle.tracker_filters.specs.Watched.{WatchedFilters}
 use Rattle.tracker_state.specs.State.{IsState, IsBound}
@@ -41,34 +48,41 @@ pub record See (before : WatchedFilters) (histories : List History) (moment : �
   pub now : seen.moment ≡ moment
 
 -- time moves on
-pub state_later : (m : Machine) (counts : List ℕ) (w seen : WatchedFilters) (now : ℕ) → IsState m counts w → m.moment ≤ now → now ≤ last_second
-    → See w w.histories now seen → seen.filters ≡ w.filters → IsState (record m { moment = now }) counts seen
-state_later m counts w seen now is later timely see same = record {
+pub state_later : (m : Machine) (counts : List ℕ) (w seen : WatchedFilters) (work : TrackedWork) (context : Context) (now : ℕ) → IsState m counts w work context
+    → m.moment ≤ now → now ≤ last_second → See w w.histories now seen → seen.filters ≡ w.filters → IsState (record m { moment = now }) counts seen work context
+state_later m counts w seen work context now is later timely see same = record {
   counted = is.counted;
   few_changes = is.few_changes;
   tracker = tracker_later m now later timely is.tracker;
   seen = record { histories = see.known ∙ is.seen.histories; around = see.beside ∙ is.seen.around; moment = see.now };
   bound = subst (All (IsBound m.setup)) (sym same) is.bound;
+  worked = is.worked;
+  around = is.around;
 }
 
 -- ranks, filters and boards become others
-pub state_beside : (m : Machine) (counts : List ℕ) (w seen : WatchedFilters) (order : List Pair) (balance : Balance) (filters : List SavedFilter) (boards : List Board) → IsState m counts w
-    → IsTracker (record m { order = order; balance = balance; filters = filters; boards = boards }) → See w w.histories w.moment seen → All (IsBound m.setup) seen.filters
-    → IsState (record m { order = order; balance = balance; filters = filters; boards = boards }) counts seen
-state_beside m counts w seen order balance filters boards is tracker see bound = record {
+pub state_beside : (m : Machine) (counts : List ℕ) (w seen : WatchedFilters) (work : TrackedWork) (context : Context) (order : List Pair) (balance : Balance) (filters : List SavedFilter) (boards : List Board)
+    → IsState m counts w work context → IsTracker (record m { order = order; balance = balance; filters = filters; boards = boards }) → See w w.histories w.moment seen → All (IsBound m.setup) seen.filters
+    → IsState (record m { order = order; balance = balance; filters = filters; boards = boards }) counts seen work context
+state_beside m counts w seen work context order balance filters boards is tracker see bound = record {
   counted = is.counted;
   few_changes = is.few_changes;
   tracker = tracker;
   seen = record { histories = see.known ∙ is.seen.histories; around = see.beside ∙ is.seen.around; moment = see.now ∙ is.seen.moment };
   bound = bound;
+  worked = is.worked;
+  around = is.around;
 }
 
+-- ---- an issue
+
 -- an issue comes, of the project at a place
-pub state_push : (m : Machine) (counts new : List ℕ) (w seen : WatchedFilters) (h : History) (rank : RankParts) (place : ℕ) → IsSound m.setup → IsState m counts w → MayOpen m h
-    → IsNext m.order m.balance h.no rank → place < length m.setup.project
+pub state_push : (m : Machine) (counts new : List ℕ) (w seen : WatchedFilters) (work told : TrackedWork) (context : Context) (h : History) (rank : RankParts) (place : ℕ) → IsSound m.setup → IsState m counts w work context
+    → MayOpen m h → IsNext m.order m.balance h.no rank → place < length m.setup.project
     → h.key ≡ next_key m (name_at (project_keys m.setup) place) → IfSome (slice_get counts place) (λ n. new ≡ set counts place (n + 1))
-    → See w (w.histories ++ h ∷ []) w.moment seen → seen.filters ≡ w.filters → IsState (with_issue m h rank) new seen
-state_push m counts new w seen h rank place sound is may next there key count see same =
+    → See w (w.histories ++ h ∷ []) w.moment seen → seen.filters ≡ w.filters → told.seen ≡ with_histories work.seen (m.histories ++ h ∷ [])
+    → IsState (with_issue m h rank) new seen told context
+state_push m counts new w seen work told context h rank place sound is may next there key count see same tells =
     let tracker = tracker_push m h rank is.tracker may next in
     let ps = m.setup.project in
     let hs = m.histories in
@@ -83,23 +97,47 @@ state_push m counts new w seen h rank place sound is may next there key count se
       tracker = tracker;
       seen = record { histories = see.known ∙ ap (λ (hs : List History). hs ++ h ∷ []) is.seen.histories; around = see.beside ∙ is.seen.around; moment = see.now ∙ is.seen.moment };
       bound = subst (All (IsBound m.setup)) (sym same) is.bound;
+      worked = tells ∙ ap (λ (seen : Seen). with_histories seen (m.histories ++ h ∷ [])) is.worked;
+      around = is.around;
     }
 
-pub state_add : (m : Machine) (counts : List ℕ) (w seen : WatchedFilters) (k : ℕ) (h : History) (author : UserNo) (es : List Entry) → IsState m counts w → slice_get m.histories k ≡ Some h
-    → MayAdd h (m.change + 1) m.moment author es → AllEntriesFit (names_in m.setup) es → AllSmall es → author.0 < length m.setup.users
+-- ---- a group
+
+pub state_add : (m : Machine) (counts : List ℕ) (w seen : WatchedFilters) (work told : TrackedWork) (context : Context) (k : ℕ) (h : History) (author : UserNo) (es : List Entry) → IsState m counts w work context
+    → slice_get m.histories k ≡ Some h → MayAdd h (m.change + 1) m.moment author es → AllEntriesFit (names_in m.setup) es → AllSmall es → BringsSprints (length m.sprints) es → author.0 < length m.setup.users
     → entries_kept m.histories + length es ≤ 2_000_000 → bytes_kept m.histories + sum_by entry_bytes es ≤ 500_000_000
-    → See w (set w.histories k (record h { entries = h.entries ++ es })) w.moment seen → seen.filters ≡ w.filters
-    → IsState (record m { change = m.change + 1; histories = set m.histories k (record h { entries = h.entries ++ es }) }) counts seen
-state_add m counts w seen k h author es is at may fit small user few light see same =
-    let new : History = record h { entries = h.entries ++ es } in
-    let tracker = tracker_add m k h author es is.tracker at may fit small user few light in
+    → See w (set w.histories k (longer h es)) w.moment seen → seen.filters ≡ w.filters → told.seen ≡ with_histories work.seen (set m.histories k (longer h es))
+    → IsState (record m { change = m.change + 1; histories = set m.histories k (longer h es) }) counts seen told context
+state_add m counts w seen work told context k h author es is at may fit small brings user few light see same tells =
+    let new : History = longer h es in
+    let tracker = tracker_add m k h author es is.tracker at may fit small brings user few light in
     record {
       counted = is.counted ∙ sym (counts_of-set m.setup.project m.histories k h new at refl);
       few_changes = omega (arith, tracker.numbered, tracker.few_issues, tracker.few_entries, few_groups (set m.histories k new));
       tracker = tracker;
       seen = record { histories = see.known ∙ ap (λ (hs : List History). set hs k new) is.seen.histories; around = see.beside ∙ is.seen.around; moment = see.now ∙ is.seen.moment };
       bound = subst (All (IsBound m.setup)) (sym same) is.bound;
+      worked = tells ∙ ap (λ (seen : Seen). with_histories seen (set m.histories k new)) is.worked;
+      around = is.around;
     }
+
+-- ---- sprints
+
+-- one is made, or comes to another state
+pub state_planned : (m : Machine) (counts : List ℕ) (w seen : WatchedFilters) (work told : TrackedWork) (context new : Context) (sprints : List Sprint) → IsState m counts w work context
+    → IsTracker (record m { sprints = sprints }) → seen.histories ≡ w.histories → seen.moment ≡ w.moment → seen.filters ≡ w.filters → seen.around ≡ surroundings_of new
+    → surroundings_of new ≡ surroundings_in m.setup sprints → told.seen ≡ record work.seen { sprints = sprints } → IsState (record m { sprints = sprints }) counts seen told new
+state_planned m counts w seen work told context new sprints is tracker histories moment filters beside around tells = record {
+  counted = is.counted;
+  few_changes = is.few_changes;
+  tracker = tracker;
+  seen = record { histories = histories ∙ is.seen.histories; around = beside ∙ around; moment = moment ∙ is.seen.moment };
+  bound = subst (All (IsBound m.setup)) (sym filters) is.bound;
+  worked = tells ∙ ap (λ (seen : Seen). record seen { sprints = sprints }) is.worked;
+  around = around;
+}
+
+-- ---- the issue of a group
 
 -- the issue that is found where entries were added
 pub grown_is : (kept new : List RoomyHistory) (k : ℕ) (i found : RoomyHistory) (es : List Entry) → k < length kept → slice_get kept k ≡ Some i
@@ -108,9 +146,9 @@ grown_is kept new k i found es in' at is there =
     some_is found (with_entries i es) (there ∙ ap (λ (xs : List RoomyHistory). slice_get xs k) (from_found (slice_get kept k) i (λ i. new ≡ set kept k (with_entries i es)) at is) ∙ set_here kept k (with_entries i es) in')
 
 -- it has the number of its place, of which there are verdicts
-pub numbered_there : (m : Machine) (counts : List ℕ) (w : WatchedFilters) (k : ℕ) (i found : RoomyHistory) (es : List Entry) → IsState m counts w → slice_get m.histories k ≡ Some i.history
+pub numbered_there : (m : Machine) (counts : List ℕ) (w : WatchedFilters) (work : TrackedWork) (context : Context) (k : ℕ) (i found : RoomyHistory) (es : List Entry) → IsState m counts w work context → slice_get m.histories k ≡ Some i.history
     → found ≡ with_entries i es → (found.history.no.0 ≡ 1 + k) × HasNumber found.history.no.0 (length w.histories)
-numbered_there m counts w k i found es is at same =
+numbered_there m counts w work context k i found es is at same =
     let number = number_at 1 m.histories k i.history is.tracker.numbers at in
     let own : found.history.no.0 ≡ i.history.no.0 = ap (λ (i : RoomyHistory). i.history.no.0) same in
     let many : length w.histories ≡ length m.histories = ap (λ (hs : List History). length hs) is.seen.histories in

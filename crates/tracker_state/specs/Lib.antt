@@ -5,3 +5,5 @@ pub mod Plan
 pub mod Resolved
 pub mod Wants
 pub mod Weight
+pub mod Sorting
+pub mod InSprints

@@ -10,20 +10,22 @@ use Rattle.board.specs.declared.board.Board.{Board}
 use Rattle.rank_balancer.specs.declared.balance.Balance.{Balance}
 use Rattle.rank_balancer.specs.Step.{Move}
 use Rattle.field_values.specs.declared.numbers.IssueNo.{IssueNo}
+use Rattle.field_values.specs.declared.numbers.SprintNo.{SprintNo}
 use Rattle.tracker_keeper.specs.declared.part.Format.TheVariants.{First}
 use Rattle.tracker_keeper.specs.declared.row.RowOp.{RowOp}
 use Rattle.tracker_keeper.specs.declared.row.Row.{Row}
 use Rattle.field_forms.specs.Known.{Names}
+use Rattle.change_history.specs.declared.entry.Entry.{Entry}
 use Rattle.change_history.specs.declared.entry.Group.{Group}
 use Rattle.change_history.specs.History.{History}
 use Rattle.tracker_keeper.specs.declared.row.RowOp.TheVariants.{Put}
-use Rattle.tracker_keeper.specs.Bodies.{present_data, board_data, body_text}
+use Rattle.tracker_keeper.specs.Bodies.{present_data, sprint_data, board_data, body_text}
 use Rattle.fields.specs.Naming.{name_at}
 use Rattle.tracker_machine.specs.Known.{project_keys, next_key}
 use Rattle.tracker_machine.specs.Checks.{history_bytes, entry_bytes}
 use Rattle.tracker_machine.specs.Machine.{Machine}
 use Rattle.tracker_machine.specs.Effect.{Effect, IsAllowed}
-use Rattle.tracker_machine.specs.Effect.Effect.{NewMoment, NewIssue, NewGroup, NewRank, NewBalance, NewRanks, NewFilter, NoFilter, NewBoard, NoBoard}
+use Rattle.tracker_machine.specs.Effect.Effect.{NewMoment, NewIssue, NewGroup, NewRank, NewBalance, NewRanks, NewSprint, NewState, NewFilter, NoFilter, NewBoard, NoBoard}
 use Rattle.tracker_machine.specs.Meaning.{Meaning}
 use Rattle.tracker_machine.specs.Kept.{issue_part, group_part, filter_part, ops_of}
 use Rattle.tracker_machine.specs.Saved.{SavedFilter}
@@ -44,7 +46,12 @@ use Rattle.tracker_filters.specs.declared.ready.ReadyFilter.{ReadyFilter}
 use Rattle.tracker_filters.specs.Saved.{number, condition_of}
 use Rattle.tracker_filters.specs.Watched.{HasFilterRoom, HasIssueRoom}
 use Rattle.tracker_filters.specs.Ready.{AreVerdicts}
-use Rattle.tracker_state.specs.State.{Held, IsBound, saved_as}
+use Rattle.sprints.specs.declared.sprint.Sprint.{Sprint}
+use Rattle.burndown.specs.ChartLaws.{with_entries}
+use Rattle.tracker_work.specs.Seen.{share_now}
+use Rattle.tracker_work.specs.Work.{HasRoomFor}
+use Rattle.tracker_machine.specs.SprintRules.{sum_in_sprint}
+use Rattle.tracker_state.specs.State.{Held, HasSprintRoom, IsBound, saved_as}
 
 abbrev pub effect_of : Plan → Effect
 effect_of (plans.Moment to) = NewMoment to
@@ -53,6 +60,8 @@ effect_of (plans.Group new) = NewGroup new.place new.group
 effect_of (plans.Rank new) = NewRank new.issue new.rank
 effect_of (plans.Balance balance) = NewBalance balance
 effect_of (plans.Step moves) = NewRanks moves
+effect_of (plans.Sprint name) = NewSprint name
+effect_of (plans.State sprint state) = NewState sprint state
 effect_of (plans.Save ready) = NewFilter (saved_as ready.filter)
 effect_of (plans.DropFilter filter_no) = NoFilter filter_no
 effect_of (plans.Board b) = NewBoard b
@@ -72,11 +81,18 @@ pub record IssueFits (s : Held) (new : IssuePlan) : Type 0 where
   pub there : new.project.0 < length s.machine.setup.project
   pub next : new.issue.history.key ≡ next_key s.machine (name_at (project_keys s.machine.setup) new.project.0)
   pub bytes : new.bytes ≡ history_bytes new.issue.history
+  pub rows_room : HasRoomFor s.work (share_now s.work.seen new.issue.history).sprint
+
+-- there is room for a row of the sprint that the issue is in, and of the one that these entries put it in
+pub record HasRowsRoom (s : Held) (h : History) (entries : List Entry) : Type 0 where
+  pub before : HasRoomFor s.work (share_now s.work.seen h).sprint
+  pub after : HasRoomFor s.work (share_now s.work.seen (with_entries h entries)).sprint
 
 -- the same of a group
 pub record GroupFits (s : Held) (new : GroupPlan) : Type 0 where
   pub room : IfSome (slice_get s.rooms new.place) (λ room. length new.group.entries ≤ room)
   pub bytes : new.bytes ≡ sum_by entry_bytes new.group.entries
+  pub rows_room : IfSome (slice_get s.machine.histories new.place) (λ h. HasRowsRoom s h new.group.entries)
 
 -- there is room for the filter, it asks for what its text asks for, and its verdicts are right
 pub record FilterFits (s : Held) (ready : ReadyFilter) : Type 0 where
@@ -92,17 +108,20 @@ Fits s (plans.Group new) = GroupFits s new
 Fits s (plans.Rank new) = Unit {0}
 Fits s (plans.Balance balance) = Unit {0}
 Fits s (plans.Step moves) = Unit {0}
+Fits s (plans.Sprint name) = HasSprintRoom s
+Fits s (plans.State sprint state) = Unit {0}
 Fits s (plans.Save ready) = FilterFits s ready
 Fits s (plans.DropFilter filter_no) = Unit {0}
 Fits s (plans.Board b) = length s.machine.boards < s.boards_room
 Fits s (plans.DropBoard board_no) = Unit {0}
 
 -- how often it is asked whether a query holds of an issue as the plan is carried out: by each filter of a new or a changed issue, and
--- for each verdict that has come to its end
+-- of each issue in a sprint that starts or is closed, and for each verdict that has come to its end
 abbrev pub cost_of : Plan → Held → ℕ
 cost_of (plans.Moment to) s = due s.watched.views to
 cost_of (plans.Issue new) s = length s.watched.filters
 cost_of (plans.Group new) s = length s.watched.filters
+cost_of (plans.State sprint state) s = sum_in_sprint (length s.watched.filters) sprint.0 s.machine.histories
 cost_of _ s = 0
 
 -- and how often at most as a call is prepared: by a search, and by a filter that is saved
@@ -129,6 +148,10 @@ filter_op names f = Put (record { kind = 8; no = f.no.0; body = body_text names 
 
 abbrev pub board_op : Board → RowOp
 board_op b = Put (record { kind = 9; no = b.no.0; body = compact_text (board_data b.filter.0 b.name) })
+
+-- the operation that keeps a sprint
+abbrev pub sprint_op : SprintNo → Sprint → RowOp
+sprint_op sprint_no sprint = Put (record { kind = 7; no = sprint_no.0; body = compact_text (sprint_data sprint.name sprint.state) })
 
 -- the operation that keeps an issue's rank
 abbrev pub rank_op : IssueNo → RankParts → RowOp

@@ -44,10 +44,10 @@ pub record IsResolved (fields : List Field) (set : List GivenField) (names : Lis
 
 -- ---- names that are refused
 
--- a name is a field's; and where it is the sprint field's, no sprint is given, for there is none yet
+-- a name is a field's, and where it is the sprint field's, no sprint is missing
 abbrev pub refusal_of : Option ℕ → NamedField → Option Refusal
-refusal_of sprint (name, None) = Some (refusal.Unknown thing.Field name)
-refusal_of sprint (name, Some n) = if n == number.SPRINT.0 then sprint_refusal sprint else None
+refusal_of missing (name, None) = Some (refusal.Unknown thing.Field name)
+refusal_of missing (name, Some n) = if n == number.SPRINT.0 then sprint_refusal missing else None
 
 -- of one that was found before, if there is one, and another the one that comes first in byte order
 abbrev pub sooner_of : Option NamedField → NamedField → NamedField
@@ -55,9 +55,10 @@ sooner_of None named = named
 sooner_of (Some found) named = if is_before named.0 found.0 then named else found
 
 abbrev pub found_with : Option ℕ → Option NamedField → NamedField → Option NamedField
-found_with sprint found named = if is_some (refusal_of sprint named) then Some (sooner_of found named) else found
+found_with missing found named =
+    if is_some (refusal_of missing named) then Some (sooner_of found named) else found
 
 -- the first that is refused, and one that may be found before
 abbrev pub first_of : Option ℕ → Option NamedField → List NamedField → Option NamedField
-first_of sprint found [] = found
-first_of sprint found (named ∷ more) = first_of sprint (found_with sprint found named) more
+first_of missing found [] = found
+first_of missing found (named ∷ more) = first_of missing (found_with missing found named) more

@@ -1,13 +1,16 @@
 -- What the state keeps, and what holds of it.
-use Rattle.std.specs.Prelude.{◌≡◌, ◌≤◌, ℕ, List, Ok, map}
+use Rattle.std.specs.Prelude.{◌≡◌, ◌≤◌, ◌<◌, ℕ, List, Ok, map, length}
 use Rattle.std.specs.List.{All}
 use Rattle.fields.specs.declared.setup.Setup.{Setup}
 use Rattle.fields.specs.SetupParts.{parts}
 use Rattle.field_values.specs.Parts.{Parts}
+use Rattle.jql_bound.specs.declared.context.Context.{Context}
+use Rattle.jql_meaning.specs.Surroundings.{surroundings_of}
 use Rattle.tracker_machine.specs.Machine.{Machine}
 use Rattle.tracker_machine.specs.Query.{asked}
 use Rattle.tracker_machine.specs.Saved.{SavedFilter}
 use Rattle.tracker_machine.specs.Search.{surroundings_in}
+use Rattle.tracker_machine.specs.Sprints.{work_of}
 use Rattle.tracker_machine.specs.Tracker.{IsTracker}
 use Rattle.tracker_state.specs.Found.{query_of}
 use Rattle.tracker_issues.specs.Counts.{counts_of}
@@ -16,6 +19,7 @@ use Rattle.tracker_ranks.specs.Ranked.{OrderedIssues}
 use Rattle.tracker_filters.specs.declared.filter.Filter.{Filter}
 use Rattle.tracker_filters.specs.Watched.{WatchedFilters}
 use Rattle.tracker_boards.specs.Boards.{BoardList}
+use Rattle.tracker_work.specs.Work.{TrackedWork, HasRoomForSprint}
 
 -- a filter as the abstract tracker has it
 abbrev pub saved_as : Filter → SavedFilter
@@ -25,12 +29,13 @@ abbrev pub saved_filters : List Filter → List SavedFilter
 saved_filters filters = map saved_as filters
 
 -- the abstract tracker's state that the parts of a state are
-abbrev pub machine_of : Setup → ℕ → ℕ → Shelf → OrderedIssues → WatchedFilters → BoardList → Machine
-machine_of setup moment change issues ranks watched boards = record {
+abbrev pub machine_of : Setup → ℕ → ℕ → Shelf → OrderedIssues → WatchedFilters → BoardList → TrackedWork → Machine
+machine_of setup moment change issues ranks watched boards work = record {
   text = setup.text;
   setup = parts setup;
   moment = moment;
   change = change;
+  sprints = work.seen.sprints;
   histories = map (λ i. i.history) issues.kept;
   order = ranks.order;
   balance = ranks.balance;
@@ -39,7 +44,8 @@ machine_of setup moment change issues ranks watched boards = record {
 }
 
 -- the abstract tracker's state; how many issues there is room for, up to how many issues may have ranks, and for how many
--- entries there is room, issue by issue; the filters with their verdicts; and for how many boards there is room
+-- entries there is room, issue by issue; the filters with their verdicts; for how many boards there is room; the sprints with what
+-- remains of them; and of how many sprints the phases have room where queries ask for them
 pub record Held : Type 0 where
   pub machine : Machine
   pub room : ℕ
@@ -47,6 +53,13 @@ pub record Held : Type 0 where
   pub rooms : List ℕ
   pub watched : WatchedFilters
   pub boards_room : ℕ
+  pub work : TrackedWork
+  pub phases_room : ℕ
+
+-- there is room for one more sprint
+pub record HasSprintRoom (s : Held) : Type 0 where
+  pub work : HasRoomForSprint s.work
+  pub phases : length s.machine.sprints < s.phases_room
 
 -- the filter asks for what its text asks for when its owner asks it
 abbrev pub IsBound : Parts → Filter → Type 0
@@ -55,13 +68,16 @@ IsBound setup f = asked setup f.owner.0 f.text ≡ Ok (query_of f.query)
 -- the filters have seen the tracker as it is
 pub record HaveSeen (m : Machine) (w : WatchedFilters) : Type 0 where
   pub histories : w.histories ≡ m.histories
-  pub around : w.around ≡ surroundings_in m.setup
+  pub around : w.around ≡ surroundings_in m.setup m.sprints
   pub moment : w.moment ≡ m.moment
 
--- what the state keeps true of itself, where it counts so many issues of each project
-pub record IsState (m : Machine) (counts : List ℕ) (w : WatchedFilters) : Type 0 where
+-- what the state keeps true of itself, where it counts so many issues of each project, and has these filters, what remains of sprints,
+-- and what queries ask of beside issues
+pub record IsState (m : Machine) (counts : List ℕ) (w : WatchedFilters) (work : TrackedWork) (context : Context) : Type 0 where
   pub counted : counts ≡ counts_of m.setup.project m.histories
   pub few_changes : m.change ≤ 2_050_000
   pub tracker : IsTracker m
   pub seen : HaveSeen m w
   pub bound : All (IsBound m.setup) w.filters
+  pub worked : work.seen ≡ work_of m
+  pub around : surroundings_of context ≡ surroundings_in m.setup m.sprints

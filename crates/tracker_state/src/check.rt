@@ -7,26 +7,33 @@ ghost use Rattle.workflow.specs.Laws.{AllFit};
 ghost use Rattle.fields.specs.Naming.{name_at, field_name};
 ghost use Rattle.tracker_machine.specs.Known.{project_keys, place_of_issue};
 ghost use Rattle.tracker_machine.specs.Wanted.{changes_of};
-ghost use Rattle.tracker_machine.specs.Checks.{unless_known, names_refusal, permission_refusal, issues_refusal, entries_refusal, bytes_refusal, values_refusal, entries_kept, bytes_kept};
+ghost use Rattle.tracker_machine.specs.Checks.{unless_known, set_refusal, permission_refusal, sprint_closed_refusal, closed_refusal, issues_refusal, entries_refusal, bytes_refusal, values_refusal, entries_kept, bytes_kept};
+ghost use Rattle.tracker_machine.specs.SprintRules.{is_closed};
 ghost use Rattle.rising_numbers.specs.ByNumber.{by_number};
 ghost use Rattle.tracker_filters.specs.Saved.{number};
 ghost use Rattle.tracker_machine.specs.Access.{access_refusal};
 ghost use Rattle.tracker_machine.specs.Filters.{filter_numbered, unless_filter};
 ghost use Rattle.tracker_machine.specs.Boards.{board_numbered, unless_board};
+ghost use Rattle.tracker_machine.specs.Sprints.{unless_sprint};
+ghost use Rattle.sprints.specs.Sprint.{state_of};
 ghost use Rattle.tracker_machine.specs.Transition.{transition_names};
+ghost use Rattle.tracker_work.specs.Seen.{state_in};
 ghost use Rattle.tracker_state.specs.Check.{Checks, IsRefusal};
+ghost use Rattle.tracker_state.specs.InSprints.{GivesKnownSprint, AreOfSprints};
 ghost use Rattle.tracker_state.specs.State.{saved_as};
 ghost use Rattle.tracker_state.specs.Wants.{wants_of, unknown_name_refusal};
 
-use crate::names::{UnknownName, first_unknown_name};
+use crate::in_sprint::is_in;
+use crate::names::{UnknownName, first_unknown_name, missing_sprint, sprint_given};
 use crate::resolved::ResolvedSet;
 use crate::state::State;
 use crate::wants::{Opening, Outcome, outcome_of_all};
 use board::Board;
-use change_history::Change;
-use fields::{BoardNo, FieldNo, FilterNo, Permission, ProjectNo, Text, UserNo};
+use change_history::{Change, Issue};
+use fields::{BoardNo, FieldNo, FilterNo, Permission, ProjectNo, SprintNo, Text, UserNo};
+use sprints::SprintState;
 use std::alloc::Global;
-use tracker_calls::{Limit, Refusal, Thing};
+use tracker_calls::{Limit, Refusal, SprintPhase, Thing};
 use tracker_filters::Filter;
 use workflow::project_number;
 
@@ -121,6 +128,17 @@ pub fn known_board(alloc: Global, state: &State, no: BoardNo) -> Result<&Board, 
     }
 }
 
+/// The state of the sprint of that number.
+pub fn known_sprint(alloc: Global, state: &State, no: SprintNo) -> Result<SprintState, Refusal>
+    ensures kept { IfOk result (λ kept. state_of state.now.machine.sprints no.0 ≡ Some kept) }
+    ensures check { Checks (unless_sprint state.now.machine no) result }
+{
+    match state.work().state(no) {
+        Some(kept) => Ok(kept),
+        None => Err(unnumbered(alloc, Thing::Sprint, no.0)),
+    }
+}
+
 /// The place of the transition of that name.
 pub fn known_transition(alloc: Global, state: &State, name: &str) -> Result<usize, Refusal>
     ensures place { IfOk result (λ place. place_named name.now (transition_names state.now.machine.setup) ≡ Some place) }
@@ -143,11 +161,14 @@ fn unknown_named(alloc: Global, name: UnknownName<'_>) -> Refusal
     }
 }
 
-/// Each name in `set` stands for something.
-pub fn check_set(alloc: Global, set: &ResolvedSet<'_>) -> Result<(), Refusal>
-    ensures { Checks (names_refusal set.now.setup.field set.now.set) result }
+/// Each name in `set` stands for something, the sprint into which it puts an issue too.
+pub fn check_set(alloc: Global, state: &State, set: &ResolvedSet<'_>) -> Result<(), Refusal>
+    requires { set.now.setup ≡ state.now.machine.setup }
+    ensures known { IfOk result (λ u. GivesKnownSprint state.now.machine set.now.set) }
+    ensures check { Checks (set_refusal state.now.machine set.now.set) result }
 {
-    match first_unknown_name(set) {
+    let missing = missing_sprint(sprint_given(set), state.work());
+    match first_unknown_name(set, missing) {
         Some(name) => Err(unknown_named(alloc, name)),
         None => Ok(()),
     }
@@ -216,6 +237,45 @@ pub fn check_access(
     )
 }
 
+// Whether the sprint is closed.
+fn is_closed(state: &State, sprint: u32) -> bool
+    ensures { result ≡ is_closed (state_in state.now.machine.sprints sprint) }
+{
+    match state.work().state(SprintNo(sprint)) {
+        Some(SprintState::Closed { .. }) => true,
+        _ => false,
+    }
+}
+
+// That sprint isn't closed, unless the issue is in it already.
+fn check_sprint(state: &State, sprint: u32, issue: Option<&Issue>) -> Result<(), Refusal>
+    ensures { Checks (sprint_closed_refusal state.now.machine.sprints
+        (option_map (λ i. i.now.history) issue.entry) sprint) result }
+{
+    if is_closed(state, sprint) && !is_in(issue, sprint) {
+        return Err(Refusal::SprintIs {
+            state: SprintPhase::Closed,
+        });
+    }
+    Ok(())
+}
+
+/// The sprint into which `set` puts an issue, if it does, isn't closed, unless the issue is in it already.
+pub fn check_closed(
+    state: &State,
+    set: &ResolvedSet<'_>,
+    issue: Option<&Issue>,
+) -> Result<(), Refusal>
+    requires { set.now.setup ≡ state.now.machine.setup }
+    ensures { Checks (closed_refusal state.now.machine set.now.set
+        (option_map (λ i. i.now.history) issue.entry)) result }
+{
+    match sprint_given(set) {
+        Some(sprint) => check_sprint(state, sprint, issue),
+        None => Ok(()),
+    }
+}
+
 /// There is room for one more issue.
 pub fn check_issues(state: &State) -> Result<(), Refusal>
     ensures few { IfOk result (λ u. length state.now.machine.histories < 50_000) }
@@ -273,10 +333,13 @@ pub fn known_values(
     set: &ResolvedSet<'_>,
     opening: Option<Opening<'_>>,
 ) -> Result<Vec<Change>, Refusal>
-    requires { set.now.setup ≡ state.now.machine.setup }
+    requires setup { set.now.setup ≡ state.now.machine.setup }
+    requires known { GivesKnownSprint state.now.machine set.now.set }
     ensures changes { IfOk result (λ changes. changes.items
         ≡ changes_of (names_in state.now.machine.setup) (wants_of state.now.machine.setup set.now.set opening.entry)) }
     ensures fitting { IfOk result (λ changes. AllFit (names_in state.now.machine.setup) changes.items) }
+    ensures sprints { IfOk result (λ changes.
+        AreOfSprints (length state.now.machine.sprints) changes.items) }
     ensures check { Checks (values_refusal state.now.machine (wants_of state.now.machine.setup set.now.set opening.entry)) result }
 {
     let Ok(outcome) = outcome_of_all(alloc, set, opening) else {

@@ -1,5 +1,5 @@
 // The call `create`: a new issue of a project.
-ghost use Rattle.std.specs.Prelude.{◌≡◌, ◌<◌, ◌≤◌, ◌+◌, ◌∷◌, [], Ok, length, string_bytes, IfOk, Some, true, false};
+ghost use Rattle.std.specs.Prelude.{◌≡◌, ◌<◌, ◌≤◌, ◌+◌, ◌∷◌, [], Ok, length, string_bytes, IfOk, OnOk, Some, true, false};
 ghost use Rattle.field_forms.specs.Names.{place_named};
 ghost use Rattle.fields.specs.SetupParts.{names_in};
 ghost use Rattle.workflow.specs.Laws.{AllFit};
@@ -11,13 +11,18 @@ ghost use Rattle.tracker_machine.specs.Known.{project_keys, next_key};
 ghost use Rattle.tracker_machine.specs.Wanted.{changes_of};
 ghost use Rattle.tracker_state.specs.Check.{Checks, room_refusal};
 ghost use Rattle.tracker_state.specs.Plan.{IsPrepared, issue_row, present_op, rank_op};
+ghost use Rattle.tracker_filters.specs.Watched.{HasIssueRoom};
+ghost use Rattle.tracker_work.specs.Seen.{share_now};
+ghost use Rattle.tracker_work.specs.Work.{HasRoomFor};
+ghost use Rattle.tracker_state.specs.InSprints.{AreOfSprints};
 ghost use Rattle.tracker_state.specs.Weight.{AreLight};
 ghost use Rattle.change_history.specs.History.{opening_value};
 ghost use Rattle.tracker_keeper.specs.Forms.{are_opening};
 ghost use Rattle.tracker_machine.specs.Tracker.{AreNamed, AreSmall};
 
 use crate::check::{
-    check_bytes, check_issues, check_permission, check_set, known_project, known_values,
+    check_bytes, check_closed, check_issues, check_permission, check_set, known_project,
+    known_values,
 };
 use crate::empty::is_empty;
 use crate::no_room::refusal_of;
@@ -82,6 +87,7 @@ fn check_create(
     ensures changes { IfOk result (λ r. r.1.items ≡ changes_of (names_in state.now.machine.setup)
         (create_wants state.now.machine.setup opening.entry.caller.0 opening.entry.issue_type.now opening.entry.summary.now set.now.set)) }
     ensures fitting { IfOk result (λ r. AllFit (names_in state.now.machine.setup) r.1.items) }
+    ensures sprints { IfOk result (λ r. AreOfSprints (length state.now.machine.sprints) r.1.items) }
     ensures named { IfOk result (λ r. AreNamed (opening_value (filled r.1.items))) }
     ensures listed { IfOk result (λ r. AreSmall (filled r.1.items) → are_opening (names_in state.now.machine.setup) (filled r.1.items) ≡ true) }
     ensures few { IfOk result (λ r. length state.now.machine.histories < 50_000) }
@@ -90,7 +96,7 @@ fn check_create(
 {
     fitting_is_light(state.setup());
     let place = known_project(alloc, state, project)?;
-    check_set(alloc, set)?;
+    check_set(alloc, state, set)?;
     check_permission(
         alloc,
         state,
@@ -105,6 +111,7 @@ fn check_create(
         Permission::Create,
         Some(place),
     )?;
+    check_closed(state, set, None)?;
     check_issues(state)?;
     check_bytes(state)?;
     let changes = known_values(alloc, state, set, Some(opening))?;
@@ -126,6 +133,7 @@ fn place_last(
     requires author { caller.0 < length state.old.machine.setup.users }
     requires named { AreNamed (opening_value (filled changes.items)) }
     requires fitting { AllFit (names_in state.old.machine.setup) changes.items }
+    requires sprints { AreOfSprints (length state.old.machine.sprints) changes.items }
     requires listed { AreSmall (filled changes.items) → are_opening (names_in state.old.machine.setup) (filled changes.items) ≡ true }
     ensures same { state.new.machine ≡ state.old.machine }
     ensures table { state.new.watched.views.table ≡ state.old.watched.views.table }
@@ -167,6 +175,7 @@ fn open(
     requires author { caller.0 < length state.old.machine.setup.users }
     requires named { AreNamed (opening_value (filled changes.items)) }
     requires fitting { AllFit (names_in state.old.machine.setup) changes.items }
+    requires sprints { AreOfSprints (length state.old.machine.sprints) changes.items }
     requires listed { AreSmall (filled changes.items) → are_opening (names_in state.old.machine.setup) (filled changes.items) ≡ true }
     ensures same { state.new.machine ≡ state.old.machine }
     ensures table { state.new.watched.views.table ≡ state.old.watched.views.table }
@@ -183,7 +192,7 @@ fn open(
     let Ok(told) = Text::copy_of(alloc, new.key.as_str()) else {
         return Err(Refusal::Memory);
     };
-    let Ok(()) = state.reserve_issue() else {
+    let Ok(()) = reserve(state, &new.issue) else {
         return Err(Refusal::Memory);
     };
     let answer = Answer::Create {
@@ -196,6 +205,22 @@ fn open(
         answer,
         rows,
     })
+}
+
+// Makes room for the issue, its rank and its verdicts, and for a row of the sprint that it is in.
+fn reserve(state: &mut State, issue: &Issue) -> Result<(), Memory>
+    ensures machine { state.new.machine ≡ state.old.machine }
+    ensures room { OnOk result (1 ≤ state.new.room) }
+    ensures ranks { OnOk result (length state.new.machine.order < state.new.ranks_room) }
+    ensures cells { OnOk result (HasIssueRoom state.new.watched) }
+    ensures rows { OnOk result (HasRoomFor state.new.work
+        (share_now state.new.work.seen issue.now.history).sprint) }
+    ensures table { state.new.watched.views.table ≡ state.old.watched.views.table }
+    ensures filters { state.new.watched.filters ≡ state.old.watched.filters }
+{
+    let sprint = state.work().share(issue).sprint;
+    state.reserve_rows(None, sprint)?;
+    state.reserve_issue()
 }
 
 // The operations that keep a new issue and its rank.

@@ -1,5 +1,5 @@
 // The call `edit`: fields of an issue become other values, as one change group.
-ghost use Rattle.std.specs.Prelude.{◌≡◌, ◌<◌, ◌≤◌, length, slice_get, IfOk, IfSome, Some};
+ghost use Rattle.std.specs.Prelude.{◌≡◌, ◌<◌, ◌≤◌, ℕ, length, slice_get, IfOk, IfSome, Some};
 ghost use Rattle.change_history.specs.History.{present};
 ghost use Rattle.field_forms.specs.Known.{Names};
 ghost use Rattle.fields.specs.SetupParts.{names_in};
@@ -11,10 +11,11 @@ ghost use Rattle.tracker_machine.specs.Edit.{edit_refusal, edit_answer, edit_mea
 ghost use Rattle.tracker_machine.specs.Group.{grouped};
 ghost use Rattle.tracker_machine.specs.Known.{place_of_issue};
 ghost use Rattle.tracker_state.specs.Check.{Checks};
+ghost use Rattle.tracker_state.specs.InSprints.{AreOfSprints};
 ghost use Rattle.tracker_state.specs.Plan.{IsPrepared};
 
 use crate::check::{
-    check_access, check_bytes, check_entries, check_set, known_issue, known_values,
+    check_access, check_bytes, check_closed, check_entries, check_set, known_issue, known_values,
 };
 use crate::group::{GroupCall, grouped};
 use crate::plan::Prepared;
@@ -65,13 +66,15 @@ fn check_edit(
     ensures there { IfOk result (λ r. r.0 < length state.now.machine.histories) }
     ensures changes { IfOk result (λ r. r.1.items ≡ set_changes state.now.machine set.now.set) }
     ensures fitting { IfOk result (λ r. AllFit (names_in state.now.machine.setup) r.1.items) }
+    ensures sprints { IfOk result (λ r. AreOfSprints (length state.now.machine.sprints) r.1.items) }
     ensures few { IfOk result (λ r. entries_kept state.now.machine.histories ≤ 1_999_957) }
     ensures light { IfOk result (λ r. bytes_kept state.now.machine.histories ≤ 499_800_000) }
 {
     let place = known_issue(alloc, state, issue)?;
-    check_set(alloc, set)?;
+    check_set(alloc, state, set)?;
     check_access(alloc, state, caller, Permission::Browse, place)?;
     check_access(alloc, state, caller, Permission::Edit, place)?;
+    check_closed(state, set, state.issue_at(place))?;
     check_entries(state)?;
     check_bytes(state)?;
     let changes = known_values(alloc, state, set, None)?;
@@ -92,6 +95,7 @@ fn change(
     requires few { entries_kept state.old.machine.histories ≤ 1_999_957 }
     requires light { bytes_kept state.old.machine.histories ≤ 499_800_000 }
     requires fitting { AllFit (names_in state.old.machine.setup) changes.items }
+    requires sprints { AreOfSprints (length state.old.machine.sprints) changes.items }
     ensures same { state.new.machine ≡ state.old.machine }
     ensures table { state.new.watched.views.table ≡ state.old.watched.views.table }
     ensures filters { state.new.watched.filters ≡ state.old.watched.filters }
@@ -113,9 +117,12 @@ fn news(
 ) -> Result<Vec<Change>, Memory>
     requires there { place < length state.now.machine.histories }
     requires fitting { AllFit (names_in state.now.machine.setup) changes.items }
+    requires sprints { AreOfSprints (length state.now.machine.sprints) changes.items }
     ensures net { IfOk result (λ net. IfSome (slice_get state.now.machine.histories place) (λ h. net.items ≡ net_changes (present h) changes.items)) }
     ensures news { IfOk result (λ net. IfSome (slice_get state.now.machine.histories place) (λ h. AreNews (present h) 0 net.items)) }
     ensures fitting { IfOk result (λ net. AllFit (names_in state.now.machine.setup) net.items) }
+    ensures sprints { IfOk result (λ net.
+        AreOfSprints (length state.now.machine.sprints) net.items) }
 {
     let Some(issue) = state.issue_at(place) else {
         unreachable!()
@@ -127,6 +134,8 @@ fn news_of(alloc: Global, issue: &Issue, changes: Vec<Change>) -> Result<Vec<Cha
     ensures net { IfOk result (λ net. net.items ≡ net_changes (present issue.now.history) changes.items) }
     ensures news { IfOk result (λ net. AreNews (present issue.now.history) 0 net.items) }
     ensures fitting { IfOk result (λ net. (names : Names) → AllFit names changes.items → AllFit names net.items) }
+    ensures sprints { IfOk result (λ net. (count : ℕ) →
+        AreOfSprints count changes.items → AreOfSprints count net.items) }
 {
     net_changes(alloc, issue, changes)
 }

@@ -9,15 +9,16 @@ ghost use Rattle.tracker_state.specs.Found.{browsed};
 ghost use Rattle.tracker_state.specs.State.{saved_as};
 
 use crate::check::known_filter;
-use crate::listing::{count_of, keys_of, may_browse, put_in_order};
+use crate::listing::{count_of, keys_of, put_in_order};
 use crate::part::part_of;
 use crate::plan::Prepared;
 use crate::state::State;
 use change_history::Issue;
-use fields::{FilterNo, IssueNo, Memory, UserNo};
+use fields::{FilterNo, IssueNo, Memory, Permission, UserNo};
 use std::alloc::Global;
 use tracker_calls::{Answer, Part, Refusal};
 use tracker_filters::Filter;
+use workflow::project_number;
 
 /// Tells a part of the issues of which the filter holds and which both the caller and its owner may browse, in the order that its
 /// text asks for.
@@ -102,7 +103,11 @@ fn browsed(state: &State, owner: UserNo, caller: UserNo, no: IssueNo) -> Option<
     let Some(issue) = state.issue_at((no.0 as usize).saturating_sub(1)) else {
         return None;
     };
-    if may_browse(state, owner, issue) && may_browse(state, caller, issue) {
+    // Its project is looked up once for both.
+    let project = project_number(state.setup(), issue);
+    if state.may(owner, Permission::Browse, project)
+        && state.may(caller, Permission::Browse, project)
+    {
         return Some(issue);
     }
     None

@@ -1,5 +1,5 @@
 // A change group of an issue, as edits and transitions make it.
-ghost use Rattle.std.specs.Prelude.{◌≡◌, ◌≢◌, ◌<◌, ◌≤◌, ◌+◌, [], ◌∷◌, length, slice_get, IfOk, IfSome, OnOk, OnErr, Some};
+ghost use Rattle.std.specs.Prelude.{◌≡◌, ◌≢◌, ◌<◌, ◌≤◌, ◌+◌, ℕ, [], ◌∷◌, length, slice_get, IfOk, IfSome, OnOk, OnErr, Some};
 ghost use Rattle.change_history.specs.History.{present, updated, last_change, MayAdd};
 ghost use Rattle.field_forms.specs.Known.{Names};
 ghost use Rattle.fields.specs.SetupParts.{names_in, names};
@@ -9,17 +9,22 @@ ghost use Rattle.tracker_machine.specs.Checks.{entries_kept, bytes_kept};
 ghost use Rattle.tracker_machine.specs.Group.{grouped, next_group};
 ghost use Rattle.tracker_machine.specs.Tracker.{AllEntriesFit, Holds, MayGroup};
 ghost use Rattle.field_values.specs.declared.numbers.FieldNo.{FieldNo};
+ghost use Rattle.burndown.specs.ChartLaws.{with_entries};
+ghost use Rattle.tracker_work.specs.Seen.{share_now};
+ghost use Rattle.tracker_machine.specs.SprintRules.{BringsSprints};
+ghost use Rattle.tracker_state.specs.InSprints.{AreOfSprints};
 ghost use Rattle.tracker_state.specs.Weight.{AllLight, GroupsAreLight};
-ghost use Rattle.tracker_state.specs.Plan.{group_answer, GroupFits, group_row, present_op, IsPrepared};
+ghost use Rattle.tracker_state.specs.Plan.{group_answer, HasRowsRoom, GroupFits, group_row, present_op, IsPrepared};
 ghost use Rattle.tracker_keeper.specs.Forms.{IsGroupEntry};
 ghost use Rattle.std.specs.List.{All};
 
+use crate::in_sprint::sprint_after;
 use crate::plan::{GroupPlan, Plan, Prepared};
 use crate::rows::row_ops;
 use crate::state::State;
 use crate::weight::{bytes_of_entries, fitting_is_light};
 use change_history::{Change, Entries, Entry, Group, Issue};
-use fields::{Memory, Moment, Setup, Text, UserNo};
+use fields::{Memory, Moment, Setup, SprintNo, Text, UserNo};
 use std::alloc::Global;
 use tracker_calls::{Answer, Refusal};
 use tracker_keeper::{Row, RowOp, group_text};
@@ -48,6 +53,7 @@ pub fn grouped(
     requires light { bytes_kept state.old.machine.histories ≤ 499_800_000 }
     requires news { IfSome (slice_get state.old.machine.histories place) (λ h. AreNews (present h) 0 net.items) }
     requires fitting { AllFit (names_in state.old.machine.setup) net.items }
+    requires sprints { AreOfSprints (length state.old.machine.sprints) net.items }
     ensures same { state.new.machine ≡ state.old.machine }
     ensures table { state.new.watched.views.table ≡ state.old.watched.views.table }
     ensures filters { state.new.watched.filters ≡ state.old.watched.filters }
@@ -95,6 +101,7 @@ fn new_group(
     requires news { IfSome (slice_get state.old.machine.histories place) (λ h. AreNews (present h) 0 net.items) }
     requires some { net.items ≢ [] }
     requires fitting { AllFit (names_in state.old.machine.setup) net.items }
+    requires sprints { AreOfSprints (length state.old.machine.sprints) net.items }
     ensures some { net.items ≢ [] }
     ensures same { state.new.machine ≡ state.old.machine }
     ensures table { state.new.watched.views.table ≡ state.old.watched.views.table }
@@ -110,13 +117,47 @@ fn new_group(
     let bytes = bytes_of_entries(group.entries.as_slice());
     let row = row_of(alloc, state, place, &group)?;
     let rows = row_ops(alloc, state.balance(), group.change, group.at, row)?;
-    state.reserve_entries(place, group.entries.as_slice().len())?;
+    reserve(state, place, group.entries.as_slice())?;
     let new = GroupPlan {
         place,
         group,
         bytes,
     };
     Ok((new, rows))
+}
+
+// Makes room for these entries of the issue at a place, and for a row of each sprint that it is in before and after them.
+fn reserve(state: &mut State, place: usize, entries: &[Entry]) -> Result<(), Memory>
+    requires { place < length state.old.machine.histories }
+    ensures machine { state.new.machine ≡ state.old.machine }
+    ensures room { OnOk result (slice_get state.new.rooms place ≡ Some (length entries.now)) }
+    ensures rows { OnOk result (IfSome (slice_get state.new.machine.histories place) (λ h.
+        HasRowsRoom state.new h entries.now)) }
+    ensures table { state.new.watched.views.table ≡ state.old.watched.views.table }
+    ensures filters { state.new.watched.filters ≡ state.old.watched.filters }
+{
+    let (before, after) = sprints_of(state, place, entries);
+    state.reserve_rows(before, after)?;
+    state.reserve_entries(place, entries.len())
+}
+
+// The sprints that the issue at a place is in before and after these entries.
+fn sprints_of(
+    state: &State,
+    place: usize,
+    entries: &[Entry],
+) -> (Option<SprintNo>, Option<SprintNo>)
+    requires { place < length state.now.machine.histories }
+    ensures before { IfSome (slice_get state.now.machine.histories place) (λ h.
+        result.0 ≡ (share_now state.now.work.seen h).sprint) }
+    ensures after { IfSome (slice_get state.now.machine.histories place) (λ h.
+        result.1 ≡ (share_now state.now.work.seen (with_entries h entries.now)).sprint) }
+{
+    let Some(issue) = state.issue_at(place) else {
+        unreachable!()
+    };
+    let before = state.work().share(issue).sprint;
+    (before, sprint_after(before, entries))
 }
 
 // The row of a group of the issue at a place.
@@ -156,6 +197,7 @@ fn group_of(
     requires news { IfSome (slice_get state.now.machine.histories place) (λ h. AreNews (present h) 0 net.items) }
     requires some { net.items ≢ [] }
     requires fitting { AllFit (names_in state.now.machine.setup) net.items }
+    requires sprints { AreOfSprints (length state.now.machine.sprints) net.items }
     ensures change { IfOk result (λ group. group.change ≡ state.now.machine.change + 1) }
     ensures at { IfOk result (λ group. group.at ≡ state.now.machine.moment) }
     ensures author { IfOk result (λ group. group.author ≡ caller) }
@@ -164,6 +206,8 @@ fn group_of(
     ensures few { IfOk result (λ group. length group.entries ≤ 43) }
     ensures light { IfOk result (λ group. AllLight group.entries) }
     ensures fitting { IfOk result (λ group. AllEntriesFit (names_in state.now.machine.setup) group.entries) }
+    ensures sprints { IfOk result (λ group.
+        BringsSprints (length state.now.machine.sprints) group.entries) }
     ensures may { IfOk result (λ group. IfSome (slice_get state.now.machine.histories place) (λ h.
         MayAdd h group.change group.at group.author group.entries)) }
 {
@@ -198,6 +242,8 @@ fn net_entries(
     ensures entries { IfOk result (λ entries. entries ≡ entries_of (present issue.now.history) change at author net.items) }
     ensures few { IfOk result (λ entries. (names : Names) → AllFit names net.items → length names.fields ≤ 30 → length entries ≤ 43) }
     ensures fitting { IfOk result (λ entries. (names : Names) → AllFit names net.items → AllEntriesFit names entries) }
+    ensures sprints { IfOk result (λ entries. (count : ℕ) →
+        AreOfSprints count net.items → BringsSprints count entries) }
     ensures light { IfOk result (λ entries. (names : Names) → GroupsAreLight names → ((f : FieldNo) → Holds names f (present issue.now.history f)) → AllFit names net.items → AllLight entries) }
     ensures may { IfOk result (λ entries. MayAdd issue.now.history change at author entries) }
 {

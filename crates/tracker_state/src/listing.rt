@@ -5,13 +5,15 @@ ghost use Rattle.fields.specs.SetupParts.{may};
 ghost use Rattle.workflow.specs.Conditions.{project_number};
 ghost use Rattle.jql_meaning.specs.Order.{issue_cmp};
 ghost use Rattle.board.specs.Order.{places_before};
+ghost use Rattle.tracker_machine.specs.Known.{key_numbered};
+ghost use Rattle.tracker_state.specs.Sorting.{is_rank, sorts_by_rank};
 ghost use Rattle.tracker_machine.specs.Search.{listed, ranks_cmp};
 ghost use Rattle.tracker_machine.specs.Boards.{by_rank};
 
 use crate::state::State;
 use change_history::Issue;
 use fields::{IssueNo, Memory, Names, Permission, Text, UserNo};
-use jql_bound::OrderBy;
+use jql_bound::{OrderBy, SortField};
 use jql_eval::compare;
 use std::alloc::Global;
 use std::cmp::Ordering;
@@ -46,11 +48,15 @@ pub fn put_by_rank(state: &State, issues: &mut Vec<&Issue>) -> Result<(), Memory
     Ok(())
 }
 
-// How two issues stand to each other.
+// How two issues stand to each other. Their places by rank are looked up only where a sort key asks for them.
+#[tactic(auto, using(crate::proofs::Sorting::ranks_dont_matter))]
 fn standing_of(state: &State, order: &OrderBy, one: &Issue, other: &Issue) -> Ordering
     ensures { result ≡ issue_cmp state.now.machine.setup order.now.keys
         (ranks_cmp state.now.machine.order one.now.history other.now.history) one.now.history other.now.history }
 {
+    if !sorts_by_rank(order) {
+        return compare(order, one, other, Ordering::Equal, state.setup());
+    }
     compare(
         order,
         one,
@@ -58,6 +64,22 @@ fn standing_of(state: &State, order: &OrderBy, one: &Issue, other: &Issue) -> Or
         ranks_cmp(state, one, other),
         state.setup(),
     )
+}
+
+// Whether one of the sort keys is the place in the order of ranks.
+fn sorts_by_rank(order: &OrderBy) -> bool
+    ensures { result ≡ sorts_by_rank order.now.keys }
+{
+    order.keys.as_slice().iter().any(|key| is_rank(key.field))
+}
+
+fn is_rank(field: SortField) -> bool
+    ensures { result ≡ is_rank field }
+{
+    match field {
+        SortField::Subject(_) | SortField::StatusCategory => false,
+        SortField::Rank => true,
+    }
 }
 
 // How they stand in the order of ranks.
@@ -93,4 +115,14 @@ pub fn count_of(issues: &[&Issue]) -> u64
     ensures { result ≡ length (map (λ i. i.now.history) issues.now) }
 {
     issues.len() as u64
+}
+
+/// The key of the issue of a number, or nothing where there is none.
+pub fn key_numbered(state: &State, issue: IssueNo) -> &str
+    ensures { result.now ≡ key_numbered state.now.machine.histories issue.0 }
+{
+    match state.issue_at((issue.0 as usize).saturating_sub(1)) {
+        Some(issue) => issue.key().as_str(),
+        None => "",
+    }
 }

@@ -1,14 +1,15 @@
 // The names in `set` that stand for nothing.
 ghost use Rattle.std.specs.Prelude.{◌≡◌, map, option_map, None};
 ghost use Rattle.tracker_machine.specs.Wanted.{sprint_number};
-ghost use Rattle.tracker_machine.specs.Checks.{sprint_given, names_refusal};
+ghost use Rattle.tracker_machine.specs.Checks.{sprint_given, missing_sprint, names_refusal};
 ghost use Rattle.tracker_state.specs.Resolved.{resolved, refusal_of, sooner_of, found_with, first_of};
 ghost use Rattle.tracker_state.specs.Wants.{unknown_name_refusal};
 
 use crate::resolved::{ResolvedName, ResolvedSet};
 use field_forms::form::is_before;
-use fields::FieldNo;
+use fields::{FieldNo, SprintNo};
 use tracker_calls::Given;
+use tracker_work::Work;
 
 /// A name in `set` that stands for nothing.
 #[derive(Clone, Copy)]
@@ -29,8 +30,8 @@ pub fn sprint_number(given: &Given) -> Option<u32>
     }
 }
 
-// The sprint into which `set` puts the issue.
-fn sprint_given(set: &ResolvedSet<'_>) -> Option<u32>
+/// The sprint into which `set` puts the issue.
+pub fn sprint_given(set: &ResolvedSet<'_>) -> Option<u32>
     ensures { result ≡ sprint_given set.now.setup.field set.now.set }
 {
     match set.given_for(FieldNo::SPRINT) {
@@ -39,8 +40,21 @@ fn sprint_given(set: &ResolvedSet<'_>) -> Option<u32>
     }
 }
 
-fn unknown_name<'a>(name: ResolvedName<'a>, sprint: Option<u32>) -> Option<UnknownName<'a>>
-    ensures { option_map unknown_name_refusal result ≡ refusal_of sprint (resolved name.entry) }
+/// The same where that sprint isn't there.
+pub fn missing_sprint(sprint: Option<u32>, work: &Work) -> Option<u32>
+    ensures { result ≡ missing_sprint work.now.seen.sprints sprint }
+{
+    match sprint {
+        Some(number) => match work.state(SprintNo(number)) {
+            Some(_) => None,
+            None => Some(number),
+        },
+        None => None,
+    }
+}
+
+fn unknown_name<'a>(name: ResolvedName<'a>, missing: Option<u32>) -> Option<UnknownName<'a>>
+    ensures { option_map unknown_name_refusal result ≡ refusal_of missing (resolved name.entry) }
 {
     match name.field {
         None => Some(UnknownName::Field(name.name)),
@@ -48,7 +62,7 @@ fn unknown_name<'a>(name: ResolvedName<'a>, sprint: Option<u32>) -> Option<Unkno
             if field != FieldNo::SPRINT {
                 return None;
             }
-            match sprint {
+            match missing {
                 Some(number) => Some(UnknownName::Sprint(number)),
                 None => None,
             }
@@ -76,34 +90,38 @@ fn sooner<'a>(found: Option<ResolvedName<'a>>, name: ResolvedName<'a>) -> Resolv
 fn found_after<'a>(
     found: Option<ResolvedName<'a>>,
     name: ResolvedName<'a>,
-    sprint: Option<u32>,
+    missing: Option<u32>,
 ) -> Option<ResolvedName<'a>>
-    ensures { option_map resolved result ≡ found_with sprint (option_map resolved found.entry) (resolved name.entry) }
+    ensures { option_map resolved result
+        ≡ found_with missing (option_map resolved found.entry) (resolved name.entry) }
 {
-    match unknown_name(name, sprint) {
+    match unknown_name(name, missing) {
         Some(_) => Some(sooner(found, name)),
         None => found,
     }
 }
 
 // The first of some names, in byte order, that stand for nothing.
-fn first_refused<'a>(names: &[ResolvedName<'a>], sprint: Option<u32>) -> Option<ResolvedName<'a>>
-    ensures { option_map resolved result ≡ first_of sprint None (map resolved names.now) }
+fn first_refused<'a>(names: &[ResolvedName<'a>], missing: Option<u32>) -> Option<ResolvedName<'a>>
+    ensures { option_map resolved result ≡ first_of missing None (map resolved names.now) }
 {
     let mut found = None;
     for name in names {
-        found = found_after(found, *name, sprint);
+        found = found_after(found, *name, missing);
     }
     found
 }
 
-/// The first name in `set`, in byte order, that stands for nothing.
-pub fn first_unknown_name<'a>(set: &ResolvedSet<'a>) -> Option<UnknownName<'a>>
-    ensures { option_map unknown_name_refusal result ≡ names_refusal set.now.setup.field set.now.set }
+/// The first name in `set`, in byte order, that stands for nothing; that sprint is missing, if there is one.
+pub fn first_unknown_name<'a>(
+    set: &ResolvedSet<'a>,
+    missing: Option<u32>,
+) -> Option<UnknownName<'a>>
+    ensures { option_map unknown_name_refusal result
+        ≡ names_refusal set.now.setup.field missing set.now.set }
 {
-    let sprint = sprint_given(set);
-    match first_refused(set.names(), sprint) {
-        Some(name) => unknown_name(name, sprint),
+    match first_refused(set.names(), missing) {
+        Some(name) => unknown_name(name, missing),
         None => None,
     }
 }

@@ -2,9 +2,10 @@
 
 use board::Board;
 use change_history::{Group, Issue};
-use fields::{BoardNo, FilterNo, IssueNo, Moment, ProjectNo};
+use fields::{BoardNo, FilterNo, IssueNo, Moment, ProjectNo, SprintNo, Text};
 use rank_balancer::{Balance, StepPlan};
 use rank_strings::Rank;
+use sprints::SprintState;
 use tracker_calls::Answer;
 use tracker_filters::ReadyFilter;
 use tracker_keeper::RowOp;
@@ -50,6 +51,13 @@ pub enum Plan {
     Balance(Balance),
     /// A step of a rebalancing.
     Step(StepPlan),
+    /// There is a new sprint of this name.
+    Sprint(Text),
+    /// A sprint starts or is closed, and is in this state from then on.
+    State {
+        sprint: SprintNo,
+        state: SprintState,
+    },
     /// A filter is saved, with its verdicts on all issues.
     Save(ReadyFilter),
     /// A filter is dropped, and its boards with it.

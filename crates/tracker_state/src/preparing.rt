@@ -14,16 +14,19 @@ use crate::edit::edit;
 use crate::filter_issues::filter;
 use crate::history::history;
 use crate::make_board::make_board;
+use crate::make_sprint::make_sprint;
 use crate::moves::{move_after, move_before};
 use crate::plan::Prepared;
 use crate::ranks::ranks;
 use crate::rebalance::{balance, rebalance_start, rebalance_step};
+use crate::remaining::burndown;
 use crate::save_filter::save_filter;
 use crate::search::search;
 use crate::show::show;
 use crate::state::State;
 use crate::tick::tick;
 use crate::transition::transition;
+use crate::turn_sprint::{close_sprint, start_sprint};
 use field_forms::name_form::is_title;
 use fields::{Memory, Steps, UserNo};
 use std::alloc::Global;
@@ -128,6 +131,10 @@ fn prepare_for<L: Ledger>(
         }
         Call::DropBoard { board } => drop_board(alloc, state, user, *board),
         Call::Board { board: no, part } => board(alloc, state, user, *no, *part),
+        Call::MakeSprint { name } => make_sprint(alloc, state, user, name.as_str()),
+        Call::StartSprint { sprint } => start_sprint(alloc, state, user, *sprint),
+        Call::CloseSprint { sprint } => close_sprint(alloc, state, user, *sprint),
+        Call::Burndown { sprint, part } => burndown(alloc, state, user, *sprint, *part),
     }
 }
 
@@ -200,15 +207,18 @@ fn fault_of_form(alloc: Global, call: &Call) -> Result<Option<&'static str>, Mem
         }
         Call::Ranks { part } => Ok(part_fault(*part, MOST_LISTED)),
         Call::RebalanceStep { count } => Ok(count_fault(*count)),
-        Call::SaveFilter { name, .. } | Call::MakeBoard { name, .. } => {
-            Ok(title_fault(name.as_str()))
+        Call::SaveFilter { name, .. } | Call::MakeBoard { name, .. } | Call::MakeSprint { name } =>
+            Ok(title_fault(name.as_str())),
+        Call::Filter { part, .. } | Call::Board { part, .. } | Call::Burndown { part, .. } => {
+            Ok(part_fault(*part, MOST_LISTED))
         }
-        Call::Filter { part, .. } | Call::Board { part, .. } => Ok(part_fault(*part, MOST_LISTED)),
         Call::Tick { .. }
         | Call::Show { .. }
         | Call::RebalanceStart
         | Call::Balance
         | Call::DropFilter { .. }
-        | Call::DropBoard { .. } => Ok(None),
+        | Call::DropBoard { .. }
+        | Call::StartSprint { .. }
+        | Call::CloseSprint { .. } => Ok(None),
     }
 }

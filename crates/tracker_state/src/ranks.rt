@@ -1,10 +1,10 @@
 // The call `ranks`: a part of the issues in the order of their ranks.
 ghost use Rattle.std.specs.Prelude.{◌≡◌, map, IfOk};
-ghost use Rattle.tracker_machine.specs.Known.{key_numbered};
 ghost use Rattle.tracker_machine.specs.Ranks.{ranked_key, ranks_answer, ranks_meaning};
 ghost use Rattle.tracker_state.specs.Plan.{IsPrepared};
 
 use crate::check::check_permission;
+use crate::listing::key_numbered;
 use crate::part::part_of;
 use crate::plan::Prepared;
 use crate::state::State;
@@ -60,14 +60,4 @@ fn ranked_key(
     let text = rank.text(alloc)?;
     let rank = Text::copy_of(alloc, text.as_str())?;
     Ok(RankedKey { issue: key, rank })
-}
-
-// The key of the issue of a number, or nothing where there is none.
-fn key_numbered(state: &State, issue: IssueNo) -> &str
-    ensures { result.now ≡ key_numbered state.now.machine.histories issue.0 }
-{
-    match state.issue_at((issue.0 as usize).saturating_sub(1)) {
-        Some(issue) => issue.key().as_str(),
-        None => "",
-    }
 }

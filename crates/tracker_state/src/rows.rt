@@ -4,16 +4,17 @@ ghost use Rattle.fields.specs.SetupParts.{parts};
 ghost use Rattle.tracker_machine.specs.Machine.{opening};
 ghost use Rattle.fields.specs.SetupParts.{names_in};
 ghost use Rattle.tracker_machine.specs.Kept.{opening_ops, board_drops};
-ghost use Rattle.tracker_state.specs.Plan.{present_op, rank_op, rank_ops, filter_op, board_op};
+ghost use Rattle.tracker_state.specs.Plan.{present_op, rank_op, rank_ops, sprint_op, filter_op, board_op};
 ghost use Rattle.tracker_state.specs.State.{saved_as};
 
 use board::Board;
-use fields::{BoardNo, FilterNo, IssueNo, Memory, Moment, Setup, Text, name_at};
+use fields::{BoardNo, FilterNo, IssueNo, Memory, Moment, Setup, SprintNo, Text, name_at};
 use rank_balancer::Balance;
 use rank_strings::Rank;
+use sprints::SprintState;
 use std::alloc::Global;
 use tracker_filters::Filter;
-use tracker_keeper::{Format, Row, RowOp, board_text, filter_text, present_text};
+use tracker_keeper::{Format, Row, RowOp, board_text, filter_text, present_text, sprint_text};
 
 // Puts the row of where the tracker stands.
 fn present_op(alloc: Global, balance: Balance, change: u64, moment: Moment) -> Result<RowOp, Memory>
@@ -125,6 +126,26 @@ pub fn step_ops(
     for pair in moves {
         put_rank(alloc, &mut ops, pair.0, &pair.1)?;
     }
+    Ok(ops)
+}
+
+/// The operation that keeps a sprint of this name and state.
+pub fn sprint_ops(
+    alloc: Global,
+    no: SprintNo,
+    name: &str,
+    state: &SprintState,
+) -> Result<Vec<RowOp>, Memory>
+    ensures { IfOk result (λ ops. ops.items
+        ≡ sprint_op no (record { name = name.now; state = state.now }) ∷ []) }
+{
+    let body = sprint_text(alloc, name, state)?;
+    let mut ops = Vec::new(alloc);
+    ops.push(RowOp::Put(Row {
+        kind: 7,
+        no: u64::from(no.0),
+        body,
+    }))?;
     Ok(ops)
 }
 

@@ -181,8 +181,9 @@ fn verdicts<L: Ledger>(
     steps: &mut Steps<L>,
 ) -> Result<ReadyFilter, Memory>
     ensures filter { IfOk result (λ ready. ready.filter ≡ filter) }
-    ensures right { IfOk result (λ ready. AreVerdicts (surroundings_in state.now.machine.setup)
-        state.now.machine.moment (condition_of filter) state.now.machine.histories ready.verdicts.items) }
+    ensures right { IfOk result (λ ready. AreVerdicts
+        (surroundings_in state.now.machine.setup state.now.machine.sprints) state.now.machine.moment
+        (condition_of filter) state.now.machine.histories ready.verdicts.items) }
     ensures steps { steps.new ≤ steps.old + length state.now.machine.histories }
 {
     ReadyFilter::of(
@@ -198,7 +199,8 @@ fn verdicts<L: Ledger>(
 // How many issues the filter's owner finds by it.
 #[tactic(auto, unfolding(tracker_machine::specs::Search::found))]
 fn count_found(state: &State, ready: &ReadyFilter) -> u64
-    requires right { AreVerdicts (surroundings_in state.now.machine.setup) state.now.machine.moment
+    requires right { AreVerdicts
+        (surroundings_in state.now.machine.setup state.now.machine.sprints) state.now.machine.moment
         (condition_of ready.now.filter) state.now.machine.histories ready.now.verdicts.items }
     ensures { result ≡ length (found state.now.machine ready.now.filter.owner.0 (condition_of ready.now.filter)) }
 {
@@ -213,7 +215,8 @@ fn count_found(state: &State, ready: &ReadyFilter) -> u64
 
 // Whether the filter's owner finds the issue at a place by it.
 fn is_found(state: &State, ready: &ReadyFilter, place: usize, issue: &Issue) -> bool
-    requires right { AreVerdicts (surroundings_in state.now.machine.setup) state.now.machine.moment
+    requires right { AreVerdicts
+        (surroundings_in state.now.machine.setup state.now.machine.sprints) state.now.machine.moment
         (condition_of ready.now.filter) state.now.machine.histories ready.now.verdicts.items }
     requires at { slice_get state.now.machine.histories place ≡ Some issue.now.history }
     ensures { result ≡ is_found state.now.machine ready.now.filter.owner.0
@@ -231,7 +234,8 @@ fn put(
 ) -> Result<Prepared, Refusal>
     requires bound { IsBound state.old.machine.setup ready.filter }
     requires may { MaySave state.old.machine.setup state.old.machine.filters (saved_as ready.filter) }
-    requires right { AreVerdicts (surroundings_in state.old.machine.setup) state.old.machine.moment
+    requires right { AreVerdicts
+        (surroundings_in state.old.machine.setup state.old.machine.sprints) state.old.machine.moment
         (condition_of ready.filter) state.old.machine.histories ready.verdicts.items }
     ensures same { state.new.machine ≡ state.old.machine }
     ensures table { state.new.watched.views.table ≡ state.old.watched.views.table }

@@ -97,7 +97,9 @@ fn is_found<L: Ledger>(
 }
 
 fn holds_now<L: Ledger>(state: &State, bound: &Bound, issue: &Issue, steps: &mut Steps<L>) -> bool
-    ensures holds { result ≡ query_holds (surroundings_in state.now.machine.setup) issue.now.history state.now.machine.moment (option_map view bound.now.cond) }
+    ensures holds { result ≡ query_holds
+        (surroundings_in state.now.machine.setup state.now.machine.sprints) issue.now.history
+        state.now.machine.moment (option_map view bound.now.cond) }
     ensures steps { steps.new ≡ steps.old + 1 }
 {
     evaluate(bound, issue, state.context(), state.moment(), steps).holds()

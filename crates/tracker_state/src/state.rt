@@ -1,47 +1,43 @@
 ghost use Rattle.std.specs.Prelude.{◌≡◌, ◌≤◌, ◌<◌, ◌+◌, length, map, slice_get, slice_set, option_map, IfOk, IfSome, OnOk, OnErr, Some};
 ghost use Rattle.std.specs.List.{All};
 ghost use Rattle.field_forms.specs.Names.{place_named};
-ghost use Rattle.tracker_machine.specs.Effect.{applied, IsAllowed};
-ghost use Rattle.tracker_machine.specs.Effect.Effect.{NewMoment, NewIssue, NewGroup, NewRank, NewBalance, NewRanks, NewFilter, NoFilter, NewBoard, NoBoard};
-ghost use Rattle.filter_views.specs.Counts.{due};
-ghost use Rattle.tracker_filters.specs.Watched.{AreRight, HasFilterRoom, HasIssueRoom};
-ghost use Rattle.tracker_state.specs.Plan.{effect_of, cost_of, IssueFits, GroupFits, FilterFits, Fits};
-ghost use Rattle.tracker_state.specs.State.{saved_as, saved_filters, HaveSeen, IsBound};
-ghost use Rattle.fields.specs.SetupParts.{parts, names_in, may};
-ghost use Rattle.change_history.specs.History.{MayAdd};
-ghost use Rattle.jql_meaning.specs.Surroundings.{surroundings_of};
-ghost use Rattle.tracker_machine.specs.Search.{surroundings_in};
-ghost use Rattle.tracker_machine.specs.Machine.{opening};
-ghost use Rattle.tracker_machine.specs.Transition.{transition_names};
 ghost use Rattle.fields.specs.Naming.{name_at};
+ghost use Rattle.fields.specs.SetupParts.{parts, names_in, may};
+ghost use Rattle.jql_meaning.specs.Surroundings.{surroundings_of};
+ghost use Rattle.tracker_filters.specs.Watched.{AreRight, HasFilterRoom, HasIssueRoom};
+ghost use Rattle.tracker_work.specs.Work.{OnlyRoomGrows, HasRoomFor};
+ghost use Rattle.tracker_machine.specs.Machine.{opening};
+ghost use Rattle.tracker_machine.specs.Search.{surroundings_in};
+ghost use Rattle.tracker_machine.specs.Sprints.{work_of};
+ghost use Rattle.tracker_machine.specs.Transition.{transition_names};
 ghost use Rattle.tracker_machine.specs.Known.{project_keys, issues_of, place_of_issue};
-ghost use Rattle.tracker_machine.specs.Checks.{entries_kept, bytes_kept, entry_bytes, history_bytes};
+ghost use Rattle.tracker_machine.specs.Checks.{entries_kept, bytes_kept};
 ghost use Rattle.tracker_machine.specs.Tracker.{IsSettled, IsTracker};
+ghost use Rattle.tracker_state.specs.State.{saved_filters, HasSprintRoom, HaveSeen, IsBound};
 
-use crate::plan::{GroupPlan, IssuePlan, Plan, RankPlan};
-use board::Board;
 use change_history::Issue;
-use fields::{BoardNo, FilterNo, Memory, Moment, Permission, ProjectNo, Setup, Steps, UserNo};
+use fields::{Memory, Moment, Permission, ProjectNo, Setup, SprintNo, UserNo};
 use jql_bound::Context;
-use rank_balancer::{Balance, StepPlan};
+use rank_balancer::Balance;
 use std::alloc::Global;
 use std::marker::Model;
-use std::sync::ledger::Ledger;
 use tracker_boards::Boards;
-use tracker_filters::{Filters, ReadyFilter};
+use tracker_filters::Filters;
 use tracker_issues::Issues;
 use tracker_ranks::Ranks;
 use tracker_setting::Setting;
+use tracker_work::Work;
 
 /// The tracker's state. Contracts see it as the abstract tracker's, and beside it what there is room for.
 pub struct State {
-    setting: Setting,
-    moment: Moment,
-    change: u64,
-    issues: Issues,
-    ranks: Ranks,
-    filters: Filters,
-    boards: Boards,
+    pub(crate) setting: Setting,
+    pub(crate) moment: Moment,
+    pub(crate) change: u64,
+    pub(crate) issues: Issues,
+    pub(crate) ranks: Ranks,
+    pub(crate) filters: Filters,
+    pub(crate) boards: Boards,
+    pub(crate) work: Work,
 }
 
 // Written by hand, so that whoever lets one go makes one call, and its proof takes one step there.
@@ -55,12 +51,13 @@ impl Drop for State {
             ranks: _,
             filters: _,
             boards: _,
+            work: _,
         } = self;
     }
 }
 
 impl Model for State {
-    ghost use Rattle.std.specs.Prelude.{map};
+    ghost use Rattle.std.specs.Prelude.{map, vec_capacity};
     ghost use Rattle.jql_bound.specs.contracts.cond.Cond as cond;
     ghost use Rattle.std.specs.Coded.{codes};
     ghost use Rattle.tracker_state.specs.State.{Held, IsState, machine_of};
@@ -70,16 +67,19 @@ impl Model for State {
     ghost coded = { Prim.hlevel (codes, cond.the_row.coded) };
 
     ghost view = { λ s. record {
-      machine = machine_of s.setting.setup s.moment s.change s.issues s.ranks s.filters s.boards;
+      machine = machine_of s.setting.setup s.moment s.change s.issues s.ranks s.filters s.boards s.work;
       room = s.issues.room;
       ranks_room = s.ranks.room;
       rooms = map (λ i. i.room) s.issues.kept;
       watched = s.filters;
       boards_room = s.boards.room;
+      work = s.work;
+      phases_room = vec_capacity s.setting.context.sprints;
     } };
 
     ghost invariant = { λ s.
-        IsState (machine_of s.setting.setup s.moment s.change s.issues s.ranks s.filters s.boards) s.issues.counts s.filters };
+        IsState (machine_of s.setting.setup s.moment s.change s.issues s.ranks s.filters s.boards s.work)
+        s.issues.counts s.filters s.work s.setting.context };
 }
 
 impl State {
@@ -90,6 +90,7 @@ impl State {
         let issues = Issues::new(alloc, setup.project.as_slice())?;
         let setting = Setting::of(alloc, setup)?;
         let filters = Filters::new(alloc, &setting.context, Moment::first());
+        let work = Work::new(alloc, setting.setup.status.as_slice())?;
         Ok(State {
             setting,
             moment: Moment::first(),
@@ -98,6 +99,7 @@ impl State {
             ranks: Ranks::new(alloc),
             filters,
             boards: Boards::new(alloc),
+            work,
         })
     }
 
@@ -110,7 +112,8 @@ impl State {
 
     /// What queries ask of beside issues, lent.
     pub fn context(&self) -> &Context
-        ensures { surroundings_of result.now ≡ surroundings_in self.now.machine.setup }
+        ensures { surroundings_of result.now
+            ≡ surroundings_in self.now.machine.setup self.now.machine.sprints }
     {
         &self.setting.context
     }
@@ -253,8 +256,8 @@ impl State {
     /// Each verdict that is kept tells whether its filter holds of the issue now, and has a later and critical end until which that
     /// stays: contracts may cite it.
     pub fn verdicts_are_right(&self)
-        ensures { AreRight (surroundings_in self.now.machine.setup) self.now.machine.moment
-            self.now.machine.histories self.now.watched.filters self.now.watched.views }
+        ensures { AreRight (surroundings_in self.now.machine.setup self.now.machine.sprints)
+            self.now.machine.moment self.now.machine.histories self.now.watched.filters self.now.watched.views }
     {
         self.filters.are_watched();
     }
@@ -265,6 +268,14 @@ impl State {
         ensures room { result.now.room ≡ self.now.boards_room }
     {
         &self.boards
+    }
+
+    /// The sprints with what remains of them, lent.
+    pub fn work(&self) -> &Work
+        ensures seen { result.now.seen ≡ work_of self.now.machine }
+        ensures same { result.now ≡ self.now.work }
+    {
+        &self.work
     }
 
     /// How many issues the project at a place has.
@@ -303,6 +314,8 @@ impl State {
         ensures more { self.old.ranks_room ≤ self.new.ranks_room }
         ensures table { self.new.watched.views.table ≡ self.old.watched.views.table }
         ensures filters { self.new.watched.filters ≡ self.old.watched.filters }
+        ensures work { self.new.work ≡ self.old.work }
+        ensures phases { self.new.phases_room ≡ self.old.phases_room }
         ensures err { OnErr result (self.new ≡ record self.old { ranks_room = self.new.ranks_room; watched = self.new.watched }) }
     {
         self.ranks.reserve()?;
@@ -331,6 +344,34 @@ impl State {
         self.boards.reserve()
     }
 
+    /// Makes room for one more sprint, or leaves all as it is but for that room, which may have grown.
+    pub fn reserve_sprint(&mut self) -> Result<(), Memory>
+        ensures room { OnOk result (HasSprintRoom self.new) }
+        ensures same { self.new ≡ record self.old {
+          work = self.new.work;
+          phases_room = self.new.phases_room;
+        } }
+        ensures grows { OnlyRoomGrows self.old.work self.new.work }
+    {
+        self.work.reserve_sprint()?;
+        self.setting.reserve_phase()
+    }
+
+    /// Makes room for a change group of an issue that is in the one sprint before it, and in the other after it, or leaves all as it
+    /// is but for that room, which may have grown.
+    pub fn reserve_rows(
+        &mut self,
+        before: Option<SprintNo>,
+        after: Option<SprintNo>,
+    ) -> Result<(), Memory>
+        ensures before { OnOk result (HasRoomFor self.new.work before) }
+        ensures after { OnOk result (HasRoomFor self.new.work after) }
+        ensures same { self.new ≡ record self.old { work = self.new.work } }
+        ensures grows { OnlyRoomGrows self.old.work self.new.work }
+    {
+        self.work.reserve_group(before, after)
+    }
+
     /// Makes room for n entries more of the issue at a place, or leaves all as it is. There is room for as many issues, and
     /// for as many entries of other issues, as before.
     pub fn reserve_entries(&mut self, place: usize, n: usize) -> Result<(), Memory>
@@ -341,144 +382,10 @@ impl State {
         ensures issues { self.new.room ≡ self.old.room }
         ensures ranks { self.new.ranks_room ≡ self.old.ranks_room }
         ensures watched { self.new.watched ≡ self.old.watched }
+        ensures work { self.new.work ≡ self.old.work }
+        ensures phases { self.new.phases_room ≡ self.old.phases_room }
         ensures err { OnErr result (self.new ≡ self.old) }
     {
         self.issues.reserve_entries(place, n)
-    }
-
-    /// Carries out a plan that was made for this state. It takes no memory, and can't fail. Of a new or a changed issue each filter is
-    /// asked once, and as time moves on each verdict that has come to its end.
-    pub fn install<L: Ledger>(&mut self, plan: Plan, steps: &mut Steps<L>)
-        requires fits { Fits self.old plan }
-        requires allowed { IsAllowed (effect_of plan) self.old.machine }
-        ensures machine { self.new.machine ≡ applied (effect_of plan) self.old.machine }
-        ensures steps { steps.new ≡ steps.old + cost_of plan self.old }
-    {
-        match plan {
-            Plan::Moment(to) => self.set_moment(to, steps),
-            Plan::Issue(new) => self.push(new, steps),
-            Plan::Group(new) => self.add(new, steps),
-            Plan::Rank(new) => self.set_rank(new),
-            Plan::Balance(balance) => self.start(balance),
-            Plan::Step(moves) => self.step(moves),
-            Plan::Save(ready) => self.save(ready),
-            Plan::DropFilter(no) => self.drop_filter(no),
-            Plan::Board(board) => self.put_board(board),
-            Plan::DropBoard(no) => self.drop_board(no),
-        }
-    }
-
-    // Sets the present moment.
-    #[tactic(auto, unfolding(tracker_machine::specs::Effect::applied, tracker_machine::specs::Effect::IsAllowed))]
-    fn set_moment<L: Ledger>(&mut self, to: Moment, steps: &mut Steps<L>)
-        requires { IsAllowed (NewMoment to) self.old.machine }
-        ensures machine { self.new.machine ≡ applied (NewMoment to) self.old.machine }
-        ensures steps { steps.new ≡ steps.old + due self.old.watched.views to }
-    {
-        let issues = self.issues.as_slice();
-        self.filters
-            .see_moment(issues, &self.setting.context, to, steps);
-        self.moment = to;
-    }
-
-    // Puts a new issue at the end.
-    #[tactic(auto, unfolding(tracker_machine::specs::Effect::applied, tracker_machine::specs::Effect::IsAllowed))]
-    fn push<L: Ledger>(&mut self, new: IssuePlan, steps: &mut Steps<L>)
-        requires fits { IssueFits self.old new }
-        requires allowed { IsAllowed (NewIssue new.issue.history new.rank) self.old.machine }
-        ensures machine { self.new.machine ≡ applied (NewIssue new.issue.history new.rank) self.old.machine }
-        ensures steps { steps.new ≡ steps.old + length self.old.watched.filters }
-    {
-        self.change += 1;
-        self.ranks.add(new.issue.no(), new.rank);
-        self.filters
-            .see_new(&new.issue, &self.setting.context, self.moment, steps);
-        self.issues.push(new.project, new.key, new.issue, new.bytes);
-    }
-
-    // Adds a group to the issue at its place.
-    #[tactic(auto, unfolding(tracker_machine::specs::Effect::applied, tracker_machine::specs::Effect::IsAllowed))]
-    fn add<L: Ledger>(&mut self, new: GroupPlan, steps: &mut Steps<L>)
-        requires fits { GroupFits self.old new }
-        requires allowed { IsAllowed (NewGroup new.place new.group) self.old.machine }
-        ensures machine { self.new.machine ≡ applied (NewGroup new.place new.group) self.old.machine }
-        ensures steps { steps.new ≡ steps.old + length self.old.watched.filters }
-    {
-        self.change += 1;
-        self.issues.add(new.place, new.group, new.bytes);
-        let Some(issue) = self.issues.get(new.place) else {
-            unreachable!()
-        };
-        self.filters
-            .see_change(issue, &self.setting.context, self.moment, steps);
-    }
-
-    // Gives an issue another rank.
-    #[tactic(auto, unfolding(tracker_machine::specs::Effect::applied, tracker_machine::specs::Effect::IsAllowed))]
-    fn set_rank(&mut self, new: RankPlan)
-        requires { IsAllowed (NewRank new.issue new.rank) self.old.machine }
-        ensures { self.new.machine ≡ applied (NewRank new.issue new.rank) self.old.machine }
-    {
-        self.ranks.set(new.issue, new.rank);
-    }
-
-    // Begins a rebalancing, which leads to this balance.
-    #[tactic(auto, unfolding(tracker_machine::specs::Effect::applied, tracker_machine::specs::Effect::IsAllowed))]
-    fn start(&mut self, balance: Balance)
-        requires { IsAllowed (NewBalance balance) self.old.machine }
-        ensures { self.new.machine ≡ applied (NewBalance balance) self.old.machine }
-    {
-        let _ = balance;
-        let Ok(()) = self.ranks.start() else {
-            unreachable!()
-        };
-    }
-
-    // Makes the moves of a step.
-    #[tactic(auto, unfolding(tracker_machine::specs::Effect::applied, tracker_machine::specs::Effect::IsAllowed))]
-    fn step(&mut self, moves: StepPlan)
-        requires { IsAllowed (NewRanks moves) self.old.machine }
-        ensures { self.new.machine ≡ applied (NewRanks moves) self.old.machine }
-    {
-        self.ranks.apply(moves);
-    }
-
-    // Saves a filter with its verdicts.
-    #[tactic(auto, unfolding(tracker_machine::specs::Effect::applied, tracker_machine::specs::Effect::IsAllowed))]
-    fn save(&mut self, ready: ReadyFilter)
-        requires fits { FilterFits self.old ready }
-        requires allowed { IsAllowed (NewFilter (saved_as ready.filter)) self.old.machine }
-        ensures { self.new.machine ≡ applied (NewFilter (saved_as ready.filter)) self.old.machine }
-    {
-        self.filters.put(ready);
-    }
-
-    // Takes a filter away, and its boards.
-    #[tactic(auto, unfolding(tracker_machine::specs::Effect::applied, tracker_machine::specs::Effect::IsAllowed))]
-    fn drop_filter(&mut self, no: FilterNo)
-        requires { IsAllowed (NoFilter no) self.old.machine }
-        ensures { self.new.machine ≡ applied (NoFilter no) self.old.machine }
-    {
-        self.filters.remove(no);
-        self.boards.remove_of(no);
-    }
-
-    // Puts a new board in.
-    #[tactic(auto, unfolding(tracker_machine::specs::Effect::applied, tracker_machine::specs::Effect::IsAllowed))]
-    fn put_board(&mut self, board: Board)
-        requires room { length self.old.machine.boards < self.old.boards_room }
-        requires allowed { IsAllowed (NewBoard board) self.old.machine }
-        ensures { self.new.machine ≡ applied (NewBoard board) self.old.machine }
-    {
-        self.boards.put(board);
-    }
-
-    // Takes a board away.
-    #[tactic(auto, unfolding(tracker_machine::specs::Effect::applied, tracker_machine::specs::Effect::IsAllowed))]
-    fn drop_board(&mut self, no: BoardNo)
-        requires { IsAllowed (NoBoard no) self.old.machine }
-        ensures { self.new.machine ≡ applied (NoBoard no) self.old.machine }
-    {
-        self.boards.remove(no);
     }
 }

@@ -1,5 +1,5 @@
 // The call `transition`: an issue goes to another status, as one change group with all that comes with it.
-ghost use Rattle.std.specs.Prelude.{◌≡◌, ◌<◌, ◌≤◌, length, slice_get, IfOk, IfSome, Some};
+ghost use Rattle.std.specs.Prelude.{◌≡◌, ◌<◌, ◌≤◌, ℕ, length, slice_get, IfOk, IfSome, Some, true};
 ghost use Rattle.change_history.specs.History.{present};
 ghost use Rattle.fields.specs.SetupParts.{names_in, parts};
 ghost use Rattle.workflow.specs.Plan.{planned};
@@ -11,11 +11,13 @@ ghost use Rattle.tracker_machine.specs.Known.{place_of_issue};
 ghost use Rattle.tracker_machine.specs.Transition.{transition_named, transition_refusal, transition_meaning, condition_refusal, validator_refusal, plan_refusal, transition_news};
 ghost use Rattle.tracker_state.specs.Check.{Checks};
 ghost use Rattle.tracker_machine.specs.Tracker.{Holds};
+ghost use Rattle.field_forms.specs.SoundRules.{rules_are_sound};
+ghost use Rattle.tracker_state.specs.InSprints.{GivesKnownSprint, AreOfSprints};
 ghost use Rattle.tracker_state.specs.Plan.{IsPrepared};
 
 use crate::check::{
-    check_access, check_bytes, check_entries, check_set, known_issue, known_transition,
-    known_values,
+    check_access, check_bytes, check_closed, check_entries, check_set, known_issue,
+    known_transition, known_values,
 };
 use crate::group::{GroupCall, grouped};
 use crate::plan::Prepared;
@@ -79,14 +81,16 @@ fn check_transition(
         (slice_get state.now.machine.histories r.0) (transition_named state.now.machine transition.now)) }
     ensures news { IfOk result (λ r. IfSome (slice_get state.now.machine.histories r.0) (λ h. AreNews (present h) 0 r.1.items)) }
     ensures fitting { IfOk result (λ r. AllFit (names_in state.now.machine.setup) r.1.items) }
+    ensures sprints { IfOk result (λ r. AreOfSprints (length state.now.machine.sprints) r.1.items) }
     ensures few { IfOk result (λ r. entries_kept state.now.machine.histories ≤ 1_999_957) }
     ensures light { IfOk result (λ r. bytes_kept state.now.machine.histories ≤ 499_800_000) }
 {
     let place = known_issue(alloc, state, issue)?;
     let number = known_transition(alloc, state, transition)?;
-    check_set(alloc, set)?;
+    check_set(alloc, state, set)?;
     check_access(alloc, state, caller, Permission::Browse, place)?;
     check_access(alloc, state, caller, Permission::Transition, place)?;
+    check_closed(state, set, state.issue_at(place))?;
     check_entries(state)?;
     check_bytes(state)?;
     let net = check_plan(alloc, state, caller, place, number, set)?;
@@ -105,12 +109,15 @@ fn check_plan(
     requires setup { set.now.setup ≡ state.now.machine.setup }
     requires user { caller.0 < length state.now.machine.setup.users }
     requires there { place < length state.now.machine.histories }
-    requires known { transition < length state.now.machine.setup.transition }
+    requires named { transition < length state.now.machine.setup.transition }
+    requires known { GivesKnownSprint state.now.machine set.now.set }
     ensures check { Checks (plan_refusal state.now.machine caller.0 set.now.set (slice_get state.now.machine.histories place) (slice_get state.now.machine.setup.transition transition)) result }
     ensures net { IfOk result (λ net. net.items ≡ transition_news state.now.machine caller.0 set.now.set
         (slice_get state.now.machine.histories place) (slice_get state.now.machine.setup.transition transition)) }
     ensures news { IfOk result (λ net. IfSome (slice_get state.now.machine.histories place) (λ h. AreNews (present h) 0 net.items)) }
     ensures fitting { IfOk result (λ net. AllFit (names_in state.now.machine.setup) net.items) }
+    ensures sprints { IfOk result (λ net.
+        AreOfSprints (length state.now.machine.sprints) net.items) }
 {
     let Some(issue) = state.issue_at(place) else {
         unreachable!()
@@ -130,12 +137,16 @@ fn plan_of(
 ) -> Result<Vec<Change>, Refusal>
     requires setup { set.now.setup ≡ state.now.machine.setup }
     requires sound { IsSoundTransition state.now.machine.setup transition.now }
+    requires rules { rules_are_sound (names_in state.now.machine.setup) transition.now ≡ true }
+    requires known { GivesKnownSprint state.now.machine set.now.set }
     requires user { caller.0 < length state.now.machine.setup.users }
     requires reporter { Holds (names_in state.now.machine.setup) reporter (present issue.now.history reporter) }
     ensures check { Checks (plan_refusal state.now.machine caller.0 set.now.set (Some issue.now.history) (Some transition.now)) result }
     ensures net { IfOk result (λ net. net.items ≡ transition_news state.now.machine caller.0 set.now.set (Some issue.now.history) (Some transition.now)) }
     ensures news { IfOk result (λ net. AreNews (present issue.now.history) 0 net.items) }
     ensures fitting { IfOk result (λ net. AllFit (names_in state.now.machine.setup) net.items) }
+    ensures sprints { IfOk result (λ net.
+        AreOfSprints (length state.now.machine.sprints) net.items) }
 {
     check_conditions(state, caller, issue, transition)?;
     let inputs = known_values(alloc, state, set, None)?;
@@ -193,12 +204,15 @@ fn news_of(
     inputs: Vec<Change>,
 ) -> Result<Vec<Change>, Memory>
     requires sound { IsSoundTransition (parts setup.now) transition.now }
+    requires rules { rules_are_sound (names_in (parts setup.now)) transition.now ≡ true }
     requires user { caller.0 < length setup.now.users }
     requires reporter { Holds (names_in (parts setup.now)) reporter (present issue.now.history reporter) }
     requires inputs { AllFit (names_in (parts setup.now)) inputs.items }
     ensures net { IfOk result (λ net. net.items ≡ planned (parts setup.now) issue.now.history caller transition.now inputs.items) }
     ensures news { IfOk result (λ net. AreNews (present issue.now.history) 0 net.items) }
     ensures fitting { IfOk result (λ net. AllFit (names_in (parts setup.now)) net.items) }
+    ensures sprints { IfOk result (λ net. (count : ℕ) →
+        AreOfSprints count inputs.items → AreOfSprints count net.items) }
 {
     planned(alloc, setup, issue, caller, transition, inputs)
 }

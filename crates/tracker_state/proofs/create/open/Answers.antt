@@ -14,6 +14,7 @@ use Rattle.rank_strings.specs.Rank.{RankParts}
 use Rattle.tracker_ranks.specs.Ranked.{IsNext}
 use Rattle.tracker_state.specs.Plan.{present_op, rank_op}
 use Rattle.tracker_state.proofs.Fitting.{fits_filter}
+use Rattle.tracker_state.proofs.InSprints.{filtered_of_sprints}
 use Rattle.tracker_state.proofs.Means.{issue_ready}
 use Rattle.tracker_state.proofs.create.open.Goals as goal
 
@@ -21,11 +22,11 @@ pub returns-clause-prepared : goal.returns-clause-prepared
 returns-clause-prepared c =
     let m = c.args.state.now.machine in
     let new = c.in-Ok.new in
-    let s = c.reserve_issue.new.self in
+    let s = c.reserve.new.state in
     let project = name_at (project_keys m.setup) c.args.project.0 in
     let changes = c.args.changes.items in
     let h : History = opened m c.args.caller.0 project (filled changes) in
-    let same : s.machine ≡ m = c.reserve_issue.ensures.machine in
+    let same : s.machine ≡ m = c.reserve.ensures.machine in
     let light : bytes_kept m.histories + history_bytes new.issue.history ≤ 500_000_000 = omega (arith, c.in-Ok.ensures.light, c.in-Ok.ensures.bytes, c.requires.light) in
     let may : MayOpen m h = record {
       few = c.requires.few;
@@ -37,6 +38,7 @@ returns-clause-prepared c =
       opened = c.requires.named;
       listed = c.in-Ok.ensures.listed;
       fitting = fits_filter (names_in m.setup) (λ d. not (is_empty d.to)) changes c.requires.fitting;
+      sprints = filtered_of_sprints (length m.sprints) (λ d. not (is_empty d.to)) changes c.requires.sprints;
       entries = refl;
       light = subst (λ (i : History). bytes_kept m.histories + history_bytes i ≤ 500_000_000) c.in-Ok.ensures.history light;
     } in
@@ -49,15 +51,16 @@ returns-clause-prepared c =
     (c.next_change.ensures ∙ ap (λ (n : Machine). n.change + 1) same)
     (c.in-Ok-copy_of.ensures ∙ c.as_str.ensures.value ∙ c.in-Ok.ensures.key)
     (record {
-      room = c.in-Ok-reserve_issue.ensures.room;
-      ranks_room = c.in-Ok-reserve_issue.ensures.ranks;
-      cells_room = c.in-Ok-reserve_issue.ensures.cells;
+      room = c.in-Ok-reserve.ensures.room;
+      ranks_room = c.in-Ok-reserve.ensures.ranks;
+      cells_room = c.in-Ok-reserve.ensures.cells;
       key = c.in-Ok.ensures.key ∙ sym key;
       there = subst (λ (p : ProjectNo). p.0 < length s.machine.setup.project) (sym c.in-Ok.ensures.project)
           (subst (λ (n : Machine). c.args.project.0 < length n.setup.project) (sym same) c.requires.there);
       next = subst (λ (p : ProjectNo). new.issue.history.key ≡ next_key s.machine (name_at (project_keys s.machine.setup) p.0)) (sym c.in-Ok.ensures.project)
           (subst (λ (n : Machine). new.issue.history.key ≡ next_key n (name_at (project_keys n.setup) c.args.project.0)) (sym same) key);
       bytes = c.in-Ok.ensures.bytes;
+      rows_room = c.in-Ok-reserve.ensures.rows;
     })
     (subst (λ r. c.in-Ok-issue_ops.rows.items ≡ present_op m.balance (m.change + 1) m.moment ∷ Put r ∷ rank_op h.no c.args.rank ∷ []) c.in-Ok.ensures.row
     (subst (λ (r : RankParts). c.in-Ok-issue_ops.rows.items ≡ present_op m.balance (m.change + 1) m.moment ∷ Put c.in-Ok.row ∷ rank_op h.no r ∷ []) c.in-Ok.ensures.rank

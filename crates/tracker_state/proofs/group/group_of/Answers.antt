@@ -20,3 +20,6 @@ returns-clause-light c =
     let names = names_in c.args.state.now.machine.setup in
     c.in_ok-entries.ensures.light names (subst (λ (p : Parts). GroupsAreLight (names_in p)) c.setup.ensures c.fitting_is_light.ensures.groups)
     c.in-Some.ensures.settled.holding c.requires.fitting
+
+pub returns-clause-sprints : goal.returns-clause-sprints
+returns-clause-sprints c = c.in_ok-entries.ensures.sprints (length c.args.state.now.machine.sprints) c.requires.sprints

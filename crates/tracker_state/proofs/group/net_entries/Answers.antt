@@ -9,7 +9,9 @@ use Rattle.workflow.proofs.Differing.{may_be_added}
 use Rattle.tracker_machine.specs.Tracker.{AllEntriesFit}
 use Rattle.tracker_state.specs.Weight.{AllLight}
 use Rattle.tracker_state.proofs.Counting.{few_changes}
+use Rattle.tracker_machine.specs.SprintRules.{BringsSprints}
 use Rattle.tracker_state.proofs.Fitting.{entries_fit, some_changes}
+use Rattle.tracker_state.proofs.InSprints.{entries_of_sprints}
 use Rattle.tracker_state.proofs.group.net_entries.Goals as goal
 
 pub returns-clause-few : goal.returns-clause-few
@@ -40,3 +42,10 @@ returns-clause-light c =
     IfOk-weaker c.entries_of.result _ _ (λ es is names light holds fit.
     subst (λ (xs : List Entry). AllLight xs) (sym is)
     (light before c.args.change c.args.at c.args.author c.args.net.items holds c.requires.news fit)) c.entries_of.ensures
+
+pub returns-clause-sprints : goal.returns-clause-sprints
+returns-clause-sprints c =
+    let before = present c.args.issue.now.history in
+    IfOk-weaker c.entries_of.result _ _ (λ es is count all.
+    subst (λ (xs : List Entry). BringsSprints count xs) (sym is)
+    (entries_of_sprints count before c.args.change c.args.at c.args.author c.args.net.items all)) c.entries_of.ensures

@@ -3,4 +3,4 @@ use Rattle.tracker_state.specs.Resolved.{resolved, first_of}
 use Rattle.tracker_state.proofs.names.first_refused.Given as goal
 
 abbrev pub invariant-loop-name : goal.invariant-loop-name
-invariant-loop-name l = first_of l.sprint None (map resolved l.names) ≡ first_of l.sprint (option_map resolved l.found) (map resolved (drop l.name-index l.names))
+invariant-loop-name l = first_of l.missing None (map resolved l.names) ≡ first_of l.missing (option_map resolved l.found) (map resolved (drop l.name-index l.names))

@@ -45,6 +45,12 @@ make_board-requires g c =
     let none : title_refusal c.in-MakeBoard.name ≡ None = subst (λ call. form_refusal call ≡ None) c.in-MakeBoard.is c.requires.form in
     record { title = rw c.as_str-in-MakeBoard.ensures (is_named c.in-MakeBoard.name none) }
 
+pub make_sprint-requires : goal.make_sprint-requires
+unfolding form_refusal
+make_sprint-requires g c =
+    let none : title_refusal c.in-MakeSprint.name ≡ None = subst (λ call. form_refusal call ≡ None) c.in-MakeSprint.is c.requires.form in
+    record { title = rw c.as_str-in-MakeSprint.ensures (is_named c.in-MakeSprint.name none) }
+
 pub returns-in-Create-clause-prepared : goal.returns-in-Create-clause-prepared
 unfolding meaning_for
 returns-in-Create-clause-prepared g c =

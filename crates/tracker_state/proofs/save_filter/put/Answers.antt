@@ -26,7 +26,7 @@ returns-clause-prepared c =
     let new : Held = c.reserve_filter.new.self in
     let seen = c.have_seen.ensures.seen in
     let same : new.machine ≡ m = ap (λ (s : Held). s.machine) c.reserve_filter.ensures.same in
-    let around : new.watched.around ≡ surroundings_in m.setup = ap (λ (s : Held). s.watched.around) c.reserve_filter.ensures.same ∙ seen.around in
+    let around : new.watched.around ≡ surroundings_in m.setup m.sprints = ap (λ (s : Held). s.watched.around) c.reserve_filter.ensures.same ∙ seen.around in
     let moment : new.watched.moment ≡ m.moment = ap (λ (s : Held). s.watched.moment) c.reserve_filter.ensures.same ∙ seen.moment in
     let histories : new.watched.histories ≡ m.histories = ap (λ (s : Held). s.watched.histories) c.reserve_filter.ensures.same ∙ seen.histories in
     record {
@@ -40,7 +40,7 @@ returns-clause-prepared c =
         bound = subst (λ (n : Machine). IsBound n.setup f) (sym same) c.requires.bound;
         room = λ free. c.in-Ok-reserve_filter.ensures.room;
         right = subst (λ (s : Surroundings). AreVerdicts s new.watched.moment (condition_of f) new.watched.histories ready.verdicts.items) (sym around)
-            (subst (λ t. AreVerdicts (surroundings_in m.setup) t (condition_of f) new.watched.histories ready.verdicts.items) (sym moment)
-            (subst (λ (hs : List History). AreVerdicts (surroundings_in m.setup) m.moment (condition_of f) hs ready.verdicts.items) (sym histories) c.requires.right));
+            (subst (λ t. AreVerdicts (surroundings_in m.setup m.sprints) t (condition_of f) new.watched.histories ready.verdicts.items) (sym moment)
+            (subst (λ (hs : List History). AreVerdicts (surroundings_in m.setup m.sprints) m.moment (condition_of f) hs ready.verdicts.items) (sym histories) c.requires.right));
       };
     }

@@ -1,0 +1,243 @@
+// Plans are carried out.
+ghost use Rattle.std.specs.Prelude.{◌≡◌, ◌<◌, ◌+◌, length, slice_get, IfSome};
+ghost use Rattle.filter_views.specs.Counts.{due};
+ghost use Rattle.sprints.specs.Sprint.{IsThere};
+ghost use Rattle.tracker_work.specs.Seen.{share_now, state_in, with_state};
+ghost use Rattle.tracker_machine.specs.Effect.{applied, IsAllowed};
+ghost use Rattle.tracker_machine.specs.Effect.Effect.{NewMoment, NewIssue, NewGroup, NewRank, NewBalance, NewRanks, NewSprint, NewState, NewFilter, NoFilter, NewBoard, NoBoard};
+ghost use Rattle.tracker_machine.specs.SprintRules.{IsNextState, phase_of, sum_in_sprint};
+ghost use Rattle.tracker_state.specs.Plan.{effect_of, cost_of, IssueFits, GroupFits, FilterFits, Fits};
+ghost use Rattle.tracker_state.specs.State.{saved_as, HasSprintRoom};
+
+use crate::plan::{GroupPlan, IssuePlan, Plan, RankPlan};
+use crate::state::State;
+use board::Board;
+use burndown::Share;
+use fields::{BoardNo, FilterNo, Moment, SprintNo, Steps, Text};
+use jql_bound::Phase;
+use rank_balancer::{Balance, StepPlan};
+use sprints::SprintState;
+use std::sync::ledger::Ledger;
+use tracker_filters::ReadyFilter;
+use tracker_issues::Issues;
+use tracker_work::Work;
+
+impl State {
+    /// Carries out a plan that was made for this state. It takes no memory, and can't fail. Of a new or a changed issue, and of each
+    /// issue in a sprint that starts or is closed, each filter is asked once, and as time moves on each verdict that has come to its end.
+    pub fn install<L: Ledger>(&mut self, plan: Plan, steps: &mut Steps<L>)
+        requires fits { Fits self.old plan }
+        requires allowed { IsAllowed (effect_of plan) self.old.machine }
+        ensures machine { self.new.machine ≡ applied (effect_of plan) self.old.machine }
+        ensures steps { steps.new ≡ steps.old + cost_of plan self.old }
+    {
+        match plan {
+            Plan::Moment(to) => self.set_moment(to, steps),
+            Plan::Issue(new) => self.push(new, steps),
+            Plan::Group(new) => self.add(new, steps),
+            Plan::Rank(new) => self.set_rank(new),
+            Plan::Balance(balance) => self.start(balance),
+            Plan::Step(moves) => self.step(moves),
+            Plan::Sprint(name) => self.make_sprint(name),
+            Plan::State { sprint, state } => self.turn(sprint, state, steps),
+            Plan::Save(ready) => self.save(ready),
+            Plan::DropFilter(no) => self.drop_filter(no),
+            Plan::Board(board) => self.put_board(board),
+            Plan::DropBoard(no) => self.drop_board(no),
+        }
+    }
+
+    // Sets the present moment.
+    #[tactic(auto, unfolding(tracker_machine::specs::Effect::applied, tracker_machine::specs::Effect::IsAllowed))]
+    fn set_moment<L: Ledger>(&mut self, to: Moment, steps: &mut Steps<L>)
+        requires { IsAllowed (NewMoment to) self.old.machine }
+        ensures machine { self.new.machine ≡ applied (NewMoment to) self.old.machine }
+        ensures steps { steps.new ≡ steps.old + due self.old.watched.views to }
+    {
+        let issues = self.issues.as_slice();
+        self.filters
+            .see_moment(issues, &self.setting.context, to, steps);
+        self.moment = to;
+    }
+
+    // Puts a new issue at the end.
+    #[tactic(auto, unfolding(tracker_machine::specs::Effect::applied, tracker_machine::specs::Effect::IsAllowed))]
+    fn push<L: Ledger>(&mut self, new: IssuePlan, steps: &mut Steps<L>)
+        requires fits { IssueFits self.old new }
+        requires allowed { IsAllowed (NewIssue new.issue.history new.rank) self.old.machine }
+        ensures machine { self.new.machine ≡ applied (NewIssue new.issue.history new.rank) self.old.machine }
+        ensures steps { steps.new ≡ steps.old + length self.old.watched.filters }
+    {
+        self.change += 1;
+        self.ranks.add(new.issue.no(), new.rank);
+        self.filters
+            .see_new(&new.issue, &self.setting.context, self.moment, steps);
+        self.issues.push(new.project, new.key, new.issue, new.bytes);
+        self.work.see_issue(self.issues.as_vec());
+    }
+
+    // Adds a group to the issue at its place.
+    #[tactic(auto, unfolding(tracker_machine::specs::Effect::applied, tracker_machine::specs::Effect::IsAllowed))]
+    fn add<L: Ledger>(&mut self, new: GroupPlan, steps: &mut Steps<L>)
+        requires fits { GroupFits self.old new }
+        requires allowed { IsAllowed (NewGroup new.place new.group) self.old.machine }
+        ensures machine { self.new.machine ≡ applied (NewGroup new.place new.group) self.old.machine }
+        ensures steps { steps.new ≡ steps.old + length self.old.watched.filters }
+    {
+        self.change += 1;
+        let before = share_at(&self.issues, &self.work, new.place);
+        self.issues.add(new.place, new.group, new.bytes);
+        let Some(issue) = self.issues.get(new.place) else {
+            unreachable!()
+        };
+        self.filters
+            .see_change(issue, &self.setting.context, self.moment, steps);
+        self.work.see_group(
+            self.issues.as_vec(),
+            new.place,
+            before,
+            self.change,
+            self.moment,
+        );
+    }
+
+    // Gives an issue another rank.
+    #[tactic(auto, unfolding(tracker_machine::specs::Effect::applied, tracker_machine::specs::Effect::IsAllowed))]
+    fn set_rank(&mut self, new: RankPlan)
+        requires { IsAllowed (NewRank new.issue new.rank) self.old.machine }
+        ensures { self.new.machine ≡ applied (NewRank new.issue new.rank) self.old.machine }
+    {
+        self.ranks.set(new.issue, new.rank);
+    }
+
+    // Begins a rebalancing, which leads to this balance.
+    #[tactic(auto, unfolding(tracker_machine::specs::Effect::applied, tracker_machine::specs::Effect::IsAllowed))]
+    fn start(&mut self, balance: Balance)
+        requires { IsAllowed (NewBalance balance) self.old.machine }
+        ensures { self.new.machine ≡ applied (NewBalance balance) self.old.machine }
+    {
+        let _ = balance;
+        let Ok(()) = self.ranks.start() else {
+            unreachable!()
+        };
+    }
+
+    // Makes the moves of a step.
+    #[tactic(auto, unfolding(tracker_machine::specs::Effect::applied, tracker_machine::specs::Effect::IsAllowed))]
+    fn step(&mut self, moves: StepPlan)
+        requires { IsAllowed (NewRanks moves) self.old.machine }
+        ensures { self.new.machine ≡ applied (NewRanks moves) self.old.machine }
+    {
+        self.ranks.apply(moves);
+    }
+
+    // Makes a future sprint.
+    #[tactic(auto, unfolding(tracker_machine::specs::Effect::applied, tracker_machine::specs::Effect::IsAllowed))]
+    fn make_sprint(&mut self, name: Text)
+        requires fits { HasSprintRoom self.old }
+        requires allowed { IsAllowed (NewSprint name) self.old.machine }
+        ensures { self.new.machine ≡ applied (NewSprint name) self.old.machine }
+    {
+        let Ok(_) = self.work.make(name) else {
+            unreachable!()
+        };
+        self.setting.add_phase();
+        self.filters.see_new_sprint(&self.setting.context);
+    }
+
+    // Starts or closes a sprint, which comes to this state: each filter is asked once of each issue in it.
+    #[tactic(auto, unfolding(tracker_machine::specs::Effect::applied, tracker_machine::specs::Effect::IsAllowed))]
+    fn turn<L: Ledger>(&mut self, sprint: SprintNo, state: SprintState, steps: &mut Steps<L>)
+        requires { IsAllowed (NewState sprint state) self.old.machine }
+        ensures machine { self.new.machine ≡ applied (NewState sprint state) self.old.machine }
+        ensures steps { steps.new ≡ steps.old
+            + sum_in_sprint (length self.old.watched.filters) sprint.0 self.old.machine.histories }
+    {
+        turn(&mut self.work, sprint, &state, self.moment, self.change);
+        self.setting.set_phase(sprint, phase_of(&state));
+        self.filters.see_sprint(
+            sprint,
+            self.issues.as_slice(),
+            &self.setting.context,
+            self.moment,
+            steps,
+        );
+    }
+
+    // Saves a filter with its verdicts.
+    #[tactic(auto, unfolding(tracker_machine::specs::Effect::applied, tracker_machine::specs::Effect::IsAllowed))]
+    fn save(&mut self, ready: ReadyFilter)
+        requires fits { FilterFits self.old ready }
+        requires allowed { IsAllowed (NewFilter (saved_as ready.filter)) self.old.machine }
+        ensures { self.new.machine ≡ applied (NewFilter (saved_as ready.filter)) self.old.machine }
+    {
+        self.filters.put(ready);
+    }
+
+    // Takes a filter away, and its boards.
+    #[tactic(auto, unfolding(tracker_machine::specs::Effect::applied, tracker_machine::specs::Effect::IsAllowed))]
+    fn drop_filter(&mut self, no: FilterNo)
+        requires { IsAllowed (NoFilter no) self.old.machine }
+        ensures { self.new.machine ≡ applied (NoFilter no) self.old.machine }
+    {
+        self.filters.remove(no);
+        self.boards.remove_of(no);
+    }
+
+    // Puts a new board in.
+    #[tactic(auto, unfolding(tracker_machine::specs::Effect::applied, tracker_machine::specs::Effect::IsAllowed))]
+    fn put_board(&mut self, board: Board)
+        requires room { length self.old.machine.boards < self.old.boards_room }
+        requires allowed { IsAllowed (NewBoard board) self.old.machine }
+        ensures { self.new.machine ≡ applied (NewBoard board) self.old.machine }
+    {
+        self.boards.put(board);
+    }
+
+    // Takes a board away.
+    #[tactic(auto, unfolding(tracker_machine::specs::Effect::applied, tracker_machine::specs::Effect::IsAllowed))]
+    fn drop_board(&mut self, no: BoardNo)
+        requires { IsAllowed (NoBoard no) self.old.machine }
+        ensures { self.new.machine ≡ applied (NoBoard no) self.old.machine }
+    {
+        self.boards.remove(no);
+    }
+}
+
+// What the issue at a place counts for.
+fn share_at(issues: &Issues, work: &Work, place: usize) -> Share
+    requires { place < length issues.now.kept }
+    ensures { IfSome (slice_get issues.now.kept place) (λ i.
+        result ≡ share_now work.now.seen i.history) }
+{
+    let Some(issue) = issues.get(place) else {
+        unreachable!()
+    };
+    work.share(issue)
+}
+
+// Starts or closes a sprint, which comes to this state.
+fn turn(work: &mut Work, sprint: SprintNo, state: &SprintState, at: Moment, change: u64)
+    requires there { IsThere work.old.seen.sprints sprint.0 }
+    requires change { change ≡ work.old.seen.change }
+    requires next { IsNextState at change (state_in work.old.seen.sprints sprint.0) state.now }
+    ensures { work.new.seen ≡ with_state work.old.seen sprint.0 state.now }
+{
+    let turned = match *state {
+        SprintState::Future => unreachable!(),
+        SprintState::Active { .. } => work.start(sprint, at, change),
+        SprintState::Closed { .. } => work.close(sprint, at, change),
+    };
+    let Ok(()) = turned else { unreachable!() };
+}
+
+// How far a sprint of this state is.
+fn phase_of(state: &SprintState) -> Phase
+    ensures { result ≡ phase_of state.now }
+{
+    match *state {
+        SprintState::Future => Phase::Future,
+        SprintState::Active { .. } => Phase::Active,
+        SprintState::Closed { .. } => Phase::Closed,
+    }
+}
