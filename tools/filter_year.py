@@ -3,22 +3,9 @@
 
 usage: python3 tools/filter_year.py lines|replies
 
-They are a section `lines` of crates/stored_runs. The replies know nothing of the program. They go by docs/REQUESTS.md,
-docs/BOARDS.md and docs/RANKS.md: whenever somebody asks for a filter, its text is read anew, and is asked of each issue's whole
-history at the present moment. Nothing is kept but histories, ranks and texts.
+They are a section `lines` of crates/stored_runs. The replies are those of tools/whole_tracker.py, which knows nothing of the program.
 """
-import json
-import sys
-from whole_histories import EMPTY, GROUPS, STATUSES, TRANSITIONS, Issue, Query, kept, moment, place_of
-
-
-class Refused(Exception):
-    """A call is refused, with these members."""
-
-    def __init__(self, no, **members):
-        super().__init__(no)
-        self.members = {'no': no, **members}
-
+from whole_tracker import Story
 
 # The texts that are no queries, each with its kind and its place by docs/JQL-FAULTS.md.
 FAULTS = {
@@ -30,226 +17,6 @@ FAULTS = {
     'status CHANGED AFTER soon': (6, 21),
     'status =': (3, 8),
 }
-
-
-class Tracker:
-    """A new tracker, in which everybody may browse all issues; of the rest it knows what the year asks of it."""
-
-    def __init__(self):
-        self.now, self.change, self.issues, self.ranks = 0, 0, [], {}
-        self.filters, self.boards = {}, {}
-
-    def answer(self, user, call, **members):
-        """The reply to a request."""
-        try:
-            return {'ok': getattr(self, call)(user, **{name + '_' * (name in ('from', 'set', 'type')): it for name, it in members.items()})}
-        except Refused as refusal:
-            return {'refused': refusal.members}
-
-    # -- what calls ask for
-
-    def check(self, user, permission, group, project=None):
-        if user not in GROUPS[group]:
-            raise Refused(3, permission=permission, project=project)
-
-    def there(self, kind, things, number):
-        if not 0 <= number < 2**32:
-            raise Refused(1, member=kind)
-        if number not in things:
-            raise Refused(2, kind=kind, name=str(number))
-        return things[number]
-
-    def issue_of(self, key):
-        for issue in self.issues:
-            if issue.key == key:
-                return issue
-        raise Refused(2, kind='issue', name=key)
-
-    def ranked(self):
-        return sorted(self.issues, key=lambda issue: self.ranks[issue.number])
-
-    def found(self, query):
-        found = [issue for issue in self.issues if query.condition(issue, self.now, False)]
-        for field, descends in reversed(query.keys):
-            found.sort(key=lambda issue: place_of(field, issue, self.ranked()), reverse=descends)
-        return found
-
-    # -- issues
-
-    def tick(self, user, to):
-        if to < self.now:
-            raise Refused(11, kept=self.now)
-        self.now = to
-        return {'moment': to}
-
-    def create(self, user, project, type_, summary, set_={}):
-        self.check(user, 'create', 'team', project)
-        given = {'reporter': user, **set_, 'type': type_, 'summary': summary, 'status': 'Open'}
-        issue = Issue(len(self.issues) + 1, self.now, user, {field: kept(field, value) for field, value in given.items()})
-        self.ranks[issue.number] = max(self.ranks.values()) + 8_192 if self.ranks else int('i00000', 36)
-        self.issues.append(issue)
-        self.change += 1
-        return {'already': False, 'change': self.change, 'issue': issue.key}
-
-    def edit(self, user, issue, set_):
-        it = self.issue_of(issue)
-        self.check(user, 'edit', 'team', 'OPS')
-        return self.changed(it, user, {field: kept(field, value) for field, value in set_.items()})
-
-    def transition(self, user, issue, transition, set_={}):
-        it = self.issue_of(issue)
-        self.check(user, 'transition', 'team', 'OPS')
-        sources, to = TRANSITIONS[transition]
-        if it.present('status') not in sources:
-            raise Refused(4, index=0)
-        if transition == 'Finish' and user not in (it.present('assignee'), *GROUPS['admins']):
-            raise Refused(4, index=1)
-        values = {field: kept(field, value) for field, value in set_.items()}
-        if transition == 'Finish' and values.get('points', it.present('points')) is EMPTY:
-            raise Refused(5, index=1)
-        post = {'Start': {'assignee': user}, 'Finish': {'resolution': 'Fixed'}, 'Reopen': {'resolution': EMPTY}}
-        return self.changed(it, user, {**values, 'status': to, **post.get(transition, {})})
-
-    def changed(self, issue, user, values):
-        """The values that differ are one change, if there are any."""
-        values = {field: value for field, value in values.items() if issue.present(field) != value}
-        if values:
-            self.change += 1
-            issue.history.append((self.now, user, values))
-        return {'change': self.change if values else None, 'issue': issue.key}
-
-    def move_before(self, user, issue, other):
-        return self.moved(user, issue, other, 0)
-
-    def move_after(self, user, issue, other):
-        return self.moved(user, issue, other, 1)
-
-    def moved(self, user, issue, other, behind):
-        """An issue goes to a place: the rank that it has there, or the middle one of those between its neighbours, or 8,192 beside one."""
-        it, other = self.issue_of(issue), self.issue_of(other)
-        self.check(user, 'rank', 'team', 'OPS')
-        order = [one for one in self.ranked() if one is not it]
-        place = order.index(other) + behind
-        low, high = [self.ranks[one.number] if one else None
-                     for one in (order[place - 1] if place else None, order[place] if place < len(order) else None)]
-        if self.ranked().index(it) != place:
-            rank = low + 8_192 if high is None else high - 8_192 if low is None else (low + high) // 2
-            assert rank not in self.ranks.values()
-            self.ranks[it.number] = rank
-        return {'issue': issue, 'rank': f'0|{digits_of(self.ranks[it.number])}:'}
-
-    # -- filters
-
-    def search(self, user, jql, from_=0, count=1_000):
-        found = self.found(Query(jql, user))
-        return {'issues': [issue.key for issue in found[from_:from_ + count]], 'total': len(found)}
-
-    def save_filter(self, user, name, jql):
-        check_title(name)
-        if jql in FAULTS:
-            kind, place = FAULTS[jql]
-            raise Refused(7, kind=kind, place=place)
-        number = next((no for no, (owner, other, _) in self.filters.items() if (owner, other) == (user, name)), free_among(self.filters))
-        self.filters[number] = user, name, jql
-        return {'filter': number, 'members': len(self.found(Query(jql, user)))}
-
-    def drop_filter(self, user, filter):
-        owner, _, _ = self.there('filter', self.filters, filter)
-        if user != owner:
-            self.check(user, 'administer', 'admins')
-        del self.filters[filter]
-        self.boards = {no: board for no, board in self.boards.items() if board[1] != filter}
-        return {'filter': filter}
-
-    def filter(self, user, filter, from_=0, count=1_000):
-        owner, _, jql = self.there('filter', self.filters, filter)
-        return self.search(owner, jql, from_, count)
-
-    # -- boards
-
-    def make_board(self, user, name, filter):
-        check_title(name)
-        self.there('filter', self.filters, filter)
-        self.check(user, 'plan', 'team')
-        number = free_among(self.boards)
-        self.boards[number] = name, filter
-        return {'board': number}
-
-    def drop_board(self, user, board):
-        self.there('board', self.boards, board)
-        self.check(user, 'plan', 'team')
-        del self.boards[board]
-        return {'board': board}
-
-    def board(self, user, board, from_=0, count=1_000):
-        owner, _, jql = self.filters[self.there('board', self.boards, board)[1]]
-        found = self.found(Query(jql, owner))
-        part = [issue for issue in self.ranked() if issue in found][from_:from_ + count]
-        columns = [{'issues': [issue.key for issue in part if issue.present('status') == status], 'status': status} for status in STATUSES]
-        return {'columns': columns, 'total': len(found)}
-
-
-def check_title(name):
-    if not 1 <= len(name.encode()) <= 100:
-        raise Refused(1, member='name')
-
-
-def free_among(things):
-    """The least number from 1 on that none of them has."""
-    return next(number for number in range(1, len(things) + 2) if number not in things)
-
-
-def digits_of(rank):
-    """A rank's six digits to the base 36."""
-    return ''.join('0123456789abcdefghijklmnopqrstuvwxyz'[rank // 36**place % 36] for place in reversed(range(6)))
-
-
-# ---- the year
-
-
-class Year:
-    """Requests with their replies, made one after the other."""
-
-    def __init__(self):
-        self.tracker, self.rows = Tracker(), []
-
-    def say(self, text):
-        self.rows.append((f'# {text}', f'# {text}'))
-
-    def ask(self, user, call, **members):
-        line = {'user': user, 'call': call, **members}
-        reply = self.tracker.answer(user, call, **members)
-        self.rows.append((json.dumps(line, separators=(',', ':')), json.dumps(reply, separators=(',', ':'), sort_keys=True)))
-        return reply
-
-    def tick(self, text):
-        self.ask('root', 'tick', to=moment(text) if isinstance(text, str) else text)
-
-    def create(self, user, type, summary, **set):
-        self.ask(user, 'create', project='OPS', type=type, summary=summary, set=set)
-
-    def edit(self, user, number, **set):
-        self.ask(user, 'edit', issue=f'OPS-{number}', set=set)
-
-    def go(self, user, number, transition, **members):
-        self.ask(user, 'transition', issue=f'OPS-{number}', transition=transition, **members)
-
-    def save(self, user, name, jql):
-        self.ask(user, 'save_filter', name=name, jql=jql)
-
-    def look(self, user, *filters):
-        return [self.ask(user, 'filter', filter=number) for number in filters]
-
-    def boards(self, user, *boards):
-        for number in boards:
-            self.ask(user, 'board', board=number)
-
-    def turn(self, text, *filters):
-        """At that second each of the filters has another answer than a second before."""
-        self.tick(moment(text) - 1)
-        before = self.look('bo', *filters)
-        self.tick(text)
-        assert all(one != other for one, other in zip(before, self.look('cy', *filters))), text
 
 
 def march(year):
@@ -428,11 +195,11 @@ def winter(year):
 
 
 def main():
-    year = Year()
+    year = Story(FAULTS)
+    year.section('lines', 'A year of saved filters and boards (tools/filter_year.py).')
     for season in (march, spring, summer, autumn, winter):
         season(year)
-    for row in year.rows:
-        print(row[['lines', 'replies'].index(sys.argv[1])])
+    year.tell()
 
 
 if __name__ == '__main__':

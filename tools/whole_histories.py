@@ -1,12 +1,14 @@
-"""Issues as their whole histories, and queries that are asked of them at a moment, in the words of docs/JQL.md.
+"""Issues as their whole histories, what remained of a sprint after any change of them, and queries, in the words of docs/JQL.md.
 
-This knows nothing of the program, and keeps nothing between two questions: a query is asked of the histories, whatever the moment.
-Dates go by Python's datetime, local time is UTC, and the setup is that of a new tracker. Queries have no faults here.
+This knows nothing of the program, and keeps nothing between two questions: a query is asked of the histories at a moment, and what
+remained is summed over them anew. Dates go by Python's datetime, local time is UTC, and the setup is that of a new tracker. Queries
+have no faults here.
 """
 import calendar
 import datetime
 import operator
 import re
+from typing import NamedTuple
 
 DAY, LAST = 86_400, 4_102_444_799
 EPOCH = datetime.date(1970, 1, 1)
@@ -86,19 +88,34 @@ def second_of(date, now):
 # ---- issues
 
 
-class Issue:
-    """An issue is its history: when and by whom which fields got which values, the creation first."""
+class Change(NamedTuple):
+    """Which fields got which values, when and by whom. The changes of all issues are numbered together, creations among them."""
 
-    def __init__(self, number, at, by, values):
-        self.number, self.key, self.history = number, f'OPS-{number}', [(at, by, values)]
+    number: int
+    at: int
+    by: str
+    values: dict
+
+
+class Issue:
+    """An issue is its history: its changes, the creation first."""
+
+    def __init__(self, number, creation):
+        self.number, self.key, self.history = number, f'OPS-{number}', [creation]
 
     def steps(self, field):
         """The values of a field, each with its moment and its author."""
-        (at, by, values), *changes = self.history
-        return [(at, by, values.get(field))] + [(at, by, values[field]) for at, by, values in changes if field in values]
+        creation, *changes = self.history
+        first = creation.at, creation.by, creation.values.get(field)
+        return [first] + [(change.at, change.by, change.values[field]) for change in changes if field in change.values]
 
     def present(self, field):
         return self.steps(field)[-1][2]
+
+    def after(self, number, field):
+        """The value of a field after the change of that number; EMPTY where the issue wasn't there yet."""
+        values = [change.values[field] for change in self.history if change.number <= number and field in change.values]
+        return values[-1] if values else EMPTY
 
 
 def kept(field, given):
@@ -125,12 +142,12 @@ def parts_of(field, value):
         return [moment(value)]
     if field in ('labels', 'fixVersion'):
         return value
-    return [value if field in ('points', 'summary', 'description') else value.lower()]
+    return [value if field in ('points', 'sprint', 'summary', 'description') else value.lower()]
 
 
 def present_parts(issue, field):
     if field in ('created', 'updated'):
-        return [issue.history[0 if field == 'created' else -1][0]]
+        return [issue.history[0 if field == 'created' else -1].at]
     if field in ('key', 'project'):
         return [issue.key] if field == 'key' else ['ops']
     if field == 'statusCategory':
@@ -153,6 +170,38 @@ def place_of(field, issue, ranked):
     return (True,) if value is EMPTY else (False, value)
 
 
+# ---- sprints
+
+PHASES = {'openSprints': 'active', 'closedSprints': 'closed', 'futureSprints': 'future'}
+
+
+class Sprint:
+    """A sprint has the numbers of the last changes before its start and before its close, as far as these have come."""
+
+    def __init__(self, name):
+        self.name, self.start, self.close = name, None, None
+
+    def state(self):
+        return 'future' if self.start is None else 'active' if self.close is None else 'closed'
+
+
+def remaining(issues, sprint, number):
+    """The points, in thousandths, of the issues that were in the sprint after the change of that number, and were not done."""
+    return sum(
+        issue.after(number, 'points') or 0
+        for issue in issues
+        if issue.after(number, 'sprint') == sprint and STATUSES[issue.after(number, 'status')] != 'Done')
+
+
+def burndown(issues, sprint, first, last):
+    """Each change behind the first, up to the last, after which something else remained than after the one before."""
+    for number in range(first + 1, last + 1):
+        before, left = [remaining(issues, sprint, it) for it in (number - 1, number)]
+        if left != before:
+            [(issue, at)] = [(issue, change.at) for issue in issues for change in issue.history if change.number == number]
+            yield {'at': at, 'by': left - before, 'change': number, 'issue': issue.key, 'left': left}
+
+
 # ---- queries
 
 TOKEN = re.compile(r'\s*("[^"]*"|[<>!]=|!~|[<>=~(),]|[^\s"<>=!~(),]+)')
@@ -172,10 +221,10 @@ WINDOWS = {
 
 
 class Query:
-    """A query of a user. A condition is asked of an issue and a moment, and whether NOT stands before it."""
+    """A query of a user, with the sprints that there are. A condition is asked of an issue and a moment, and whether NOT stands before it."""
 
-    def __init__(self, text, user):
-        self.tokens, self.user, self.keys = TOKEN.findall(text), user, []
+    def __init__(self, text, user, sprints):
+        self.tokens, self.user, self.sprints, self.keys = TOKEN.findall(text), user, sprints, []
         self.condition = self.either() if self.tokens and not self.is_next('ORDER') else lambda issue, now, no: True
         if self.take('ORDER') and self.take('BY'):
             self.keys = [self.key()] + [self.key() for _ in iter(lambda: self.take(','), False)]
@@ -316,10 +365,16 @@ class Query:
         if field in ('due', 'created', 'updated'):
             return [second_of(item, now)]
         if isinstance(item, tuple):
-            return [self.user] if item[0] == 'currentUser' else GROUPS[item[1]]
-        if field == 'points':
-            return [thousandths(item)]
+            return self.called(*item)
+        if field in ('points', 'sprint'):
+            return [thousandths(item) if field == 'points' else int(item)]
         return [item if field in ('labels', 'key', 'summary', 'description') else item.lower()]
+
+    def called(self, name, argument):
+        """What a call stands for, but one of a date."""
+        if name in PHASES:
+            return [number for number, sprint in self.sprints.items() if sprint.state() == PHASES[name]]
+        return [self.user] if name == 'currentUser' else GROUPS[argument]
 
 
 def has_words(wanted, text):
