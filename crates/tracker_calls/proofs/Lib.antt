@@ -5,3 +5,5 @@ pub mod Twins
 pub mod WorkedReplies
 pub mod WorkedLines
 pub mod Taking
+pub mod Bodies
+pub mod WorkedBodies

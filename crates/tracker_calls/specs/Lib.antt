@@ -1,6 +1,7 @@
 pub mod Given
 pub mod Part
 pub mod Asked
+pub mod Body
 pub mod Reply
 pub mod Seen
 pub mod Written

@@ -4,6 +4,7 @@
 
 mod asked;
 mod asked_sprints;
+mod body;
 mod call;
 mod filters_json;
 mod given;
@@ -19,9 +20,11 @@ mod sprints_json;
 mod taken;
 mod user_name;
 
+pub use body::read_body;
 pub use call::{Call, CallKind, MOST_ENTRIES, MOST_FROM, MOST_LISTED, Part};
 pub use given::{Given, GivenField, GivenFields, has_twins};
 pub use line::read_line;
+pub use members::{is_among, misses};
 pub use reply::{
     Answer, BalanceKept, BalanceState, BurnedRow, BurnedRows, Column, Columns, Limit, RankedKey,
     RankedKeys, Refusal, Reply, Shown, ShownField, ShownFields, SprintPhase, Thing, ToldEntries,

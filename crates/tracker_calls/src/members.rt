@@ -123,13 +123,15 @@ pub fn first_other<'v>(kind: CallKind, members: &'v Map<String, Value>) -> Optio
     None
 }
 
-fn is_member(kind: CallKind, name: &str) -> bool
+/// Whether the call has a member of that name.
+pub fn is_member(kind: CallKind, name: &str) -> bool
     ensures { result ≡ is_member kind name.now }
 {
     is_among(name, call_members(kind))
 }
 
-fn is_among(name: &str, names: &[&str]) -> bool
+/// Whether the name is one of these.
+pub fn is_among(name: &str, names: &[&str]) -> bool
     ensures { result ≡ is_among name.now (map (λ other. other.now) names.now) }
 {
     for other in names {
