@@ -1,8 +1,11 @@
 pub mod FaultLemmas
+pub mod Given
 pub mod HeadLemmas
-pub mod Lengths
+pub mod Numerals
 pub mod OneReading
 pub mod PiecesLemmas
 pub mod PlacesLemmas
 pub mod Reasons
 pub mod StepsLemmas
+pub mod Texts
+pub mod WorkedCalls

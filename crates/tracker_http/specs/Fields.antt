@@ -1,8 +1,8 @@
 -- The fields of a head, each a name and a value, and what the server reads of them.
-use Rattle.std.specs.Prelude.{ℕ, ◌==◌, ◌+◌, List, [], ◌∷◌, length, take, drop, codes, Bool, ◌&&◌, ◌||◌, nat_lt, nat_le, Option, Some, None, if◌then◌else◌}
+use Rattle.std.specs.Prelude.{ℕ, ◌==◌, ◌+◌, List, [], ◌∷◌, length, take, drop, codes, Bool, ◌&&◌, ◌||◌, nat_le, Option, Some, None, if◌then◌else◌}
 use Rattle.std.specs.List.{list_all, list_any}
 use Rattle.std.specs.Str.{str_eq_ignore_ascii_case}
-use Rattle.field_values.specs.Digits.{is_digit, read_on}
+use Rattle.field_values.specs.Digits.{read_on}
 use Rattle.tracker_http.specs.CommaLists.{pieces}
 use Rattle.httparse.specs.Grammar.{is_ows, skip_ows}
 
@@ -37,10 +37,6 @@ count_named name (field ∷ fields) = if is_named name field then count_named na
 abbrev pub value_named : List ℕ → Fields → Option (List ℕ)
 value_named name [] = None
 value_named name (field ∷ fields) = if is_named name field then Some field.1 else value_named name fields
-
--- a length is written by digits alone
-abbrev pub is_length : List ℕ → Bool
-is_length value = nat_lt 0 (length value) && list_all is_digit value
 
 -- white space, the word close in any case, and white space
 unfoldable pub is_close : List ℕ → Bool

@@ -3,7 +3,8 @@ use Rattle.std.specs.Prelude.{ℕ, ◌==◌, List, length, map, codes, Bool, fal
 use Rattle.std.specs.Str.{bytes_eq}
 use Rattle.httparse.specs.Grammar.{RequestHead}
 use Rattle.httparse.specs.Spans.{name_and_value}
-use Rattle.tracker_http.specs.Fields.{Fields, host, x_user, content_length, transfer_encoding, count_named, value_named, is_length, body_len}
+use Rattle.tracker_http.specs.Fields.{Fields, host, x_user, content_length, transfer_encoding, count_named, value_named, body_len}
+use Rattle.tracker_http.specs.Numbers.{is_number}
 use Rattle.tracker_http.specs.Response.{verb_name}
 use Rattle.tracker_http.specs.Routes.{path_of, path_verb}
 use Rattle.tracker_http.specs.declared.verb.Verb.{Verb}
@@ -26,7 +27,7 @@ lacks_host minor fields = minor == 1 && not (count_named host fields == 1)
 
 abbrev pub is_unreadable : Option (List ℕ) → Bool
 is_unreadable None = false
-is_unreadable (Some value) = not (is_length value)
+is_unreadable (Some value) = not (is_number value)
 
 -- no field that may stand once stands twice, and a length can be read
 abbrev pub has_bad_fields : ℕ → Fields → Bool

@@ -1,3 +1,4 @@
+pub mod Calls
 pub mod CommaLists
 pub mod Fields
 pub mod HeadEnd
@@ -5,9 +6,12 @@ pub mod HeadFaults
 pub mod HeadPlaces
 pub mod Held
 pub mod Laws
+pub mod Numbers
+pub mod Query
 pub mod Requests
 pub mod Response
 pub mod Routes
 pub mod Spans
+pub mod Statuses
 pub mod Streams
 pub mod Taken

@@ -1,16 +1,14 @@
 // What the server reads of the fields of a head.
-ghost use Rattle.std.specs.Prelude.{◌≡◌, length, min, true, All, option_map};
+ghost use Rattle.std.specs.Prelude.{◌≡◌, length, All, option_map};
 ghost use Rattle.std.specs.List.{list_all};
 ghost use Rattle.std.specs.Str.{str_eq_ignore_ascii_case};
-ghost use Rattle.field_values.specs.Digits.{is_digit, read_on};
 ghost use Rattle.httparse.specs.Grammar.{is_ows, skip_ows};
 ghost use Rattle.httparse.specs.Spans.{IsWithin, IsHeaderWithin, header_bytes, span_bytes};
-ghost use Rattle.tracker_http.specs.Fields.{is_named, count_named, value_named, is_length, is_close, has_close, says_close, closes, body_len, length_of};
+ghost use Rattle.tracker_http.specs.Fields.{is_named, count_named, value_named, is_close, has_close, says_close, closes, body_len, length_of};
 ghost use Rattle.tracker_http.specs.CommaLists.{CutsPiece};
 ghost use Rattle.tracker_http.specs.Spans.{fields_at};
 
 use crate::route::before;
-use field_values::digits::are_digits;
 use httparse::spans::{HeaderSpan, Span};
 
 /// Whether both have the same bytes, whatever the case of ASCII letters.
@@ -62,29 +60,6 @@ pub fn value_named<'b>(bytes: &'b [u8], spans: &[HeaderSpan], name: &[u8]) -> Op
         }
     }
     None
-}
-
-/// Whether a length can be read.
-pub fn is_length(value: &[u8]) -> bool
-    ensures { result ≡ is_length value.now }
-{
-    !value.is_empty() && are_digits(value)
-}
-
-/// The greatest length of a body, and one more.
-const TOO_LONG: usize = 65_537;
-
-/// The length that the digits write, where it isn't too long for a body.
-#[tactic(auto, using(crate::proofs::Lengths::written_next))]
-pub fn length_written(digits: &[u8]) -> usize
-    requires { list_all is_digit digits.now ≡ true }
-    ensures { result ≡ min (read_on 0 digits.now) 65537 }
-{
-    let mut value = 0;
-    for digit in digits {
-        value = (10 * value + usize::from(*digit - b'0')).min(TOO_LONG);
-    }
-    value
 }
 
 // The bytes from the first that is no white space.

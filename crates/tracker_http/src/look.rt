@@ -5,13 +5,17 @@ ghost use Rattle.tracker_http.specs.Fields.{host, x_user, content_length, body_l
 ghost use Rattle.tracker_http.specs.HeadFaults.{lacks_host, is_unreadable, has_bad_fields, field_fault, verb_fault, fault_of, is_head_method};
 ghost use Rattle.tracker_http.specs.Spans.{fields_at, head_at, SpansAreWithin, Looks};
 
-use crate::fields::{bytes_of, count_named, is_length, length_written, value_named};
+use crate::fields::{bytes_of, count_named, value_named};
 use crate::head_fault::HeadFault;
+use crate::numbers::{is_number, written};
 use crate::response::verb_name;
 use crate::route::{path_of, path_verb};
 use crate::verb::Verb;
 use httparse::Status;
 use httparse::spans::{HeaderSpan, RequestSpans, parse_request};
+
+// The greatest length of a body, and one more.
+const TOO_LONG: u64 = 65_537;
 
 /// The spans that a head of 8,192 bytes has at most, and one more: its fields have three bytes at least.
 pub const SPANS: usize = 2_731;
@@ -48,7 +52,7 @@ fn is_unreadable(bytes: &[u8], spans: &[HeaderSpan]) -> bool
     ensures { result ≡ is_unreadable (value_named content_length (fields_at bytes.now spans.now)) }
 {
     match value_named(bytes, spans, b"Content-Length") {
-        Some(value) => !is_length(value),
+        Some(value) => !is_number(value),
         None => false,
     }
 }
@@ -77,7 +81,7 @@ pub fn body_len(bytes: &[u8], spans: &[HeaderSpan]) -> usize
     ensures { result ≡ min (body_len (fields_at bytes.now spans.now)) 65537 }
 {
     match value_named(bytes, spans, b"Content-Length") {
-        Some(value) => length_written(value),
+        Some(value) => written(value, TOO_LONG) as usize,
         None => 0,
     }
 }
