@@ -1,12 +1,13 @@
 -- Which call a request asks for.
-use Rattle.std.specs.Prelude.{ℕ, ◌+◌, List, [], ◌∷◌, length, drop, codes, Ok, Err, Option, Some, None, option_and_then, if◌then◌else◌}
+use Rattle.std.specs.Prelude.{ℕ, ◌+◌, List, [], ◌∷◌, length, drop, codes, Result, Ok, Err, Option, Some, None, option_and_then, if◌then◌else◌}
 use Rattle.std.specs.Str.{is_utf8}
 use Rattle.tracker_calls.specs.Asked.{Asked, need, no_other}
 use Rattle.tracker_calls.specs.Body.{body_of}
 use Rattle.tracker_calls.specs.declared.call.Call.TheVariants as call
+use Rattle.tracker_calls.specs.declared.call.Part.{Part}
 use Rattle.tracker_calls.specs.declared.reply.Refusal.TheVariants.{Form}
 use Rattle.tracker_http.specs.Numbers.{number_within}
-use Rattle.tracker_http.specs.Query.{pairs_of, text_in, from_in, count_in, first_unknown}
+use Rattle.tracker_http.specs.Query.{pairs_of, text_in, first_unknown, part_in}
 use Rattle.tracker_http.specs.Routes.{before, path_of, route_of}
 use Rattle.tracker_http.specs.declared.query.Pair.{Pair}
 use Rattle.tracker_http.specs.declared.request.Request.{Request}
@@ -52,45 +53,35 @@ show_of path pairs user =
 abbrev pub part_names : List (List ℕ)
 part_names = codes "from" ∷ codes "count" ∷ []
 
+-- the call with the part, or the refusal of the member that is at fault
+abbrev pub with_part : Result Part (List ℕ) → (Part → Asked) → Asked
+with_part (Ok part) next = next part
+with_part (Err name) next = Err (Form name)
+
 abbrev pub history_of : List ℕ → List Pair → List ℕ → Asked
 history_of path pairs user =
     need (issue_in path) (codes "issue") (λ issue.
-    need (from_in pairs) (codes "from") (λ from.
-    need (count_in 50 pairs) (codes "count") (λ count.
-    no_other (first_unknown part_names pairs)
-    (Ok (user, call.History issue (record { from = from; count = count }))))))
+    with_part (part_in 50 part_names pairs) (λ part. Ok (user, call.History issue part)))
 
 abbrev pub search_of : List Pair → List ℕ → Asked
 search_of pairs user =
     need (text_in (codes "jql") pairs) (codes "jql") (λ jql.
-    need (from_in pairs) (codes "from") (λ from.
-    need (count_in 1000 pairs) (codes "count") (λ count.
-    no_other (first_unknown (codes "jql" ∷ part_names) pairs)
-    (Ok (user, call.Search jql (record { from = from; count = count }))))))
+    with_part (part_in 1000 (codes "jql" ∷ part_names) pairs) (λ part. Ok (user, call.Search jql part)))
 
 abbrev pub filter_of : List ℕ → List Pair → List ℕ → Asked
 filter_of path pairs user =
     need (number_in (codes "/filters/") path) (codes "filter") (λ filter.
-    need (from_in pairs) (codes "from") (λ from.
-    need (count_in 1000 pairs) (codes "count") (λ count.
-    no_other (first_unknown part_names pairs)
-    (Ok (user, call.Filter (record { 0 = filter }) (record { from = from; count = count }))))))
+    with_part (part_in 1000 part_names pairs) (λ part. Ok (user, call.Filter (record { 0 = filter }) part)))
 
 abbrev pub board_of : List ℕ → List Pair → List ℕ → Asked
 board_of path pairs user =
     need (number_in (codes "/boards/") path) (codes "board") (λ board.
-    need (from_in pairs) (codes "from") (λ from.
-    need (count_in 1000 pairs) (codes "count") (λ count.
-    no_other (first_unknown part_names pairs)
-    (Ok (user, call.Board (record { 0 = board }) (record { from = from; count = count }))))))
+    with_part (part_in 1000 part_names pairs) (λ part. Ok (user, call.Board (record { 0 = board }) part)))
 
 abbrev pub burndown_of : List ℕ → List Pair → List ℕ → Asked
 burndown_of path pairs user =
     need (number_in (codes "/sprints/") path) (codes "sprint") (λ sprint.
-    need (from_in pairs) (codes "from") (λ from.
-    need (count_in 1000 pairs) (codes "count") (λ count.
-    no_other (first_unknown part_names pairs)
-    (Ok (user, call.Burndown (record { 0 = sprint }) (record { from = from; count = count }))))))
+    with_part (part_in 1000 part_names pairs) (λ part. Ok (user, call.Burndown (record { 0 = sprint }) part)))
 
 -- ---- requests
 

@@ -1,11 +1,12 @@
 -- The members that a query text gives.
-use Rattle.std.specs.Prelude.{ℕ, List, [], ◌∷◌, map, codes, Option, Some, None, option_and_then, if◌then◌else◌}
+use Rattle.std.specs.Prelude.{ℕ, List, [], ◌∷◌, map, codes, Result, Ok, Err, Option, Some, None, option_and_then, if◌then◌else◌}
 use Rattle.std.specs.Cmp.Lexicographic.{slice_cmp}
 use Rattle.std.specs.Ordering.{nat_cmp, is_lt}
 use Rattle.std.specs.Str.{bytes_eq}
 use Rattle.std.specs.Str.Lossy.{utf8_lossy}
 use Rattle.form_urlencoded.specs.Form.{decode, raw_pairs}
 use Rattle.tracker_calls.specs.Asked.{is_among}
+use Rattle.tracker_calls.specs.declared.call.Part.{Part}
 use Rattle.tracker_http.specs.Numbers.{number_within}
 use Rattle.tracker_http.specs.declared.query.Pair.{Pair}
 
@@ -70,3 +71,22 @@ first_of least (name ∷ names) = first_of (Some (lesser least name)) names
 -- the first name in byte order that is none of these
 abbrev pub first_unknown : List (List ℕ) → List Pair → Option (List ℕ)
 first_unknown known pairs = first_of None (others known pairs)
+
+-- ---- a part of a list
+
+abbrev pub unless_other : Option (List ℕ) → Part → Result Part (List ℕ)
+unless_other None part = Ok part
+unless_other (Some name) part = Err name
+
+abbrev pub counted_from : Option ℕ → Option (List ℕ) → ℕ → Result Part (List ℕ)
+counted_from None other from = Err (codes "count")
+counted_from (Some count) other from = unless_other other (record { from = from; count = count })
+
+abbrev pub part_by : Option ℕ → Option ℕ → Option (List ℕ) → Result Part (List ℕ)
+part_by None count other = Err (codes "from")
+part_by (Some from) count other = counted_from count other from
+
+-- the part of a list, of so many at most, that a query text asks for, which has none but these members; or the first member that is
+-- at fault
+abbrev pub part_in : ℕ → List (List ℕ) → List Pair → Result Part (List ℕ)
+part_in most known pairs = part_by (from_in pairs) (count_in most pairs) (first_unknown known pairs)

@@ -3,10 +3,10 @@ ghost use Rattle.tracker_calls.specs.Asked.{UnlessMemory};
 ghost use Rattle.tracker_http.specs.Calls.{show_of, history_of, search_of, filter_of, board_of, burndown_of};
 
 use crate::named::{issue_in, number_in};
-use crate::query::{Pair, count_in, first_unknown, from_in, text_in};
+use crate::query::{Pair, first_unknown, part_in, text_in};
 use field_values::{BoardNo, FilterNo, SprintNo, Text};
 use std::alloc::Global;
-use tracker_calls::{Call, MOST_ENTRIES, MOST_LISTED, Part, Refusal, UserName, misses};
+use tracker_calls::{Call, MOST_ENTRIES, MOST_LISTED, Refusal, UserName, misses};
 
 /// An issue's present values.
 pub fn show_of(
@@ -40,24 +40,13 @@ pub fn history_of(
     let Some(issue) = issue_in(path) else {
         return misses(alloc, "issue");
     };
-    let Some(from) = from_in(pairs) else {
-        return misses(alloc, "from");
+    let part = match part_in(pairs, MOST_ENTRIES, &["from", "count"]) {
+        Ok(part) => part,
+        Err(member) => return misses(alloc, member),
     };
-    let Some(count) = count_in(pairs, MOST_ENTRIES) else {
-        return misses(alloc, "count");
-    };
-    if let Some(other) = first_unknown(pairs, &["from", "count"]) {
-        return misses(alloc, other);
-    }
     let issue = Text::copy_of(alloc, issue)?;
     let user = UserName::copy_of(alloc, user)?;
-    Ok((
-        user,
-        Call::History {
-            issue,
-            part: Part { from, count },
-        },
-    ))
+    Ok((user, Call::History { issue, part }))
 }
 
 /// A part of the issues of which a query holds.
@@ -67,24 +56,13 @@ pub fn search_of(alloc: Global, pairs: &[Pair], user: &str) -> Result<(UserName,
     let Some(jql) = text_in(pairs, "jql") else {
         return misses(alloc, "jql");
     };
-    let Some(from) = from_in(pairs) else {
-        return misses(alloc, "from");
+    let part = match part_in(pairs, MOST_LISTED, &["jql", "from", "count"]) {
+        Ok(part) => part,
+        Err(member) => return misses(alloc, member),
     };
-    let Some(count) = count_in(pairs, MOST_LISTED) else {
-        return misses(alloc, "count");
-    };
-    if let Some(other) = first_unknown(pairs, &["jql", "from", "count"]) {
-        return misses(alloc, other);
-    }
     let jql = Text::copy_of(alloc, jql)?;
     let user = UserName::copy_of(alloc, user)?;
-    Ok((
-        user,
-        Call::Search {
-            jql,
-            part: Part { from, count },
-        },
-    ))
+    Ok((user, Call::Search { jql, part }))
 }
 
 /// A part of the issues of which a filter's query holds.
@@ -99,21 +77,16 @@ pub fn filter_of(
     let Some(number) = number_in(path, b"/filters/") else {
         return misses(alloc, "filter");
     };
-    let Some(from) = from_in(pairs) else {
-        return misses(alloc, "from");
+    let part = match part_in(pairs, MOST_LISTED, &["from", "count"]) {
+        Ok(part) => part,
+        Err(member) => return misses(alloc, member),
     };
-    let Some(count) = count_in(pairs, MOST_LISTED) else {
-        return misses(alloc, "count");
-    };
-    if let Some(other) = first_unknown(pairs, &["from", "count"]) {
-        return misses(alloc, other);
-    }
     let user = UserName::copy_of(alloc, user)?;
     Ok((
         user,
         Call::Filter {
             filter: FilterNo(number),
-            part: Part { from, count },
+            part,
         },
     ))
 }
@@ -130,21 +103,16 @@ pub fn board_of(
     let Some(number) = number_in(path, b"/boards/") else {
         return misses(alloc, "board");
     };
-    let Some(from) = from_in(pairs) else {
-        return misses(alloc, "from");
+    let part = match part_in(pairs, MOST_LISTED, &["from", "count"]) {
+        Ok(part) => part,
+        Err(member) => return misses(alloc, member),
     };
-    let Some(count) = count_in(pairs, MOST_LISTED) else {
-        return misses(alloc, "count");
-    };
-    if let Some(other) = first_unknown(pairs, &["from", "count"]) {
-        return misses(alloc, other);
-    }
     let user = UserName::copy_of(alloc, user)?;
     Ok((
         user,
         Call::Board {
             board: BoardNo(number),
-            part: Part { from, count },
+            part,
         },
     ))
 }
@@ -161,21 +129,16 @@ pub fn burndown_of(
     let Some(number) = number_in(path, b"/sprints/") else {
         return misses(alloc, "sprint");
     };
-    let Some(from) = from_in(pairs) else {
-        return misses(alloc, "from");
+    let part = match part_in(pairs, MOST_LISTED, &["from", "count"]) {
+        Ok(part) => part,
+        Err(member) => return misses(alloc, member),
     };
-    let Some(count) = count_in(pairs, MOST_LISTED) else {
-        return misses(alloc, "count");
-    };
-    if let Some(other) = first_unknown(pairs, &["from", "count"]) {
-        return misses(alloc, other);
-    }
     let user = UserName::copy_of(alloc, user)?;
     Ok((
         user,
         Call::Burndown {
             sprint: SprintNo(number),
-            part: Part { from, count },
+            part,
         },
     ))
 }

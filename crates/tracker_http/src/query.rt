@@ -1,12 +1,12 @@
 // The members that a query text gives.
-ghost use Rattle.std.specs.Prelude.{◌≡◌, map, option_map, slice_get, length, IfOk};
-ghost use Rattle.tracker_http.specs.Query.{text_of, pair_of, pairs_of, values_of, once, text_in, number_or, from_in, count_in, lesser, first_unknown};
+ghost use Rattle.std.specs.Prelude.{◌≡◌, map, option_map, slice_get, length, Ok, Err, IfOk, IfErr};
+ghost use Rattle.tracker_http.specs.Query.{text_of, pair_of, pairs_of, values_of, once, text_in, number_or, from_in, count_in, lesser, first_unknown, part_in};
 
 use crate::numbers::number_within;
 use field_values::{Memory, Sequence, Text};
 use form_urlencoded::{decode, raw_pairs};
 use std::alloc::Global;
-use tracker_calls::{MOST_FROM, is_among};
+use tracker_calls::{MOST_FROM, Part, is_among};
 
 /// A name and its value.
 #[derive(Drop)]
@@ -103,16 +103,16 @@ fn number_or(value: Option<&str>, absent: u32, least: u32, most: u32) -> Option<
     }
 }
 
-/// Where a part begins, which is at 0 where the member `from` is absent; `None` where it isn't the digits of such a number.
-pub fn from_in(pairs: &[Pair]) -> Option<u32>
+// Where a part begins, which is at 0 where the member `from` is absent; `None` where it isn't the digits of such a number.
+fn from_in(pairs: &[Pair]) -> Option<u32>
     ensures { result ≡ from_in pairs.now }
 {
     number_or(once(pairs, "from")?, 0, 0, MOST_FROM)
 }
 
-/// How many a part has at most, which is `most` where the member `count` is absent; `None` where it isn't the digits of such a
-/// number.
-pub fn count_in(pairs: &[Pair], most: u32) -> Option<u32>
+// How many a part has at most, which is `most` where the member `count` is absent; `None` where it isn't the digits of such a
+// number.
+fn count_in(pairs: &[Pair], most: u32) -> Option<u32>
     ensures { result ≡ count_in most pairs.now }
 {
     number_or(once(pairs, "count")?, most, 1, most)
@@ -141,4 +141,23 @@ pub fn first_unknown<'p>(pairs: &'p [Pair], known: &[&str]) -> Option<&'p str>
         }
     }
     least
+}
+
+/// The part of a list, of `most` at most, that a query text asks for, which has none but these members; or the first member that is
+/// at fault.
+pub fn part_in<'p>(pairs: &'p [Pair], most: u32, known: &[&str]) -> Result<Part, &'p str>
+    ensures part { IfOk result (λ part. part_in most (map (λ n. n.now) known.now) pairs.now ≡ Ok part) }
+    ensures fault { IfErr result (λ name.
+        part_in most (map (λ n. n.now) known.now) pairs.now ≡ Err name.now) }
+{
+    let Some(from) = from_in(pairs) else {
+        return Err("from");
+    };
+    let Some(count) = count_in(pairs, most) else {
+        return Err("count");
+    };
+    match first_unknown(pairs, known) {
+        Some(other) => Err(other),
+        None => Ok(Part { from, count }),
+    }
 }
