@@ -22,15 +22,15 @@ const CATEGORIES: [Category; 4] = [
     Category::Done,
 ];
 
-const OPEN: ChoiceNo = ChoiceNo(0);
+pub(crate) const OPEN: ChoiceNo = ChoiceNo(0);
 
-const IN_PROGRESS: ChoiceNo = ChoiceNo(1);
+pub(crate) const IN_PROGRESS: ChoiceNo = ChoiceNo(1);
 
-const DONE: ChoiceNo = ChoiceNo(3);
+pub(crate) const DONE: ChoiceNo = ChoiceNo(3);
 
-const MARCH: SprintNo = SprintNo(1);
+pub(crate) const MARCH: SprintNo = SprintNo(1);
 
-fn statuses(alloc: Global) -> Option<Vec<Status>> {
+pub(crate) fn statuses(alloc: Global) -> Option<Vec<Status>> {
     let mut statuses = Vec::new(alloc);
     for &category in &CATEGORIES {
         let name = Text::copy_of(alloc, "status").ok()?;
@@ -39,19 +39,19 @@ fn statuses(alloc: Global) -> Option<Vec<Status>> {
     Some(statuses)
 }
 
-fn is(holds: bool) -> Option<()> {
+pub(crate) fn is(holds: bool) -> Option<()> {
     if holds { Some(()) } else { None }
 }
 
 /// Whether the points are at most 10^12 thousandths, either way.
-fn are_points(points: i64) -> bool
+pub(crate) fn are_points(points: i64) -> bool
     ensures { IsTrue result → ArePoints points }
 {
     -1_000_000_000_000 <= points && points <= 1_000_000_000_000
 }
 
 /// A first issue of so many points in the sprint, which is made as change 1.
-fn first_issue(alloc: Global, points: i64, sprint: SprintNo) -> Option<Issue>
+pub(crate) fn first_issue(alloc: Global, points: i64, sprint: SprintNo) -> Option<Issue>
     ensures change { IfSome result (λ issue. issue.history.change ≡ 1) }
     ensures bare { IfSome result (λ issue. issue.history.entries ≡ []) }
 {
@@ -119,7 +119,13 @@ fn last_change(issue: &Issue) -> u64
 }
 
 /// The change group that gives the field another value.
-fn group_of(alloc: Global, issue: &Issue, change: u64, field: FieldNo, to: Value) -> Option<Group>
+pub(crate) fn group_of(
+    alloc: Global,
+    issue: &Issue,
+    change: u64,
+    field: FieldNo,
+    to: Value,
+) -> Option<Group>
     ensures number { IfSome result (λ group. group.change ≡ change) }
     ensures one { IfSome result (λ group. length group.entries ≡ 1) }
     ensures may { IfSome result (λ group.
@@ -150,7 +156,7 @@ fn group_of(alloc: Global, issue: &Issue, change: u64, field: FieldNo, to: Value
 }
 
 /// Adds the change group to the issue.
-fn add(issue: &mut Issue, group: Group) -> Option<()>
+pub(crate) fn add(issue: &mut Issue, group: Group) -> Option<()>
     requires one { length group.entries ≡ 1 }
     requires may { MayAdd issue.old.history group.change group.at group.author group.entries }
     ensures { OnSome result (issue.new.history ≡ with_entries issue.old.history group.entries) }
@@ -212,7 +218,7 @@ fn moved(work: &mut Work, starts: bool, change: u64) -> Option<Result<(), Sprint
 }
 
 /// Whether what remained at the start, the rows and what remains are these.
-fn tells(work: &Work, start: i64, rows: &[BurnRow], left: i64) -> bool {
+pub(crate) fn tells(work: &Work, start: i64, rows: &[BurnRow], left: i64) -> bool {
     work.at_start(MARCH) == start && work.rows(MARCH) == rows && work.remaining(MARCH) == left
 }
 
@@ -236,7 +242,7 @@ fn reopen(alloc: Global, work: &mut Work, issues: &mut Vec<Issue>) -> Option<()>
     edit(alloc, work, issues, 5, FieldNo::STATUS, Value::Choice(OPEN))
 }
 
-fn row(change: u64, by: i64, left: i64) -> BurnRow {
+pub(crate) fn row(change: u64, by: i64, left: i64) -> BurnRow {
     BurnRow {
         at: Moment::first(),
         change,

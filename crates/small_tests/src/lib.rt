@@ -9,6 +9,8 @@ mod dates;
 #[cfg(test)]
 mod filters;
 #[cfg(test)]
+mod loads;
+#[cfg(test)]
 mod ranking;
 #[cfg(test)]
 mod turns;

@@ -13,13 +13,14 @@ ghost use Rattle.tracker_machine.specs.Step.{IsStep, evaluations, meaning};
 ghost use Rattle.tracker_core.specs.Desk.{IsOwed, HasRow, HasNoRow, due_in};
 ghost use Rattle.tracker_state.specs.Plan.{effect_of, cost_of, Fits};
 
+use crate::preparing::prepare;
 use fields::{Setup, Steps};
 use std::alloc::Global;
 use std::marker::Model;
 use std::sync::ledger::Ledger;
 use tracker_calls::{Answer, Call, Refusal, Reply, UserName};
 use tracker_keeper::{KeepFault, Keeper, Row, RowOp};
-use tracker_state::{Plan, Prepared, State, opening_ops, prepare};
+use tracker_state::{Plan, Prepared, State, opening_ops};
 
 /// What makes the calls, one at a time, and has kept what they leave. Contracts see it as the abstract tracker, the verdicts of its
 /// filters, and what keeps its rows.

@@ -2,6 +2,7 @@
 #![tactic(auto)]
 
 mod desk;
+mod preparing;
 
 pub use desk::{Desk, OpenFault};
 pub use tracker_state::State;

@@ -1,9 +1,4 @@
 pub mod Check
-pub mod Found
 pub mod State
 pub mod Plan
-pub mod Resolved
-pub mod Wants
-pub mod Weight
-pub mod Sorting
-pub mod InSprints
+pub mod Rows

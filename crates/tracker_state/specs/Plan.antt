@@ -1,25 +1,13 @@
 -- What a prepared call has ready.
-use Rattle.std.specs.Prelude.{◌≡◌, ◌≢◌, ◌≤◌, ◌<◌, ℕ, List, map, length, sum_by, string_bytes, slice_get, IfSome, Option, Some, None, Result, Ok, Err}
+use Rattle.std.specs.Prelude.{◌≡◌, ◌≢◌, ◌≤◌, ◌<◌, ℕ, List, length, sum_by, string_bytes, slice_get, IfSome, Option, Some, None, Result, Ok, Err}
 use Rattle.tracker_calls.specs.declared.reply.Answer.{Answer}
 use Rattle.tracker_calls.specs.declared.reply.Refusal.{Refusal}
 use Rattle.tracker_calls.specs.declared.reply.Refusal.TheVariants as refusal
-use Rattle.serde_json.specs.Written.{compact_text}
-use Rattle.rank_strings.specs.Rank.{RankParts}
-use Rattle.rank_strings.specs.Text.{rank_text}
 use Rattle.board.specs.declared.board.Board.{Board}
-use Rattle.rank_balancer.specs.declared.balance.Balance.{Balance}
-use Rattle.rank_balancer.specs.Step.{Move}
-use Rattle.field_values.specs.declared.numbers.IssueNo.{IssueNo}
-use Rattle.field_values.specs.declared.numbers.SprintNo.{SprintNo}
-use Rattle.tracker_keeper.specs.declared.part.Format.TheVariants.{First}
 use Rattle.tracker_keeper.specs.declared.row.RowOp.{RowOp}
-use Rattle.tracker_keeper.specs.declared.row.Row.{Row}
-use Rattle.field_forms.specs.Known.{Names}
 use Rattle.change_history.specs.declared.entry.Entry.{Entry}
 use Rattle.change_history.specs.declared.entry.Group.{Group}
 use Rattle.change_history.specs.History.{History}
-use Rattle.tracker_keeper.specs.declared.row.RowOp.TheVariants.{Put}
-use Rattle.tracker_keeper.specs.Bodies.{present_data, sprint_data, board_data, body_text}
 use Rattle.fields.specs.Naming.{name_at}
 use Rattle.tracker_machine.specs.Known.{project_keys, next_key}
 use Rattle.tracker_machine.specs.Checks.{history_bytes, entry_bytes}
@@ -27,13 +15,8 @@ use Rattle.tracker_machine.specs.Machine.{Machine}
 use Rattle.tracker_machine.specs.Effect.{Effect, IsAllowed}
 use Rattle.tracker_machine.specs.Effect.Effect.{NewMoment, NewIssue, NewGroup, NewRank, NewBalance, NewRanks, NewSprint, NewState, NewFilter, NoFilter, NewBoard, NoBoard}
 use Rattle.tracker_machine.specs.Meaning.{Meaning}
-use Rattle.tracker_machine.specs.Kept.{issue_part, group_part, filter_part, ops_of}
-use Rattle.tracker_machine.specs.Saved.{SavedFilter}
+use Rattle.tracker_machine.specs.Kept.{ops_of}
 use Rattle.tracker_machine.specs.Meaning.Meaning.{Refuses, Tells, Finds, Makes}
-use Rattle.tracker_machine.specs.Edit.{edit_answer}
-use Rattle.tracker_machine.specs.Transition.{transition_answer}
-use Rattle.tracker_state.specs.declared.group.GroupCall.{GroupCall}
-use Rattle.tracker_state.specs.declared.group.GroupCall.TheVariants as call
 use Rattle.tracker_state.specs.declared.plan.IssuePlan.{IssuePlan}
 use Rattle.tracker_state.specs.declared.plan.GroupPlan.{GroupPlan}
 use Rattle.tracker_state.specs.declared.plan.Plan.{Plan}
@@ -46,7 +29,6 @@ use Rattle.tracker_filters.specs.declared.ready.ReadyFilter.{ReadyFilter}
 use Rattle.tracker_filters.specs.Saved.{number, condition_of}
 use Rattle.tracker_filters.specs.Watched.{HasFilterRoom, HasIssueRoom}
 use Rattle.tracker_filters.specs.Ready.{AreVerdicts}
-use Rattle.sprints.specs.declared.sprint.Sprint.{Sprint}
 use Rattle.burndown.specs.ChartLaws.{with_entries}
 use Rattle.tracker_work.specs.Seen.{share_now}
 use Rattle.tracker_work.specs.Work.{HasRoomFor}
@@ -66,11 +48,6 @@ effect_of (plans.Save ready) = NewFilter (saved_as ready.filter)
 effect_of (plans.DropFilter filter_no) = NoFilter filter_no
 effect_of (plans.Board b) = NewBoard b
 effect_of (plans.DropBoard board_no) = NoBoard board_no
-
--- the answer of a call that changes an issue
-abbrev pub group_answer : GroupCall → List ℕ → Option ℕ → Answer
-group_answer call.Edit issue number = edit_answer issue number
-group_answer call.Transition issue number = transition_answer issue number
 
 -- there is room for the issue, its key is the next one of its project, and what is kept beside it is its own
 pub record IssueFits (s : Held) (new : IssuePlan) : Type 0 where
@@ -129,37 +106,6 @@ abbrev pub cost_to_prepare : Meaning → Machine → ℕ
 cost_to_prepare (Finds a) m = length m.histories
 cost_to_prepare (Makes a (NewFilter f)) m = length m.histories
 cost_to_prepare _ m = 0
-
--- the operation that keeps where the tracker stands
-abbrev pub present_op : Balance → ℕ → ℕ → RowOp
-present_op balance change moment = Put (record { kind = 2; no = 0; body = compact_text (present_data balance change First moment) })
-
--- the row of an issue as it was created
-abbrev pub issue_row : Names → History → Row
-issue_row names h = record { kind = 3; no = h.no.0; body = body_text names (issue_part h) }
-
--- and of a change group of an issue
-abbrev pub group_row : Names → History → Group → Row
-group_row names h group = record { kind = 4; no = group.change; body = body_text names (group_part h group) }
-
--- the operations that keep a filter and a board, and those that end the row of one
-abbrev pub filter_op : Names → SavedFilter → RowOp
-filter_op names f = Put (record { kind = 8; no = f.no.0; body = body_text names (filter_part f) })
-
-abbrev pub board_op : Board → RowOp
-board_op b = Put (record { kind = 9; no = b.no.0; body = compact_text (board_data b.filter.0 b.name) })
-
--- the operation that keeps a sprint
-abbrev pub sprint_op : SprintNo → Sprint → RowOp
-sprint_op sprint_no sprint = Put (record { kind = 7; no = sprint_no.0; body = compact_text (sprint_data sprint.name sprint.state) })
-
--- the operation that keeps an issue's rank
-abbrev pub rank_op : IssueNo → RankParts → RowOp
-rank_op issue rank = Put (record { kind = 5; no = issue.0; body = rank_text rank })
-
--- those of the ranks that moves give
-abbrev pub rank_ops : List Move → List RowOp
-rank_ops moves = map (λ move. rank_op move.0 move.1) moves
 
 -- a call that makes something has its answer ready, a plan of its effect, which may come and for which there is room, and the
 -- operations that keep it

@@ -1,5 +1,5 @@
 -- What the state keeps, and what holds of it.
-use Rattle.std.specs.Prelude.{◌≡◌, ◌≤◌, ◌<◌, ℕ, List, Ok, map, length}
+use Rattle.std.specs.Prelude.{◌≡◌, ◌≤◌, ◌<◌, ℕ, List, Ok, map, length, option_map}
 use Rattle.std.specs.List.{All}
 use Rattle.fields.specs.declared.setup.Setup.{Setup}
 use Rattle.fields.specs.SetupParts.{parts}
@@ -7,12 +7,11 @@ use Rattle.field_values.specs.Parts.{Parts}
 use Rattle.jql_bound.specs.declared.context.Context.{Context}
 use Rattle.jql_meaning.specs.Surroundings.{surroundings_of}
 use Rattle.tracker_machine.specs.Machine.{Machine}
-use Rattle.tracker_machine.specs.Query.{asked}
+use Rattle.tracker_machine.specs.Query.{asked, Query}
 use Rattle.tracker_machine.specs.Saved.{SavedFilter}
 use Rattle.tracker_machine.specs.Search.{surroundings_in}
 use Rattle.tracker_machine.specs.Sprints.{work_of}
 use Rattle.tracker_machine.specs.Tracker.{IsTracker}
-use Rattle.tracker_state.specs.Found.{query_of}
 use Rattle.tracker_issues.specs.Counts.{counts_of}
 use Rattle.tracker_issues.specs.Issues.{Shelf}
 use Rattle.tracker_ranks.specs.Ranked.{OrderedIssues}
@@ -20,6 +19,12 @@ use Rattle.tracker_filters.specs.declared.filter.Filter.{Filter}
 use Rattle.tracker_filters.specs.Watched.{WatchedFilters}
 use Rattle.tracker_boards.specs.Boards.{BoardList}
 use Rattle.tracker_work.specs.Work.{TrackedWork, HasRoomForSprint}
+use Rattle.jql_bound.specs.Condition.{view}
+use Rattle.jql_bound.specs.declared.cond.Bound.{Bound}
+
+-- what a query that is bound to a setup asks for
+abbrev pub query_of : Bound → Query
+query_of bound = record { condition = option_map view bound.cond; keys = bound.order.keys }
 
 -- a filter as the abstract tracker has it
 abbrev pub saved_as : Filter → SavedFilter

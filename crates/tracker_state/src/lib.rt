@@ -1,45 +1,18 @@
-//! The tracker's state: what each call prepares, and how it is installed.
+//! The tracker's state, how plans change it, and what calls of every kind ask of it before they do.
 #![tactic(auto)]
 
-mod asking;
-mod board_issues;
 mod check;
-mod create;
-mod drop_board;
-mod drop_filter;
-mod edit;
-mod empty;
-mod filter_issues;
-mod group;
-mod history;
-mod in_sprint;
 mod install;
-mod listing;
-mod make_board;
-mod make_sprint;
-mod moves;
-mod names;
-mod no_room;
+mod keys;
+pub mod no_room;
 mod part;
 mod plan;
-mod preparing;
-mod ranks;
-mod rebalance;
-mod remaining;
-mod resolved;
 mod rows;
-mod save_filter;
-mod search;
-mod show;
 mod state;
-mod tick;
-mod told;
-mod transition;
-mod turn_sprint;
-mod wants;
-mod weight;
 
+pub use check::{check_access, check_permission, known_issue, malformed, unknown, unnumbered};
+pub use keys::key_numbered;
+pub use part::part_of;
 pub use plan::{GroupPlan, IssuePlan, Plan, Prepared, RankPlan};
-pub use preparing::prepare;
-pub use rows::opening_ops;
+pub use rows::{opening_ops, present_ops, put_rank, rank_op};
 pub use state::State;

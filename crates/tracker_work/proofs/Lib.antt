@@ -3,3 +3,7 @@ pub mod Points
 pub mod Steps
 pub mod Lent
 pub mod Answered
+pub mod Turning
+pub mod Replaying
+pub mod Telling
+pub mod Loading

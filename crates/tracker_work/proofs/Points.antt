@@ -28,7 +28,7 @@ are_up_to number [] are = All-nil (λ e. e.change ≤ number)
 are_up_to number (e ∷ es) are = All-cons (λ (d : Entry). d.change ≤ number) e es (omega (arith, are.0)) (are_up_to number es are.1)
 
 -- all that are of no greater number
-up_to_whole : (n m : ℕ) (es : List Entry) → All (λ e. e.change ≤ m) es → m ≤ n → up_to n es ≡ es
+pub up_to_whole : (n m : ℕ) (es : List Entry) → All (λ e. e.change ≤ m) es → m ≤ n → up_to n es ≡ es
 up_to_whole n m [] all le = refl
 up_to_whole n m (e ∷ es) all le =
     let low = All-head (λ (d : Entry). d.change ≤ m) e es all in

@@ -3,8 +3,11 @@
 
 mod groups;
 pub mod laws;
+mod load;
+mod replay;
 mod shares;
 mod states;
+mod told;
 mod work;
 
 pub use work::Work;

@@ -51,7 +51,7 @@ fn is_done_by(done: &[bool], status: ChoiceNo) -> bool
     }
 }
 
-fn is_done_in(done: &[bool], value: &Value) -> bool
+pub(crate) fn is_done_in(done: &[bool], value: &Value) -> bool
     ensures { result ≡ is_done_in (is_done_by done.now) value.now }
 {
     match value {
@@ -60,7 +60,7 @@ fn is_done_in(done: &[bool], value: &Value) -> bool
     }
 }
 
-fn sprint_in(value: &Value) -> Option<SprintNo>
+pub(crate) fn sprint_in(value: &Value) -> Option<SprintNo>
     ensures { result ≡ sprint_in value.now }
 {
     match value {
@@ -69,7 +69,7 @@ fn sprint_in(value: &Value) -> Option<SprintNo>
     }
 }
 
-fn points_in(value: &Value) -> i64
+pub(crate) fn points_in(value: &Value) -> i64
     ensures { result ≡ points_in value.now }
 {
     match value {

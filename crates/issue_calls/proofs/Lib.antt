@@ -1,0 +1,4 @@
+pub mod Grouping
+pub mod Holding
+pub mod Means
+pub mod Ops

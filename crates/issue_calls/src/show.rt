@@ -1,0 +1,105 @@
+// The call `show`: an issue's present values.
+ghost use Rattle.std.specs.Prelude.{◌≡◌, ◌<◌, ◌++◌, [], length, IfOk, OnOk, map, slice_get};
+ghost use Rattle.fields.specs.SetupParts.{parts, names_in};
+ghost use Rattle.change_history.specs.History.{present, updated};
+ghost use Rattle.fields.specs.Naming.{field_name};
+ghost use Rattle.tracker_machine.specs.Known.{history_named};
+ghost use Rattle.tracker_state.specs.Plan.{IsPrepared};
+ghost use Rattle.tracker_machine.specs.Show.{show_refusal, show_meaning, show_answer_of, shown_issue, shown_fields, shown_value, with_shown};
+ghost use Rattle.tracker_state.specs.Check.{Checks};
+ghost use Rattle.tracker_machine.specs.Tracker.{Holds};
+
+use crate::told::shown_value;
+use change_history::Issue;
+use fields::{FieldNo, Memory, Permission, Setup, Text, UserNo};
+use std::alloc::Global;
+use tracker_calls::{Answer, Refusal, ShownField, ShownFields};
+use tracker_state::{Prepared, State, check_access, known_issue};
+
+/// Tells the issue's present values.
+pub fn show(alloc: Global, state: &State, caller: UserNo, issue: &str) -> Result<Prepared, Refusal>
+    ensures { IsPrepared (show_meaning state.now.machine caller.0 issue.now) state.now result }
+{
+    let place = check_show(alloc, state, caller, issue)?;
+    match shown(alloc, state, place) {
+        Ok(answer) => Ok(Prepared::Tell(answer)),
+        Err(_) => Err(Refusal::Memory),
+    }
+}
+
+/// The place of the issue, which the caller may browse.
+pub fn check_show(
+    alloc: Global,
+    state: &State,
+    caller: UserNo,
+    issue: &str,
+) -> Result<usize, Refusal>
+    ensures check { Checks (show_refusal state.now.machine caller.0 issue.now) result }
+    ensures place { IfOk result (λ place. history_named state.now.machine issue.now ≡ slice_get state.now.machine.histories place) }
+    ensures there { IfOk result (λ place. place < length state.now.machine.histories) }
+{
+    let place = known_issue(alloc, state, issue)?;
+    check_access(alloc, state, caller, Permission::Browse, place)?;
+    Ok(place)
+}
+
+fn shown(alloc: Global, state: &State, place: usize) -> Result<Answer, Memory>
+    requires { place < length state.now.machine.histories }
+    ensures { IfOk result (λ answer. answer ≡ show_answer_of state.now.machine (slice_get state.now.machine.histories place)) }
+{
+    let Some(issue) = state.issue_at(place) else {
+        unreachable!()
+    };
+    issue_answer(alloc, state.setup(), issue)
+}
+
+#[tactic(auto, unfolding(tracker_machine::specs::Show::shown_issue))]
+fn issue_answer(alloc: Global, setup: &Setup, issue: &Issue) -> Result<Answer, Memory>
+    requires { (f : FieldNo) → Holds (names_in (parts setup.now)) f (present issue.now.history f) }
+    ensures { IfOk result (λ answer. answer ≡ Answer.Show issue.now.history.at (shown_issue (names_in (parts setup.now)) issue.now.history) issue.now.history.key (updated issue.now.history)) }
+{
+    let numbers = setup.field_numbers(alloc)?;
+    let fields = shown_fields(alloc, setup, issue, &numbers)?;
+    let key = Text::copy_of(alloc, issue.key().as_str())?;
+    Ok(Answer::Show {
+        created: issue.created(),
+        fields,
+        issue: key,
+        updated: issue.updated(),
+    })
+}
+
+fn shown_fields(
+    alloc: Global,
+    setup: &Setup,
+    issue: &Issue,
+    numbers: &[FieldNo],
+) -> Result<ShownFields, Memory>
+    requires { (f : FieldNo) → Holds (names_in (parts setup.now)) f (present issue.now.history f) }
+    ensures { IfOk result (λ fields. fields ≡ shown_fields (names_in (parts setup.now)) issue.now.history (map (λ f. f.0) numbers.now)) }
+{
+    let mut fields = ShownFields::new(alloc);
+    for field in numbers {
+        put_field(alloc, setup, issue, *field, &mut fields)?;
+    }
+    Ok(fields)
+}
+
+// Puts the field, unless it is empty, behind the others.
+fn put_field(
+    alloc: Global,
+    setup: &Setup,
+    issue: &Issue,
+    field: FieldNo,
+    fields: &mut ShownFields,
+) -> Result<(), Memory>
+    requires { Holds (names_in (parts setup.now)) field (present issue.now.history field) }
+    ensures { OnOk result (fields.new ≡ fields.old
+        ++ with_shown (field_name setup.now.field field.0) (shown_value (names_in (parts setup.now)) field.0 (present issue.now.history field)) []) }
+{
+    let Some(value) = shown_value(alloc, setup, field, issue.value(field))? else {
+        return Ok(());
+    };
+    let name = Text::copy_of(alloc, setup.field_name(field))?;
+    fields.push(ShownField { name, value })
+}

@@ -1,0 +1,216 @@
+// The call `transition`: an issue goes to another status, as one change group with all that comes with it.
+ghost use Rattle.std.specs.Prelude.{◌≡◌, ◌<◌, ◌≤◌, ℕ, length, slice_get, IfOk, IfSome, Some, true};
+ghost use Rattle.change_history.specs.History.{present};
+ghost use Rattle.fields.specs.SetupParts.{names_in, parts};
+ghost use Rattle.workflow.specs.Plan.{planned};
+ghost use Rattle.workflow.specs.Difference.{AreNews};
+ghost use Rattle.field_values.specs.declared.numbers.TheConstants.FieldNo.{REPORTER as reporter};
+ghost use Rattle.workflow.specs.Laws.{AllFit, IsSoundTransition};
+ghost use Rattle.tracker_machine.specs.Checks.{entries_kept, bytes_kept};
+ghost use Rattle.tracker_machine.specs.Known.{place_of_issue};
+ghost use Rattle.tracker_machine.specs.Transition.{transition_named, transition_refusal, transition_meaning, condition_refusal, validator_refusal, plan_refusal, transition_news};
+ghost use Rattle.tracker_state.specs.Check.{Checks};
+ghost use Rattle.tracker_machine.specs.Tracker.{Holds};
+ghost use Rattle.field_forms.specs.SoundRules.{rules_are_sound};
+ghost use Rattle.wanted_values.specs.InSprints.{GivesKnownSprint, AreOfSprints};
+ghost use Rattle.tracker_state.specs.Plan.{IsPrepared};
+
+use crate::check::{
+    check_bytes, check_closed, check_entries, check_set, known_transition, known_values,
+};
+use crate::group::{GroupCall, grouped};
+use change_history::{Change, Issue};
+use fields::{Memory, Permission, Setup, Transition, UserNo};
+use std::alloc::Global;
+use tracker_calls::{GivenField, Refusal};
+use tracker_state::{Prepared, State, check_access, known_issue};
+use wanted_values::ResolvedSet;
+use workflow::{failing_condition, failing_validator, planned};
+
+/// Prepares the transition of that name, or says why not.
+pub fn transition(
+    alloc: Global,
+    state: &mut State,
+    caller: UserNo,
+    issue: &str,
+    transition: &str,
+    set: &[GivenField],
+) -> Result<Prepared, Refusal>
+    requires { caller.0 < length state.old.machine.setup.users }
+    ensures same { state.new.machine ≡ state.old.machine }
+    ensures table { state.new.watched.views.table ≡ state.old.watched.views.table }
+    ensures filters { state.new.watched.filters ≡ state.old.watched.filters }
+    ensures prepared { IsPrepared (transition_meaning state.old.machine caller.0 issue.now transition.now set.now) state.new result }
+{
+    let Ok(given) = ResolvedSet::of(alloc, state.setup(), set) else {
+        return Err(Refusal::Memory);
+    };
+    let checked = check_transition(alloc, state, caller, issue, transition, &given);
+    drop(given);
+    match checked {
+        Ok((place, net)) => grouped(
+            alloc,
+            state,
+            caller,
+            GroupCall::Transition,
+            place,
+            issue,
+            net,
+        ),
+        Err(refusal) => Err(refusal),
+    }
+}
+
+// The place of the issue, and what the transition changes of it.
+fn check_transition(
+    alloc: Global,
+    state: &State,
+    caller: UserNo,
+    issue: &str,
+    transition: &str,
+    set: &ResolvedSet<'_>,
+) -> Result<(usize, Vec<Change>), Refusal>
+    requires setup { set.now.setup ≡ state.now.machine.setup }
+    requires user { caller.0 < length state.now.machine.setup.users }
+    ensures check { Checks (transition_refusal state.now.machine caller.0 issue.now transition.now set.now.set) result }
+    ensures place { IfOk result (λ r. place_of_issue issue.now state.now.machine.histories ≡ Some r.0) }
+    ensures there { IfOk result (λ r. r.0 < length state.now.machine.histories) }
+    ensures net { IfOk result (λ r. r.1.items ≡ transition_news state.now.machine caller.0 set.now.set
+        (slice_get state.now.machine.histories r.0) (transition_named state.now.machine transition.now)) }
+    ensures news { IfOk result (λ r. IfSome (slice_get state.now.machine.histories r.0) (λ h. AreNews (present h) 0 r.1.items)) }
+    ensures fitting { IfOk result (λ r. AllFit (names_in state.now.machine.setup) r.1.items) }
+    ensures sprints { IfOk result (λ r. AreOfSprints (length state.now.machine.sprints) r.1.items) }
+    ensures few { IfOk result (λ r. entries_kept state.now.machine.histories ≤ 1_999_957) }
+    ensures light { IfOk result (λ r. bytes_kept state.now.machine.histories ≤ 499_800_000) }
+{
+    let place = known_issue(alloc, state, issue)?;
+    let number = known_transition(alloc, state, transition)?;
+    check_set(alloc, state, set)?;
+    check_access(alloc, state, caller, Permission::Browse, place)?;
+    check_access(alloc, state, caller, Permission::Transition, place)?;
+    check_closed(state, set, state.issue_at(place))?;
+    check_entries(state)?;
+    check_bytes(state)?;
+    let net = check_plan(alloc, state, caller, place, number, set)?;
+    Ok((place, net))
+}
+
+// What the transition changes, unless one of its checks fails.
+fn check_plan(
+    alloc: Global,
+    state: &State,
+    caller: UserNo,
+    place: usize,
+    transition: usize,
+    set: &ResolvedSet<'_>,
+) -> Result<Vec<Change>, Refusal>
+    requires setup { set.now.setup ≡ state.now.machine.setup }
+    requires user { caller.0 < length state.now.machine.setup.users }
+    requires there { place < length state.now.machine.histories }
+    requires named { transition < length state.now.machine.setup.transition }
+    requires known { GivesKnownSprint state.now.machine set.now.set }
+    ensures check { Checks (plan_refusal state.now.machine caller.0 set.now.set (slice_get state.now.machine.histories place) (slice_get state.now.machine.setup.transition transition)) result }
+    ensures net { IfOk result (λ net. net.items ≡ transition_news state.now.machine caller.0 set.now.set
+        (slice_get state.now.machine.histories place) (slice_get state.now.machine.setup.transition transition)) }
+    ensures news { IfOk result (λ net. IfSome (slice_get state.now.machine.histories place) (λ h. AreNews (present h) 0 net.items)) }
+    ensures fitting { IfOk result (λ net. AllFit (names_in state.now.machine.setup) net.items) }
+    ensures sprints { IfOk result (λ net.
+        AreOfSprints (length state.now.machine.sprints) net.items) }
+{
+    let Some(issue) = state.issue_at(place) else {
+        unreachable!()
+    };
+    let transition = &state.setup().transition.as_slice()[transition];
+    plan_of(alloc, state, caller, issue, transition, set)
+}
+
+// The same of an issue and a transition that are there.
+fn plan_of(
+    alloc: Global,
+    state: &State,
+    caller: UserNo,
+    issue: &Issue,
+    transition: &Transition,
+    set: &ResolvedSet<'_>,
+) -> Result<Vec<Change>, Refusal>
+    requires setup { set.now.setup ≡ state.now.machine.setup }
+    requires sound { IsSoundTransition state.now.machine.setup transition.now }
+    requires rules { rules_are_sound (names_in state.now.machine.setup) transition.now ≡ true }
+    requires known { GivesKnownSprint state.now.machine set.now.set }
+    requires user { caller.0 < length state.now.machine.setup.users }
+    requires reporter { Holds (names_in state.now.machine.setup) reporter (present issue.now.history reporter) }
+    ensures check { Checks (plan_refusal state.now.machine caller.0 set.now.set (Some issue.now.history) (Some transition.now)) result }
+    ensures net { IfOk result (λ net. net.items ≡ transition_news state.now.machine caller.0 set.now.set (Some issue.now.history) (Some transition.now)) }
+    ensures news { IfOk result (λ net. AreNews (present issue.now.history) 0 net.items) }
+    ensures fitting { IfOk result (λ net. AllFit (names_in state.now.machine.setup) net.items) }
+    ensures sprints { IfOk result (λ net.
+        AreOfSprints (length state.now.machine.sprints) net.items) }
+{
+    check_conditions(state, caller, issue, transition)?;
+    let inputs = known_values(alloc, state, set, None)?;
+    check_validators(state, caller, issue, transition, inputs.as_slice())?;
+    match news_of(alloc, state.setup(), caller, issue, transition, inputs) {
+        Ok(net) => Ok(net),
+        Err(_) => Err(Refusal::Memory),
+    }
+}
+
+fn check_conditions(
+    state: &State,
+    caller: UserNo,
+    issue: &Issue,
+    transition: &Transition,
+) -> Result<(), Refusal>
+    ensures { Checks (condition_refusal state.now.machine caller.0 (Some issue.now.history) (Some transition.now)) result }
+{
+    match failing_condition(state.setup(), issue, caller, transition) {
+        Some(index) => Err(Refusal::Condition { index }),
+        None => Ok(()),
+    }
+}
+
+fn check_validators(
+    state: &State,
+    caller: UserNo,
+    issue: &Issue,
+    transition: &Transition,
+    inputs: &[Change],
+) -> Result<(), Refusal>
+    ensures { Checks (validator_refusal state.now.machine caller.0 inputs.now (Some issue.now.history) (Some transition.now)) result }
+{
+    match failing_validator(
+        state.setup(),
+        issue,
+        caller,
+        transition,
+        inputs,
+        state.moment(),
+    ) {
+        Some(index) => Err(Refusal::Validator { index }),
+        None => Ok(()),
+    }
+}
+
+// What the transition changes of the present values.
+#[tactic(auto, using(workflow::proofs::FitPlans::planned_news, workflow::proofs::FitPlans::planned_fit, crate::proofs::Holding::reporter_fits))]
+fn news_of(
+    alloc: Global,
+    setup: &Setup,
+    caller: UserNo,
+    issue: &Issue,
+    transition: &Transition,
+    inputs: Vec<Change>,
+) -> Result<Vec<Change>, Memory>
+    requires sound { IsSoundTransition (parts setup.now) transition.now }
+    requires rules { rules_are_sound (names_in (parts setup.now)) transition.now ≡ true }
+    requires user { caller.0 < length setup.now.users }
+    requires reporter { Holds (names_in (parts setup.now)) reporter (present issue.now.history reporter) }
+    requires inputs { AllFit (names_in (parts setup.now)) inputs.items }
+    ensures net { IfOk result (λ net. net.items ≡ planned (parts setup.now) issue.now.history caller transition.now inputs.items) }
+    ensures news { IfOk result (λ net. AreNews (present issue.now.history) 0 net.items) }
+    ensures fitting { IfOk result (λ net. AllFit (names_in (parts setup.now)) net.items) }
+    ensures sprints { IfOk result (λ net. (count : ℕ) →
+        AreOfSprints count inputs.items → AreOfSprints count net.items) }
+{
+    planned(alloc, setup, issue, caller, transition, inputs)
+}

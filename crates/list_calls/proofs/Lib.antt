@@ -1,0 +1,6 @@
+pub mod Checked
+pub mod Ops
+pub mod Parted
+pub mod Saving
+pub mod Shown
+pub mod Sorting

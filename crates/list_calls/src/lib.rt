@@ -1,0 +1,14 @@
+//! What calls that list issues prepare, and those that keep what is listed: searches, filters and boards.
+#![tactic(auto)]
+
+mod asking;
+pub mod board_issues;
+mod check;
+pub mod drop_board;
+pub mod drop_filter;
+pub mod filter_issues;
+mod listing;
+pub mod make_board;
+mod rows;
+pub mod save_filter;
+pub mod search;

@@ -1,0 +1,104 @@
+// The call `search`: the issues of which a query holds now.
+ghost use Rattle.std.specs.Prelude.{◌≡◌, ◌+◌, ◌≤◌, IfOk, length, map, option_map};
+ghost use Rattle.jql_bound.specs.Condition.{view};
+ghost use Rattle.jql_meaning.specs.Truth.{query_holds};
+ghost use Rattle.tracker_machine.specs.Search.{found, is_found, search_meaning, search_answer, surroundings_in};
+ghost use Rattle.tracker_state.specs.Plan.{IsPrepared, cost_to_prepare};
+ghost use Rattle.tracker_state.specs.State.{query_of};
+
+use crate::asking::asked;
+use crate::listing::{count_of, keys_of, may_browse, put_in_order};
+use change_history::Issue;
+use fields::{Memory, Steps, UserNo};
+use jql_bound::Bound;
+use jql_eval::evaluate;
+use std::alloc::Global;
+use std::sync::ledger::Ledger;
+use tracker_calls::{Answer, Part, Refusal};
+use tracker_state::{Prepared, State, part_of};
+
+/// Tells a part of the issues of which the query holds and which the caller may browse, in the query's order.
+#[tactic(auto, unfolding(tracker_machine::specs::Search::search_meaning))]
+pub fn search<L: Ledger>(
+    alloc: Global,
+    state: &State,
+    caller: UserNo,
+    jql: &str,
+    part: Part,
+    steps: &mut Steps<L>,
+) -> Result<Prepared, Refusal>
+    ensures prepared { IsPrepared (search_meaning state.now.machine caller.0 jql.now part) state.now result }
+    ensures steps { steps.new ≤ steps.old + cost_to_prepare (search_meaning state.now.machine caller.0 jql.now part) state.now.machine }
+{
+    let bound = asked(alloc, state.setup(), caller, jql)?;
+    let answer = told(alloc, state, caller, &bound, part, steps);
+    drop(bound);
+    match answer {
+        Ok(answer) => Ok(Prepared::Tell(answer)),
+        Err(_) => Err(Refusal::Memory),
+    }
+}
+
+fn told<L: Ledger>(
+    alloc: Global,
+    state: &State,
+    caller: UserNo,
+    bound: &Bound,
+    part: Part,
+    steps: &mut Steps<L>,
+) -> Result<Answer, Memory>
+    ensures answer { IfOk result (λ answer. answer ≡ search_answer state.now.machine caller.0 part (query_of bound.now)) }
+    ensures steps { steps.new ≤ steps.old + length state.now.machine.histories }
+{
+    let mut issues = found(alloc, state, caller, bound, steps)?;
+    let total = count_of(&issues);
+    put_in_order(state, &bound.order, &mut issues)?;
+    let issues = keys_of(alloc, part_of(&issues, part))?;
+    Ok(Answer::Search { issues, total })
+}
+
+// The issues of which the query holds and which the caller may browse. Each is asked at most once.
+#[tactic(auto, unfolding(tracker_machine::specs::Search::found))]
+fn found<'s, L: Ledger>(
+    alloc: Global,
+    state: &'s State,
+    caller: UserNo,
+    bound: &Bound,
+    steps: &mut Steps<L>,
+) -> Result<Vec<&'s Issue>, Memory>
+    ensures found { IfOk result (λ issues. map (λ i. i.now.history) issues.items ≡ found state.now.machine caller.0 (option_map view bound.now.cond)) }
+    ensures steps { steps.new ≤ steps.old + length state.now.machine.histories }
+{
+    let mut issues = Vec::new(alloc);
+    for issue in state.issues() {
+        if is_found(state, caller, bound, issue, steps) {
+            issues.push(issue)?;
+        }
+    }
+    Ok(issues)
+}
+
+fn is_found<L: Ledger>(
+    state: &State,
+    caller: UserNo,
+    bound: &Bound,
+    issue: &Issue,
+    steps: &mut Steps<L>,
+) -> bool
+    ensures found { result ≡ is_found state.now.machine caller.0 (option_map view bound.now.cond) issue.now.history }
+    ensures steps { steps.new ≤ steps.old + 1 }
+{
+    if !may_browse(state, caller, issue) {
+        return false;
+    }
+    holds_now(state, bound, issue, steps)
+}
+
+fn holds_now<L: Ledger>(state: &State, bound: &Bound, issue: &Issue, steps: &mut Steps<L>) -> bool
+    ensures holds { result ≡ query_holds
+        (surroundings_in state.now.machine.setup state.now.machine.sprints) issue.now.history
+        state.now.machine.moment (option_map view bound.now.cond) }
+    ensures steps { steps.new ≡ steps.old + 1 }
+{
+    evaluate(bound, issue, state.context(), state.moment(), steps).holds()
+}

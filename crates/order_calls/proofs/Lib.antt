@@ -1,0 +1,5 @@
+pub mod Checked
+pub mod Means
+pub mod Ops
+pub mod Ranking
+pub mod Rebalancing

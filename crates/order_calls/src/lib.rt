@@ -1,0 +1,12 @@
+//! What calls prepare that order work: the clock, ranks and their rebalancing, and sprints.
+#![tactic(auto)]
+
+mod check;
+pub mod make_sprint;
+pub mod moves;
+pub mod ranks;
+pub mod rebalance;
+pub mod remaining;
+mod rows;
+pub mod tick;
+pub mod turn_sprint;

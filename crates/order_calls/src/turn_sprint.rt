@@ -1,0 +1,150 @@
+// The calls `start_sprint` and `close_sprint`: a sprint that comes to its next state.
+ghost use Rattle.std.specs.Prelude.{◌≡◌, IfOk, Some};
+ghost use Rattle.sprints.specs.Sprint.{IsThere, state_of, name_of};
+ghost use Rattle.tracker_machine.specs.Effect.{IsAllowed};
+ghost use Rattle.tracker_machine.specs.Effect.Effect.{NewState};
+ghost use Rattle.tracker_machine.specs.Kept.{ops_of};
+ghost use Rattle.tracker_machine.specs.Sprints.{told_phase, plan_sprint_refusal, start_sprint_meaning, close_sprint_meaning, turned};
+ghost use Rattle.tracker_machine.specs.SprintRules.{MayTurn};
+ghost use Rattle.tracker_state.specs.Check.{Checks};
+ghost use Rattle.tracker_state.specs.Plan.{IsPrepared};
+
+use crate::check::known_sprint;
+use crate::rows::sprint_ops;
+use fields::{Memory, Permission, SprintNo, UserNo};
+use sprints::SprintState;
+use std::alloc::Global;
+use tracker_calls::{Answer, Refusal, SprintPhase};
+use tracker_keeper::RowOp;
+use tracker_state::{Plan, Prepared, State, check_permission};
+
+/// Prepares that the sprint starts now, or says why not.
+pub fn start_sprint(
+    alloc: Global,
+    state: &State,
+    caller: UserNo,
+    sprint: SprintNo,
+) -> Result<Prepared, Refusal>
+    ensures { IsPrepared (start_sprint_meaning state.now.machine caller.0 sprint) state.now result }
+{
+    match sprint_to_plan(alloc, state, caller, sprint)? {
+        SprintState::Future => turn(
+            alloc,
+            state,
+            sprint,
+            SprintState::Active {
+                at: state.moment(),
+                change: state.change(),
+            },
+        ),
+        kept => Err(Refusal::SprintIs {
+            state: phase_of(&kept),
+        }),
+    }
+}
+
+/// Prepares that the sprint is closed now, or says why not.
+pub fn close_sprint(
+    alloc: Global,
+    state: &State,
+    caller: UserNo,
+    sprint: SprintNo,
+) -> Result<Prepared, Refusal>
+    ensures { IsPrepared (close_sprint_meaning state.now.machine caller.0 sprint) state.now result }
+{
+    match sprint_to_plan(alloc, state, caller, sprint)? {
+        SprintState::Active { at, change } => turn(
+            alloc,
+            state,
+            sprint,
+            SprintState::Closed {
+                start_at: at,
+                start_change: change,
+                at: state.moment(),
+                change: state.change(),
+            },
+        ),
+        kept => Err(Refusal::SprintIs {
+            state: phase_of(&kept),
+        }),
+    }
+}
+
+/// The state of the sprint of that number, where the caller may plan.
+pub fn sprint_to_plan(
+    alloc: Global,
+    state: &State,
+    caller: UserNo,
+    sprint: SprintNo,
+) -> Result<SprintState, Refusal>
+    ensures kept { IfOk result (λ kept. state_of state.now.machine.sprints sprint.0 ≡ Some kept) }
+    ensures check { Checks (plan_sprint_refusal state.now.machine caller.0 sprint) result }
+{
+    let kept = known_sprint(alloc, state, sprint)?;
+    check_permission(alloc, state, caller, Permission::Plan, None)?;
+    Ok(kept)
+}
+
+/// How far a sprint of this state is, as an answer tells it.
+pub fn phase_of(state: &SprintState) -> SprintPhase
+    ensures { result ≡ told_phase state.now }
+{
+    match state {
+        SprintState::Future => SprintPhase::Future,
+        SprintState::Active { .. } => SprintPhase::Active,
+        SprintState::Closed { .. } => SprintPhase::Closed,
+    }
+}
+
+// The sprint comes to its next state.
+#[tactic(auto, unfolding(tracker_machine::specs::Effect::IsAllowed))]
+fn turn(
+    alloc: Global,
+    state: &State,
+    sprint: SprintNo,
+    next: SprintState,
+) -> Result<Prepared, Refusal>
+    requires { MayTurn state.now.machine.moment state.now.machine.change state.now.machine.sprints sprint next }
+    ensures { (kept : SprintState) → IsPrepared (turned sprint kept (Some next)) state.now result }
+{
+    let answer = Answer::SprintPhase {
+        sprint,
+        state: phase_of(&next),
+    };
+    let Ok(rows) = turn_ops(alloc, state, sprint, &next) else {
+        return Err(Refusal::Memory);
+    };
+    Ok(Prepared::Make {
+        plan: Plan::State {
+            sprint,
+            state: next,
+        },
+        answer,
+        rows,
+    })
+}
+
+// The operation that keeps a sprint in its next state.
+#[tactic(auto, using(crate::proofs::Ops::state_ops_are))]
+fn turn_ops(
+    alloc: Global,
+    state: &State,
+    sprint: SprintNo,
+    next: &SprintState,
+) -> Result<Vec<RowOp>, Memory>
+    requires { MayTurn state.now.machine.moment state.now.machine.change state.now.machine.sprints sprint next.now }
+    ensures { IfOk result (λ ops. ops.items ≡ ops_of (NewState sprint next.now) state.now.machine) }
+{
+    sprint_ops(alloc, sprint, name_of(state, sprint), next)
+}
+
+// The name of a sprint that is there.
+fn name_of(state: &State, sprint: SprintNo) -> &str
+    requires { IsThere state.now.machine.sprints sprint.0 }
+    ensures { name_of state.now.machine.sprints sprint.0 ≡ Some result.now }
+{
+    let Some(name) = state.work().name(sprint) else {
+        unreachable!()
+    };
+    name.as_str()
+}

@@ -1,0 +1,193 @@
+// Copies of calls.
+ghost use Rattle.std.specs.Prelude.{◌≡◌, IfOk};
+ghost use Rattle.tracker_calls.specs.declared.call.Call.TheVariants as calls;
+
+use crate::call::Call;
+use crate::given::{Given, GivenField, GivenFields};
+use field_values::{Memory, Names, Text};
+use std::alloc::Global;
+
+impl Call {
+    /// Another call of the same.
+    pub fn copy(&self, alloc: Global) -> Result<Self, Memory>
+        ensures { IfOk result (λ c. c ≡ self.now) }
+    {
+        match self {
+            Call::Create {
+                project,
+                issue_type,
+                summary,
+                set,
+            } => copy_create(alloc, project, issue_type, summary, set),
+            Call::Edit { issue, set } => copy_edit(alloc, issue, set),
+            Call::Tick { to } => Ok(Call::Tick { to: *to }),
+            Call::Transition {
+                issue,
+                transition,
+                set,
+            } => copy_transition(alloc, issue, transition, set),
+            Call::MoveBefore { issue, other } => copy_move_before(alloc, issue, other),
+            Call::MoveAfter { issue, other } => copy_move_after(alloc, issue, other),
+            Call::RebalanceStart => Ok(Call::RebalanceStart),
+            Call::RebalanceStep { count } => Ok(Call::RebalanceStep { count: *count }),
+            Call::SaveFilter { name, jql } => copy_save_filter(alloc, name, jql),
+            Call::DropFilter { filter } => Ok(Call::DropFilter { filter: *filter }),
+            Call::MakeBoard { name, filter } => {
+                let name = name.copy(alloc)?;
+                Ok(Call::MakeBoard {
+                    name,
+                    filter: *filter,
+                })
+            }
+            Call::DropBoard { board } => Ok(Call::DropBoard { board: *board }),
+            Call::MakeSprint { name } => {
+                let name = name.copy(alloc)?;
+                Ok(Call::MakeSprint { name })
+            }
+            Call::StartSprint { sprint } => Ok(Call::StartSprint { sprint: *sprint }),
+            Call::CloseSprint { sprint } => Ok(Call::CloseSprint { sprint: *sprint }),
+            Call::Show { issue } => {
+                let issue = issue.copy(alloc)?;
+                Ok(Call::Show { issue })
+            }
+            Call::History { issue, part } => {
+                let issue = issue.copy(alloc)?;
+                Ok(Call::History { issue, part: *part })
+            }
+            Call::Search { jql, part } => {
+                let jql = jql.copy(alloc)?;
+                Ok(Call::Search { jql, part: *part })
+            }
+            Call::Ranks { part } => Ok(Call::Ranks { part: *part }),
+            Call::Balance => Ok(Call::Balance),
+            Call::Filter { filter, part } => Ok(Call::Filter {
+                filter: *filter,
+                part: *part,
+            }),
+            Call::Board { board, part } => Ok(Call::Board {
+                board: *board,
+                part: *part,
+            }),
+            Call::Burndown { sprint, part } => Ok(Call::Burndown {
+                sprint: *sprint,
+                part: *part,
+            }),
+        }
+    }
+}
+
+fn copy_create(
+    alloc: Global,
+    project: &Text,
+    issue_type: &Text,
+    summary: &Text,
+    set: &GivenFields,
+) -> Result<Call, Memory>
+    ensures { IfOk result (λ c. c ≡ calls.Create project.now issue_type.now summary.now set.now) }
+{
+    let project = project.copy(alloc)?;
+    let issue_type = issue_type.copy(alloc)?;
+    let summary = summary.copy(alloc)?;
+    let set = set.copy(alloc)?;
+    Ok(Call::Create {
+        project,
+        issue_type,
+        summary,
+        set,
+    })
+}
+
+fn copy_edit(alloc: Global, issue: &Text, set: &GivenFields) -> Result<Call, Memory>
+    ensures { IfOk result (λ c. c ≡ calls.Edit issue.now set.now) }
+{
+    let issue = issue.copy(alloc)?;
+    let set = set.copy(alloc)?;
+    Ok(Call::Edit { issue, set })
+}
+
+fn copy_transition(
+    alloc: Global,
+    issue: &Text,
+    transition: &Text,
+    set: &GivenFields,
+) -> Result<Call, Memory>
+    ensures { IfOk result (λ c. c ≡ calls.Transition issue.now transition.now set.now) }
+{
+    let issue = issue.copy(alloc)?;
+    let transition = transition.copy(alloc)?;
+    let set = set.copy(alloc)?;
+    Ok(Call::Transition {
+        issue,
+        transition,
+        set,
+    })
+}
+
+fn copy_move_before(alloc: Global, issue: &Text, other: &Text) -> Result<Call, Memory>
+    ensures { IfOk result (λ c. c ≡ calls.MoveBefore issue.now other.now) }
+{
+    let issue = issue.copy(alloc)?;
+    let other = other.copy(alloc)?;
+    Ok(Call::MoveBefore { issue, other })
+}
+
+fn copy_move_after(alloc: Global, issue: &Text, other: &Text) -> Result<Call, Memory>
+    ensures { IfOk result (λ c. c ≡ calls.MoveAfter issue.now other.now) }
+{
+    let issue = issue.copy(alloc)?;
+    let other = other.copy(alloc)?;
+    Ok(Call::MoveAfter { issue, other })
+}
+
+fn copy_save_filter(alloc: Global, name: &Text, jql: &Text) -> Result<Call, Memory>
+    ensures { IfOk result (λ c. c ≡ calls.SaveFilter name.now jql.now) }
+{
+    let name = name.copy(alloc)?;
+    let jql = jql.copy(alloc)?;
+    Ok(Call::SaveFilter { name, jql })
+}
+
+impl Given {
+    /// Another of the same.
+    pub fn copy(&self, alloc: Global) -> Result<Self, Memory>
+        ensures { IfOk result (λ given. given ≡ self.now) }
+    {
+        match self {
+            Given::Null => Ok(Given::Null),
+            Given::Text(text) => {
+                let text = text.copy(alloc)?;
+                Ok(Given::Text(text))
+            }
+            Given::List(names) => {
+                let names = names.copy(alloc)?;
+                Ok(Given::List(names))
+            }
+            Given::Number(number) => Ok(Given::Number(*number)),
+            Given::Other => Ok(Given::Other),
+        }
+    }
+}
+
+impl GivenField {
+    /// Another of the same name, for which the same is given.
+    pub fn copy(&self, alloc: Global) -> Result<Self, Memory>
+        ensures { IfOk result (λ field. field ≡ self.now) }
+    {
+        let name = self.name.copy(alloc)?;
+        let given = self.given.copy(alloc)?;
+        Ok(GivenField { name, given })
+    }
+}
+
+impl GivenFields {
+    /// The same fields in the same order.
+    pub fn copy(&self, alloc: Global) -> Result<Self, Memory>
+        ensures { IfOk result (λ fields. fields ≡ self.now) }
+    {
+        let mut fields = GivenFields::new(alloc);
+        for field in self.as_slice() {
+            fields.push(field.copy(alloc)?)?;
+        }
+        Ok(fields)
+    }
+}

@@ -1,0 +1,420 @@
+// Copies of replies.
+ghost use Rattle.std.specs.Prelude.{◌≡◌, IfOk, option_map};
+ghost use Rattle.tracker_calls.specs.declared.reply.Answer.TheVariants as answers;
+ghost use Rattle.tracker_calls.specs.declared.reply.Refusal.TheVariants as refusals;
+
+use crate::reply::{
+    Answer, BurnedRow, BurnedRows, Column, Columns, RankedKey, RankedKeys, Refusal, Reply, Shown,
+    ShownField, ShownFields, Thing, ToldEntries, ToldEntry,
+};
+use field_values::{Memory, Moment, Names, Permission, Text};
+use std::alloc::Global;
+
+impl Reply {
+    /// Another reply of the same.
+    pub fn copy(&self, alloc: Global) -> Result<Self, Memory>
+        ensures { IfOk result (λ r. r ≡ self.now) }
+    {
+        match self {
+            Reply::Ok(answer) => {
+                let answer = answer.copy(alloc)?;
+                Ok(Reply::Ok(answer))
+            }
+            Reply::Refused(refusal) => {
+                let refusal = refusal.copy(alloc)?;
+                Ok(Reply::Refused(refusal))
+            }
+        }
+    }
+}
+
+impl Answer {
+    /// Another answer of the same.
+    pub fn copy(&self, alloc: Global) -> Result<Self, Memory>
+        ensures { IfOk result (λ a. a ≡ self.now) }
+    {
+        match self {
+            Answer::Create {
+                already,
+                change,
+                issue,
+            } => copy_create(alloc, *already, *change, issue),
+            Answer::Edit { change, issue } => copy_edit(alloc, *change, issue),
+            Answer::Transition { change, issue } => copy_transition(alloc, *change, issue),
+            Answer::Tick { moment } => Ok(Answer::Tick { moment: *moment }),
+            Answer::Show {
+                created,
+                fields,
+                issue,
+                updated,
+            } => copy_show(alloc, *created, fields, issue, *updated),
+            Answer::History { entries, total } => copy_history(alloc, entries, *total),
+            Answer::Search { issues, total } => copy_search(alloc, issues, *total),
+            Answer::Move { issue, rank } => copy_moved(alloc, issue, rank),
+            Answer::Ranks { ranks, total } => copy_ranked(alloc, ranks, *total),
+            Answer::RebalanceStart { from, to } => Ok(Answer::RebalanceStart {
+                from: *from,
+                to: *to,
+            }),
+            Answer::RebalanceStep { left, moved } => Ok(Answer::RebalanceStep {
+                left: *left,
+                moved: *moved,
+            }),
+            Answer::Balance {
+                state,
+                longest,
+                offer,
+            } => Ok(Answer::Balance {
+                state: *state,
+                longest: *longest,
+                offer: *offer,
+            }),
+            Answer::SaveFilter { filter, members } => Ok(Answer::SaveFilter {
+                filter: *filter,
+                members: *members,
+            }),
+            Answer::DropFilter { filter } => Ok(Answer::DropFilter { filter: *filter }),
+            Answer::Filter { issues, total } => copy_filtered(alloc, issues, *total),
+            Answer::MakeBoard { board } => Ok(Answer::MakeBoard { board: *board }),
+            Answer::DropBoard { board } => Ok(Answer::DropBoard { board: *board }),
+            Answer::Board { columns, total } => copy_boarded(alloc, columns, *total),
+            Answer::MakeSprint { sprint } => Ok(Answer::MakeSprint { sprint: *sprint }),
+            Answer::SprintPhase { sprint, state } => Ok(Answer::SprintPhase {
+                sprint: *sprint,
+                state: *state,
+            }),
+            Answer::Burndown {
+                left,
+                rows,
+                start,
+                state,
+                total,
+            } => {
+                let rows = copy_burned(alloc, rows)?;
+                Ok(Answer::Burndown {
+                    left: *left,
+                    rows,
+                    start: *start,
+                    state: *state,
+                    total: *total,
+                })
+            }
+        }
+    }
+}
+
+fn copy_create(alloc: Global, already: bool, change: u64, issue: &Text) -> Result<Answer, Memory>
+    ensures { IfOk result (λ a. a ≡ answers.Create already change issue.now) }
+{
+    let issue = issue.copy(alloc)?;
+    Ok(Answer::Create {
+        already,
+        change,
+        issue,
+    })
+}
+
+fn copy_edit(alloc: Global, change: Option<u64>, issue: &Text) -> Result<Answer, Memory>
+    ensures { IfOk result (λ a. a ≡ answers.Edit change issue.now) }
+{
+    let issue = issue.copy(alloc)?;
+    Ok(Answer::Edit { change, issue })
+}
+
+fn copy_transition(alloc: Global, change: Option<u64>, issue: &Text) -> Result<Answer, Memory>
+    ensures { IfOk result (λ a. a ≡ answers.Transition change issue.now) }
+{
+    let issue = issue.copy(alloc)?;
+    Ok(Answer::Transition { change, issue })
+}
+
+fn copy_show(
+    alloc: Global,
+    created: Moment,
+    fields: &ShownFields,
+    issue: &Text,
+    updated: Moment,
+) -> Result<Answer, Memory>
+    ensures { IfOk result (λ a. a ≡ answers.Show created fields.now issue.now updated) }
+{
+    let fields = fields.copy(alloc)?;
+    let issue = issue.copy(alloc)?;
+    Ok(Answer::Show {
+        created,
+        fields,
+        issue,
+        updated,
+    })
+}
+
+fn copy_history(alloc: Global, entries: &ToldEntries, total: u64) -> Result<Answer, Memory>
+    ensures { IfOk result (λ a. a ≡ answers.History entries.now total) }
+{
+    let entries = copy_told(alloc, entries)?;
+    Ok(Answer::History { entries, total })
+}
+
+fn copy_search(alloc: Global, issues: &Names, total: u64) -> Result<Answer, Memory>
+    ensures { IfOk result (λ a. a ≡ answers.Search issues.now total) }
+{
+    let issues = issues.copy(alloc)?;
+    Ok(Answer::Search { issues, total })
+}
+
+fn copy_moved(alloc: Global, issue: &Text, rank: &Text) -> Result<Answer, Memory>
+    ensures { IfOk result (λ a. a ≡ answers.Move issue.now rank.now) }
+{
+    let issue = issue.copy(alloc)?;
+    let rank = rank.copy(alloc)?;
+    Ok(Answer::Move { issue, rank })
+}
+
+fn copy_ranked(alloc: Global, ranks: &RankedKeys, total: u64) -> Result<Answer, Memory>
+    ensures { IfOk result (λ a. a ≡ answers.Ranks ranks.now total) }
+{
+    let ranks = copy_keys(alloc, ranks)?;
+    Ok(Answer::Ranks { ranks, total })
+}
+
+fn copy_filtered(alloc: Global, issues: &Names, total: u64) -> Result<Answer, Memory>
+    ensures { IfOk result (λ a. a ≡ answers.Filter issues.now total) }
+{
+    let issues = issues.copy(alloc)?;
+    Ok(Answer::Filter { issues, total })
+}
+
+fn copy_boarded(alloc: Global, list: &Columns, total: u64) -> Result<Answer, Memory>
+    ensures { IfOk result (λ a. a ≡ answers.Board list.now total) }
+{
+    let columns = copy_columns(alloc, list)?;
+    Ok(Answer::Board { columns, total })
+}
+
+// ---- the parts of answers
+
+fn copy_burned(alloc: Global, rows: &BurnedRows) -> Result<BurnedRows, Memory>
+    ensures { IfOk result (λ copy. copy ≡ rows.now) }
+{
+    let mut copy = BurnedRows::new(alloc);
+    for row in rows.as_slice() {
+        copy.push(row.copy(alloc)?)?;
+    }
+    Ok(copy)
+}
+
+fn copy_keys(alloc: Global, ranks: &RankedKeys) -> Result<RankedKeys, Memory>
+    ensures { IfOk result (λ copy. copy ≡ ranks.now) }
+{
+    let mut copy = RankedKeys::new(alloc);
+    for key in ranks.as_slice() {
+        copy.push(key.copy(alloc)?)?;
+    }
+    Ok(copy)
+}
+
+fn copy_columns(alloc: Global, list: &Columns) -> Result<Columns, Memory>
+    ensures { IfOk result (λ copy. copy ≡ list.now) }
+{
+    let mut copy = Columns::new(alloc);
+    for column in list.as_slice() {
+        copy.push(column.copy(alloc)?)?;
+    }
+    Ok(copy)
+}
+
+fn copy_told(alloc: Global, entries: &ToldEntries) -> Result<ToldEntries, Memory>
+    ensures { IfOk result (λ copy. copy ≡ entries.now) }
+{
+    let mut copy = ToldEntries::new(alloc);
+    for entry in entries.as_slice() {
+        copy.push(entry.copy(alloc)?)?;
+    }
+    Ok(copy)
+}
+
+impl BurnedRow {
+    fn copy(&self, alloc: Global) -> Result<Self, Memory>
+        ensures { IfOk result (λ row. row ≡ self.now) }
+    {
+        let issue = self.issue.copy(alloc)?;
+        Ok(BurnedRow {
+            at: self.at,
+            by: self.by,
+            change: self.change,
+            issue,
+            left: self.left,
+        })
+    }
+}
+
+impl RankedKey {
+    fn copy(&self, alloc: Global) -> Result<Self, Memory>
+        ensures { IfOk result (λ key. key ≡ self.now) }
+    {
+        let issue = self.issue.copy(alloc)?;
+        let rank = self.rank.copy(alloc)?;
+        Ok(RankedKey { issue, rank })
+    }
+}
+
+impl Column {
+    fn copy(&self, alloc: Global) -> Result<Self, Memory>
+        ensures { IfOk result (λ column. column ≡ self.now) }
+    {
+        let issues = self.issues.copy(alloc)?;
+        let status = self.status.copy(alloc)?;
+        Ok(Column { issues, status })
+    }
+}
+
+impl ToldEntry {
+    fn copy(&self, alloc: Global) -> Result<Self, Memory>
+        ensures { IfOk result (λ entry. entry ≡ self.now) }
+    {
+        let by = self.by.copy(alloc)?;
+        let field = self.field.copy(alloc)?;
+        let from = shown_if_any(alloc, self.from.as_ref())?;
+        let to = shown_if_any(alloc, self.to.as_ref())?;
+        Ok(ToldEntry {
+            at: self.at,
+            by,
+            change: self.change,
+            field,
+            from,
+            to,
+        })
+    }
+}
+
+impl Shown {
+    fn copy(&self, alloc: Global) -> Result<Self, Memory>
+        ensures { IfOk result (λ shown. shown ≡ self.now) }
+    {
+        match self {
+            Shown::Text(text) => {
+                let text = text.copy(alloc)?;
+                Ok(Shown::Text(text))
+            }
+            Shown::List(names) => {
+                let names = names.copy(alloc)?;
+                Ok(Shown::List(names))
+            }
+            Shown::Number(number) => Ok(Shown::Number(*number)),
+        }
+    }
+}
+
+impl ShownField {
+    fn copy(&self, alloc: Global) -> Result<Self, Memory>
+        ensures { IfOk result (λ field. field ≡ self.now) }
+    {
+        let name = self.name.copy(alloc)?;
+        let value = self.value.copy(alloc)?;
+        Ok(ShownField { name, value })
+    }
+}
+
+impl ShownFields {
+    fn copy(&self, alloc: Global) -> Result<Self, Memory>
+        ensures { IfOk result (λ fields. fields ≡ self.now) }
+    {
+        let mut fields = ShownFields::new(alloc);
+        for field in self.as_slice() {
+            fields.push(field.copy(alloc)?)?;
+        }
+        Ok(fields)
+    }
+}
+
+// The value of one side of an entry, where it isn't empty.
+fn shown_if_any(alloc: Global, shown: Option<&Shown>) -> Result<Option<Shown>, Memory>
+    ensures { IfOk result (λ copy. copy ≡ option_map (λ s. s.now) shown.entry) }
+{
+    match shown {
+        None => Ok(None),
+        Some(shown) => {
+            let shown = shown.copy(alloc)?;
+            Ok(Some(shown))
+        }
+    }
+}
+
+// ---- refusals
+
+impl Refusal {
+    /// Another refusal of the same.
+    pub fn copy(&self, alloc: Global) -> Result<Self, Memory>
+        ensures { IfOk result (λ r. r ≡ self.now) }
+    {
+        match self {
+            Refusal::Form { member } => {
+                let member = member.copy(alloc)?;
+                Ok(Refusal::Form { member })
+            }
+            Refusal::Unknown { kind, name } => copy_unknown(alloc, *kind, name),
+            Refusal::Forbidden {
+                permission,
+                project,
+            } => copy_forbidden(alloc, *permission, project.as_ref()),
+            Refusal::Condition { index } => Ok(Refusal::Condition { index: *index }),
+            Refusal::Validator { index } => Ok(Refusal::Validator { index: *index }),
+            Refusal::Unfit { field } => {
+                let field = field.copy(alloc)?;
+                Ok(Refusal::Unfit { field })
+            }
+            Refusal::Query { kind, place } => Ok(Refusal::Query {
+                kind: *kind,
+                place: *place,
+            }),
+            Refusal::NoRoom { low, high } => copy_no_room(alloc, low.as_ref(), high.as_ref()),
+            Refusal::SprintIs { state } => Ok(Refusal::SprintIs { state: *state }),
+            Refusal::Limit { limit } => Ok(Refusal::Limit { limit: *limit }),
+            Refusal::Earlier { kept } => Ok(Refusal::Earlier { kept: *kept }),
+            Refusal::BalanceIs(kept) => Ok(Refusal::BalanceIs(*kept)),
+            Refusal::Keeper => Ok(Refusal::Keeper),
+            Refusal::Memory => Ok(Refusal::Memory),
+        }
+    }
+}
+
+fn copy_unknown(alloc: Global, kind: Thing, name: &Text) -> Result<Refusal, Memory>
+    ensures { IfOk result (λ r. r ≡ refusals.Unknown kind name.now) }
+{
+    let name = name.copy(alloc)?;
+    Ok(Refusal::Unknown { kind, name })
+}
+
+fn copy_forbidden(
+    alloc: Global,
+    permission: Permission,
+    project: Option<&Text>,
+) -> Result<Refusal, Memory>
+    ensures { IfOk result (λ r. r ≡ refusals.Forbidden permission (option_map (λ t. t.now) project.entry)) }
+{
+    let project = text_if_any(alloc, project)?;
+    Ok(Refusal::Forbidden {
+        permission,
+        project,
+    })
+}
+
+fn copy_no_room(alloc: Global, low: Option<&Text>, high: Option<&Text>) -> Result<Refusal, Memory>
+    ensures { IfOk result (λ r. r ≡ refusals.NoRoom (option_map (λ t. t.now) low.entry)
+        (option_map (λ t. t.now) high.entry)) }
+{
+    let low = text_if_any(alloc, low)?;
+    let high = text_if_any(alloc, high)?;
+    Ok(Refusal::NoRoom { low, high })
+}
+
+fn text_if_any(alloc: Global, text: Option<&Text>) -> Result<Option<Text>, Memory>
+    ensures { IfOk result (λ copy. copy ≡ option_map (λ t. t.now) text.entry) }
+{
+    match text {
+        None => Ok(None),
+        Some(text) => {
+            let text = text.copy(alloc)?;
+            Ok(Some(text))
+        }
+    }
+}

@@ -1,0 +1,14 @@
+pub mod Reading
+pub mod Verdicts
+pub mod Rising
+pub mod Found
+pub mod Fits
+pub mod Changes
+pub mod Issues
+pub mod Ranks
+pub mod Parts
+pub mod Making
+pub mod Steps
+pub mod Walk
+pub mod Loaded
+pub mod WorkedRows

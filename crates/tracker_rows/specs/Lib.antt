@@ -1,0 +1,5 @@
+pub mod Listed
+pub mod Gathered
+pub mod Rules
+pub mod Loading
+pub mod Laws

@@ -1,0 +1,21 @@
+//! What is proved of all lists of rows. These functions do nothing: each clause is a law.
+ghost use Rattle.tracker_rows.specs.Laws.{GoodRowsLeadOn, LoadedAreTrackers, LoadedSetupsAreTheirTexts, LoadedRowsAreTheirs, RowsLoadOne, FirstBadIsOne, LoadedHaveNoBad};
+
+/// Good rows and one more lead to what was gathered with its part, which is what a loop over rows needs.
+pub fn good_rows_lead_on()
+    ensures { GoodRowsLeadOn }
+{}
+
+/// What rows load is a tracker, whose setup is that of its text, and its rows are those.
+pub fn loaded_rows_are_a_tracker()
+    ensures tracker { LoadedAreTrackers }
+    ensures setup { LoadedSetupsAreTheirTexts }
+    ensures rows { LoadedRowsAreTheirs }
+{}
+
+/// Rows load one tracker at most, or have one first bad row, and never both.
+pub fn rows_load_or_are_bad()
+    ensures one { RowsLoadOne }
+    ensures first { FirstBadIsOne }
+    ensures apart { LoadedHaveNoBad }
+{}

@@ -1,0 +1,9 @@
+pub mod Connections
+pub mod Direct
+pub mod Events
+pub mod Exchanges
+pub mod Laws
+pub mod Links
+pub mod Sending
+pub mod Served
+pub mod Steps

@@ -1,7 +1,0 @@
-use Rattle.std.proofs.Common.{◌≡◌}
-use Rattle.change_history.specs.History.{present}
-use Rattle.workflow.specs.Difference.{entries_of}
-use Rattle.tracker_state.proofs.group.entries_of.Given as goal
-
-abbrev pub invariant-loop-next : goal.invariant-loop-next
-invariant-loop-next l = l.entries ≡ entries_of (present l.issue.history) l.change l.at l.author l.yielded

@@ -1,6 +1,0 @@
-use Rattle.std.proofs.Common.{◌≡◌, drop, map, option_map, None}
-use Rattle.tracker_state.specs.Resolved.{resolved, first_of}
-use Rattle.tracker_state.proofs.names.first_refused.Given as goal
-
-abbrev pub invariant-loop-name : goal.invariant-loop-name
-invariant-loop-name l = first_of l.missing None (map resolved l.names) ≡ first_of l.missing (option_map resolved l.found) (map resolved (drop l.name-index l.names))

@@ -1,0 +1,11 @@
+use Rattle.std.proofs.Common.{◌+◌}
+use Rattle.tracker_work.specs.States.{state_before, state_begun}
+use Rattle.tracker_work.specs.Replay.{seen_in, AreReserved, HasSameSlots, IsChartedWithin}
+use Rattle.tracker_work.proofs.replay.begin_all.Given as goal
+
+abbrev pub invariant-loop-place : goal.invariant-loop-place
+invariant-loop-place l = record {
+  charts : IsChartedWithin (seen_in l.origin) l.number l.burndown (state_before l.number) (state_begun l.number) (l.place + 1);
+  reserved : AreReserved (seen_in l.origin) l.burndown;
+  room : HasSameSlots l.fn.burndown l.burndown;
+}

@@ -1,0 +1,6 @@
+pub mod Bulk
+pub mod Counting
+pub mod Fitting
+pub mod InSprints
+pub mod Named
+pub mod Resolving

@@ -1,0 +1,4 @@
+pub mod InSprints
+pub mod Resolved
+pub mod Wants
+pub mod Weight

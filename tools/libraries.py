@@ -1,0 +1,99 @@
+#!/usr/bin/env python3
+"""Builds libraries of this checkout side by side, over what earlier checks kept, the longest chain first; or checks one crate over them.
+
+usage: python3 tools/libraries.py [--lanes N] [CRATE..]
+       python3 tools/libraries.py check CRATE [FLAGS OF rt check..]
+
+The first form builds what the crates stand on and the crates themselves, all where none is named, at most N at a time (all processors
+by default), and tells the time of each. The second checks a crate over the libraries as they are. `rt check` builds the crates below one
+after another, and sums their sources anew on each path that leads to them, of which the command line has some twelve thousand; here each
+crate is summed once. Nothing is to be edited while either runs, and only `rt ci` gives a verdict. The status is 1 where a crate isn't proved.
+"""
+import concurrent.futures
+import os
+import pathlib
+import shutil
+import sys
+import time
+
+TOP = pathlib.Path(__file__).resolve().parent.parent
+sys.path.insert(0, os.path.dirname(os.path.realpath(shutil.which('rt') or sys.exit('there is no rt on the path'))))
+import rtlib  # noqa: E402
+
+SUMS = {}
+plain_stamp = rtlib.Crate.stamp
+
+
+def stamp(crate):
+    if crate.folder not in SUMS:
+        SUMS[crate.folder] = plain_stamp(crate)
+    return SUMS[crate.folder]
+
+
+def build(crate, jobs):
+    begin = time.time()
+    os.makedirs(f'{crate.folder}/out', exist_ok=True)
+    with open(f'{crate.folder}/out/library.log', 'w+') as crate.out:
+        try:
+            status = crate.build_rlib(['--jobs', str(jobs)], False)
+        except SystemExit:
+            status = 2
+    told = 'built' if not status else f'not built, see crates/{crate.name}/out/library.log'
+    print(f'{crate.name} {told}, {time.time() - begin:.0f} s', flush=True)
+    return status
+
+
+def build_all(crates, lanes):
+    """Builds each crate once those below it are built, first those with the longest chain of others behind them."""
+    below = {it.name: {dep.name for dep in it.below()} for it in crates}
+    lines = {it.name: it.count(rb'\n') for it in crates}
+    behind = dict(lines)
+    # (a crate comes after those below it)
+    for it in reversed(crates):
+        for dep in below[it.name]:
+            behind[dep] = max(behind[dep], lines[dep] + behind[it.name])
+    left, running, built = sorted(crates, key=lambda it: -behind[it.name]), {}, {}
+    with concurrent.futures.ThreadPoolExecutor(lanes) as pool:
+        while left or running:
+            ready = [it for it in left if all(built.get(dep) == 0 for dep in below[it.name])]
+            busy = sum(jobs for _, jobs in running.values())
+            for place, crate in enumerate(ready):
+                if busy >= lanes:
+                    break
+                left.remove(crate)
+                jobs = max(1, min(4, (lanes - busy) // (len(ready) - place)))
+                busy += jobs
+                running[pool.submit(build, crate, jobs)] = crate, jobs
+            if not running:
+                break
+            for it in concurrent.futures.wait(running, return_when=concurrent.futures.FIRST_COMPLETED).done:
+                built[running.pop(it)[0].name] = it.result()
+    return 1 if left or any(built.values()) else 0
+
+
+def main(words):
+    if words[:1] in (['-h'], ['--help']):
+        sys.exit(__doc__)
+    os.chdir(TOP)
+    rtlib.guarded()
+    rtlib.Crate.stamp = stamp
+    crates = rtlib.crates_below(str(TOP))
+    known = {it.name: it for it in crates}
+    if words[:1] == ['check']:
+        if len(words) < 2 or words[1] not in known:
+            sys.exit(__doc__)
+        crate = known[words[1]]
+        crate.out = sys.stdout
+        os.makedirs(f'{crate.folder}/out', exist_ok=True)
+        os.chdir(crate.folder)
+        return 1 if crate.check(words[2:]) else 0
+    lanes = len(os.sched_getaffinity(0))
+    if words[:1] == ['--lanes']:
+        lanes, words = int(words[1]), words[2:]
+    if any(it not in known for it in words):
+        sys.exit(__doc__)
+    wanted = {dep.name for it in words for dep in [known[it], *known[it].below()]} or set(known)
+    return build_all([it for it in crates if it.name in wanted and it.makes_rlib()], lanes)
+
+
+sys.exit(main(sys.argv[1:]))
