@@ -13,7 +13,7 @@ ghost use Rattle.tracker_machine.specs.Transition.{transition_names};
 ghost use Rattle.tracker_machine.specs.Known.{project_keys, issues_of, place_of_issue};
 ghost use Rattle.tracker_machine.specs.Checks.{entries_kept, bytes_kept};
 ghost use Rattle.tracker_machine.specs.Tracker.{IsSettled, IsTracker};
-ghost use Rattle.tracker_state.specs.State.{saved_filters, HasSprintRoom, HaveSeen, IsBound};
+ghost use Rattle.tracker_state.specs.State.{machine_of, saved_filters, HasSprintRoom, HaveSeen, IsBound, IsState};
 
 use change_history::Issue;
 use fields::{Memory, Moment, Permission, ProjectNo, Setup, SprintNo, UserNo};
@@ -101,6 +101,33 @@ impl State {
             boards: Boards::new(alloc),
             work,
         })
+    }
+
+    /// The state whose parts are these, which agree with one another.
+    pub fn of_parts(
+        setting: Setting,
+        moment: Moment,
+        change: u64,
+        issues: Issues,
+        ranks: Ranks,
+        filters: Filters,
+        boards: Boards,
+        work: Work,
+    ) -> State
+        requires { IsState (machine_of setting.setup moment change issues ranks filters boards work)
+            issues.counts filters work setting.context }
+        ensures { result.machine ≡ machine_of setting.setup moment change issues ranks filters boards work }
+    {
+        State {
+            setting,
+            moment,
+            change,
+            issues,
+            ranks,
+            filters,
+            boards,
+            work,
+        }
     }
 
     /// The setup, lent.

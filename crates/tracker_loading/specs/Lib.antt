@@ -1,0 +1,10 @@
+pub mod Asking
+pub mod Assembled
+pub mod Entries
+pub mod Filtered
+pub mod Load
+pub mod Making
+pub mod Reading
+pub mod Rules
+pub mod Taken
+pub mod Turns
