@@ -5,3 +5,5 @@
 mod clocks;
 #[cfg(test)]
 mod runs;
+#[cfg(test)]
+mod servers;

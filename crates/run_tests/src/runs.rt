@@ -1,4 +1,5 @@
 use field_values::Text;
+use fields::BUILT_IN;
 use std::alloc::{AllocError, Global};
 use std::test::Fail;
 use tracker_calls::{MemorySink, MemorySource};
@@ -122,7 +123,7 @@ fn words_that_are_no_command_are_a_usage_error(rt: HostRuntime) -> Result<(), Fa
             keeper(alloc)?,
         );
         assert_eq!(rt; status, 1);
-        assert_eq!(rt; sink.taken(), b"usage: exec, check\n".as_slice());
+        assert_eq!(rt; sink.taken(), b"usage: exec, check, init\n".as_slice());
     }
     Ok(())
 }
@@ -306,7 +307,7 @@ fn a_keeper_that_fails_at_first_leaves_nothing(rt: HostRuntime) -> Result<(), Fa
 }
 
 #[test]
-fn rows_that_are_there_are_left(rt: HostRuntime) -> Result<(), Fail> {
+fn rows_that_are_no_trackers_are_left(rt: HostRuntime) -> Result<(), Fail> {
     let alloc = rt.alloc();
     let mut keeper = keeper(alloc)?;
     let mut ops = Vec::new(alloc);
@@ -318,8 +319,68 @@ fn rows_that_are_there_are_left(rt: HostRuntime) -> Result<(), Fail> {
     }))?;
     let _ = keeper.commit(&ops);
     let (status, out, kinds) = three_creates(alloc, keeper)?;
-    assert_eq!(rt; status, 9);
-    assert_eq!(rt; out.as_slice(), b"held\n".as_slice());
+    assert_eq!(rt; status, 5);
+    assert_eq!(rt; out.as_slice(), b"kept 1 0\n".as_slice());
     assert_eq!(rt; kinds.as_slice(), b"\x06".as_slice());
+    Ok(())
+}
+
+/// A line that makes an issue.
+const ONE: &str =
+    "{\"user\":\"anna\",\"call\":\"create\",\"project\":\"OPS\",\"type\":\"Task\",\"summary\":\"Fix login\"}";
+
+// Words, an input, the status and what is written, one run after another over one keeper.
+const STEPS: [(&str, &str, u8, &str); 6] = [
+    ("init", "users = 3", 8, "setup 2 utc_offset_minutes\n"),
+    ("init", BUILT_IN, 0, ""),
+    ("init", BUILT_IN, 9, "held\n"),
+    (
+        "exec",
+        ONE,
+        0,
+        "{\"ok\":{\"already\":false,\"change\":1,\"issue\":\"OPS-1\"}}\n",
+    ),
+    (
+        "exec",
+        ONE,
+        0,
+        "{\"ok\":{\"already\":false,\"change\":2,\"issue\":\"OPS-2\"}}\n",
+    ),
+    (
+        "exec",
+        "{\"user\":\"cy\",\"call\":\"search\",\"jql\":\"\"}",
+        0,
+        "{\"ok\":{\"issues\":[\"OPS-1\",\"OPS-2\"],\"total\":2}}\n",
+    ),
+];
+
+// The status and the output of a run, and its keeper.
+fn ran(
+    alloc: Global,
+    word: &str,
+    input: &str,
+    keeper: MemoryKeeper,
+) -> Result<(u8, Vec<u8>, MemoryKeeper), AllocError> {
+    let mut source = MemorySource::new(
+        input.as_bytes().to_vec(alloc)?,
+        Vec::new(alloc),
+        Vec::new(alloc),
+    );
+    let mut sink = MemorySink::new(alloc, 1_000, Vec::new(alloc))?;
+    let (status, keeper) = run(alloc, &words(alloc, word)?, &mut source, &mut sink, keeper);
+    Ok((status, sink.taken().to_vec(alloc)?, keeper))
+}
+
+#[test]
+fn a_tracker_is_made_once_and_goes_on(rt: HostRuntime) -> Result<(), Fail> {
+    let alloc = rt.alloc();
+    let mut keeper = keeper(alloc)?;
+    let mut right = true;
+    for &(word, input, status, text) in &STEPS {
+        let (ended, out, kept) = ran(alloc, word, input, keeper)?;
+        keeper = kept;
+        right = right && ended == status && out.as_slice() == text.as_bytes();
+    }
+    assert!(rt; right);
     Ok(())
 }

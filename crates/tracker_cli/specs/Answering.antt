@@ -18,8 +18,9 @@ pub record IsReplied (old : Machine) (line : List ℕ) (reply : Reply) (new : Ma
 
 -- the line is answered as the abstract tracker answers it; the keeper has the tracker's rows then, if it had them before; and
 -- where the line is answered that the keeper failed, its count rose
-pub record AnswersKept {P : Type 0} (keeps : P → Rows → Type 0) (faults : P → ℕ) (old : DeskParts P) (line text : List ℕ) (new : DeskParts P) : Type 0 where
+pub record AnswersKept {P : Type 0} (keeps : P → Rows → Type 0) (tells : P → Type 0) (faults : P → ℕ) (old : DeskParts P) (line text : List ℕ) (new : DeskParts P) : Type 0 where
   pub failures : ℕ
   pub answered : AnswersLine old.machine line text new.machine failures
   pub rows : keeps old.keeper (rows_of old.machine) → keeps new.keeper (rows_of new.machine)
+  pub told : tells new.keeper → tells old.keeper
   pub counted : RoseBy (faults old.keeper) (faults new.keeper) failures

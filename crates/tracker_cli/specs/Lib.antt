@@ -1,2 +1,6 @@
 pub mod Answering
+pub mod Numerals
 pub mod Outcome
+pub mod Serving
+pub mod Store
+pub mod Texts

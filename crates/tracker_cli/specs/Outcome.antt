@@ -1,8 +1,11 @@
 -- What the command line writes, by its status.
-use Rattle.std.specs.Prelude.{◌≡◌, ◌⊎◌, ℕ, List, [], ◌∷◌, ◌++◌, codes, Option, Some, Ok}
+use Rattle.std.specs.Prelude.{◌≡◌, ◌≢◌, ◌⊎◌, ◌<◌, ◌≤◌, ℕ, List, [], ◌∷◌, ◌++◌, length, codes, Option, Some, IfSome, Ok}
+use Rattle.std.specs.Str.{IsUtf8}
 use Rattle.std.specs.Io.KnownBytes.{Appends, Consumes, IsAtEnd}
 use Rattle.field_values.specs.Parts.{Parts}
-use Rattle.setup_reading.specs.Reading.{setup_in}
+use Rattle.setup_drafts.specs.declared.fault.SetupFault.{SetupFault}
+use Rattle.setup_drafts.specs.declared.fault.SetupFault.TheVariants as setup_fault
+use Rattle.setup_reading.specs.Reading.{setup_in, Explains}
 use Rattle.request_lines.specs.Lines.{lines, whole_lines, AreWithinLimits, StopsAtLong, StopsAtMany}
 use Rattle.request_lines.specs.declared.run.End.{End}
 use Rattle.request_lines.specs.declared.run.End.TheVariants.{Done, ReadFault, WriteFault, Memory, LongLine, ManyLines}
@@ -11,7 +14,11 @@ use Rattle.tracker_keeper.specs.Rows.{Rows, no_rows}
 use Rattle.tracker_machine.specs.Machine.{Machine, opening}
 use Rattle.tracker_machine.specs.Kept.{rows_of}
 use Rattle.tracker_machine.specs.Run.{IsRun, IsCutRun, requests}
+use Rattle.tracker_core.specs.Desk.{HasNoRow, HasRow, IsOpened}
 use Rattle.tracker_cli.specs.Answering.{RoseBy}
+use Rattle.tracker_cli.specs.Texts.{kept_line, setup_line}
+
+-- ---- the words
 
 abbrev pub IsExec : List (List ℕ) → Type 0
 IsExec words = words ≡ codes "exec" ∷ []
@@ -19,12 +26,21 @@ IsExec words = words ≡ codes "exec" ∷ []
 abbrev pub IsCheck : List (List ℕ) → Type 0
 IsCheck words = words ≡ codes "check" ∷ []
 
+abbrev pub IsInit : List (List ℕ) → Type 0
+IsInit words = words ≡ codes "init" ∷ []
+
+-- the words are those of a command that answers line after line
+abbrev pub IsOfLines : List (List ℕ) → Type 0
+IsOfLines words = IsExec words ⊎ IsCheck words
+
 -- the words are a command's
 abbrev pub IsCommand : List (List ℕ) → Type 0
-IsCommand words = IsExec words ⊎ IsCheck words
+IsCommand words = IsOfLines words ⊎ IsInit words
+
+-- ---- texts
 
 abbrev pub usage : List ℕ
-usage = codes "usage: exec, check\n"
+usage = codes "usage: exec, check, init\n"
 
 abbrev pub held : List ℕ
 held = codes "held\n"
@@ -35,22 +51,27 @@ limit_line = codes "limit line\n"
 abbrev pub limit_lines : List ℕ
 limit_lines = codes "limit lines\n"
 
--- a run begins in the opening state of the setup that this text is
-abbrev pub IsStart : List ℕ → Machine → Type 0
-IsStart setup_text m = (setup : Parts) × (setup_in setup_text ≡ Ok setup) × (m ≡ opening setup_text setup)
+abbrev pub limit_input : List ℕ
+limit_input = codes "limit input\n"
+
+-- ---- replies
+
+-- a run begins where the rows of the keeper are, or as a new tracker of that setup where there are none, so far as it tells them
+abbrev pub BeginsIn : {P : Type 0} → (P → Rows → Type 0) → (P → Type 0) → List ℕ → P → P → Machine → Type 0
+BeginsIn keeps tells setup_text old new m = (rows : Rows) → keeps old rows → tells new → IsOpened setup_text rows m
 
 -- this text is the replies to these lines, from where a run begins, under some marks, and the last state is kept, where so many
 -- lines were answered that the keeper failed
-abbrev pub AreReplies : (Machine → ℕ → Type 0) → List ℕ → List (List ℕ) → List ℕ → Type 0
-AreReplies Kept setup_text all text =
-    (start : Machine) × (last : Machine) × (failures : ℕ) × IsStart setup_text start × IsRun start (requests all) text last failures × Kept last failures
+abbrev pub AreReplies : (Machine → Type 0) → (Machine → ℕ → Type 0) → List (List ℕ) → List ℕ → Type 0
+AreReplies Begins Kept all text =
+    (start : Machine) × (last : Machine) × (failures : ℕ) × Begins start × IsRun start (requests all) text last failures × Kept last failures
 
 -- this text is the replies to the first lines of an input, and then at most a front of the next one's reply; no other call was
 -- made, so that `last` is the state after them, and it is kept; or no desk was opened, and there is no text
-abbrev pub AreCutReplies : (Machine → ℕ → Type 0) → Type 0 → List ℕ → List ℕ → List ℕ → Type 0
-AreCutReplies Kept Unopened setup_text bytes text =
+abbrev pub AreCutReplies : (Machine → Type 0) → (Machine → ℕ → Type 0) → Type 0 → List ℕ → List ℕ → Type 0
+AreCutReplies Begins Kept Unopened bytes text =
     ((text ≡ []) × Unopened)
-    ⊎ ((start : Machine) × (last : Machine) × (failures : ℕ) × IsStart setup_text start × IsCutRun start (lines bytes) text last failures × Kept last failures)
+    ⊎ ((start : Machine) × (last : Machine) × (failures : ℕ) × Begins start × IsCutRun start (lines bytes) text last failures × Kept last failures)
 
 -- each line, taken as a query, has its reply, one behind another
 abbrev pub AreChecked : List (List ℕ) → List ℕ → Type 0
@@ -77,22 +98,27 @@ pub record AreCutChecks (bytes text : List ℕ) : Type 0 where
   pub text_is : text ≡ whole ++ front
 
 -- this text is what the words' command replies to these lines
-abbrev pub AreRepliesOf : (Machine → ℕ → Type 0) → List ℕ → List (List ℕ) → List (List ℕ) → List ℕ → Type 0
-AreRepliesOf Kept setup_text words all text = (IsExec words × AreReplies Kept setup_text all text) ⊎ (IsCheck words × AreChecked all text)
+abbrev pub AreRepliesOf : (Machine → Type 0) → (Machine → ℕ → Type 0) → List (List ℕ) → List (List ℕ) → List ℕ → Type 0
+AreRepliesOf Begins Kept words all text = (IsExec words × AreReplies Begins Kept all text) ⊎ (IsCheck words × AreChecked all text)
 
 -- this text is what it has replied to an input when it is cut short
-abbrev pub AreCutRepliesOf : (Machine → ℕ → Type 0) → Type 0 → List ℕ → List (List ℕ) → List ℕ → List ℕ → Type 0
-AreCutRepliesOf Kept Unopened setup_text words bytes text = (IsExec words × AreCutReplies Kept Unopened setup_text bytes text) ⊎ (IsCheck words × AreCutChecks bytes text)
+abbrev pub AreCutRepliesOf : (Machine → Type 0) → (Machine → ℕ → Type 0) → Type 0 → List (List ℕ) → List ℕ → List ℕ → Type 0
+AreCutRepliesOf Begins Kept Unopened words bytes text =
+    (IsExec words × AreCutReplies Begins Kept Unopened bytes text) ⊎ (IsCheck words × AreCutChecks bytes text)
 
--- the keeper has the rows of a state, where it began with none; and at most as many lines were answered that it failed as its
--- count rose by, or that count stands at its last value
-pub record HasRowsOf {P : Type 0} (keeps : P → Rows → Type 0) (faults : P → ℕ) (old new : P) (m : Machine) (failures : ℕ) : Type 0 where
-  pub rows : keeps old no_rows → keeps new (rows_of m)
+-- the keeper has the rows of a state, so far as it tells them; and at most as many lines were answered that it failed as its count
+-- rose by, or that count stands at its last value
+pub record HasRowsOf {P : Type 0} (keeps : P → Rows → Type 0) (tells : P → Type 0) (faults : P → ℕ) (old new : P) (m : Machine) (failures : ℕ) : Type 0 where
+  pub rows : (rows : Rows) → keeps old rows → tells new → keeps new (rows_of m)
   pub counted : RoseBy (faults old) (faults new) failures
 
 -- it has the rows that it had
 abbrev pub HasItsRows : {P : Type 0} → (P → Rows → Type 0) → P → P → Type 0
 HasItsRows keeps old new = (rows : Rows) → keeps old rows → keeps new rows
+
+-- it has a row, so far as it tells its rows
+abbrev pub HasSomeRow : {P : Type 0} → (P → Rows → Type 0) → (P → Type 0) → P → P → Type 0
+HasSomeRow keeps tells old new = (rows : Rows) → keeps old rows → tells new → HasRow rows
 
 -- the sink grew by a text that is as wanted
 abbrev pub GrewBy : Option (List ℕ) → Option (List ℕ) → (List ℕ → Type 0) → Type 0
@@ -127,3 +153,81 @@ EndsRun Replies Cut bytes left old new WriteFault = GrewBy old new (Cut bytes)
 EndsRun Replies Cut bytes left old new Memory = GrewBy old new (Cut bytes)
 EndsRun Replies Cut bytes left old new LongLine = (done : List (List ℕ)) × StopsAtLong (lines bytes) done × GrewBy old new (Replies done)
 EndsRun Replies Cut bytes left old new ManyLines = (done : List (List ℕ)) × StopsAtMany (lines bytes) done × GrewBy old new (Replies done)
+
+-- ---- by status
+
+-- what comes of words that are no command's: their text was written, or a front of it where the sink failed
+pub record UsageEnd (status : ℕ) (old new : Option (List ℕ)) : Type 0 where
+  pub told : status ≡ 1 → Appends old new usage
+  pub written : status ≡ 3 → GrewByFront old new (λ due. due ≡ usage)
+  pub statuses : (status ≡ 1) ⊎ (status ≡ 3)
+
+-- a bad row is told
+abbrev pub IsKeptText : (ℕ → ℕ → Type 0) → List ℕ → Type 0
+IsKeptText Bad text = (kind : ℕ) × (number : ℕ) × Bad kind number × (text ≡ kept_line kind number)
+
+-- what comes of a command that answers line after line, where these texts are the replies to lines, and those to an input where it is
+-- cut short. `Same` says that the keeper has the rows that it had, and `Bad` which of them is the first bad one
+pub record LinesEnd
+    (Replies : List (List ℕ) → List ℕ → Type 0) (Cut : List ℕ → List ℕ → Type 0) (Same : Type 0) (Bad : ℕ → ℕ → Type 0) (status : ℕ)
+    (left after old new : Option (List ℕ)) : Type 0 where
+  -- the input was read to its end, and each of its lines has its reply
+  pub done : status ≡ 0 → IfSome left (λ bytes. IsAtEnd after × AreWithinLimits (lines bytes) × GrewBy old new (Replies (lines bytes)))
+  -- a read failed: the whole lines before, which are within the limits, have their replies
+  pub read : status ≡ 2 →
+      IfSome left (λ bytes. (read : List ℕ) × Consumes (Some bytes) after read × AreWithinLimits (whole_lines read) × GrewBy old new (Replies (whole_lines read)))
+  -- a write failed: the first lines have their replies, and at most the next one a front of its reply; or all lines before a limit have
+  -- theirs, and the limit's text has a front; or so has the text on a bad row
+  pub written : status ≡ 3 →
+      IfSome left (λ bytes. GrewBy old new (Cut bytes) ⊎ GrewBy old new (IsCutLimitText Replies bytes)) ⊎ (GrewByFront old new (IsKeptText Bad) × Same)
+  -- the keeper failed before any call, and nothing was written
+  pub unopened : status ≡ 4 → (new ≡ old) × Same
+  -- a row is bad, which is told
+  pub bad : status ≡ 5 → GrewBy old new (IsKeptText Bad) × Same
+  -- want of memory: the first lines have their replies, and at most the next one a front of its reply
+  pub memory : status ≡ 6 → IfSome left (λ bytes. GrewBy old new (Cut bytes))
+  -- a limit is passed: the lines before have their replies, and the limit's text follows
+  pub limit : status ≡ 7 → IfSome left (λ bytes. GrewBy old new (IsLimitText Replies bytes))
+  pub statuses : (status ≤ 7) × (status ≢ 1)
+
+-- a new tracker was made of this setup's text, where there was no row
+pub record IsCreated {P : Type 0} (keeps : P → Rows → Type 0) (tells : P → Type 0) (old new : P) (text : List ℕ) : Type 0 where
+  pub setup : Parts
+  pub is_text : IsUtf8 text
+  pub reads : setup_in text ≡ Ok setup
+  pub kept : keeps old no_rows → keeps new (rows_of (opening text setup))
+  pub none : (rows : Rows) → keeps old rows → tells new → HasNoRow rows
+
+-- the text tells why these bytes are no setup
+abbrev pub IsSetupText : Option (List ℕ) → List ℕ → Type 0
+IsSetupText left text = (fault : SetupFault) × (fault ≢ setup_fault.Memory) × IfSome left (λ bytes. Explains bytes fault) × (text ≡ setup_line fault)
+
+-- one of the texts of `init`
+abbrev pub IsInitText : Option (List ℕ) → List ℕ → Type 0
+IsInitText left text = (text ≡ limit_input) ⊎ IsSetupText left text ⊎ (text ≡ held)
+
+-- the most bytes of a setup
+abbrev pub setup_limit : ℕ
+setup_limit = 1_048_576
+
+-- what comes of `init`. `Created` says that a tracker was made of a text, `Same` that the keeper has the rows that it had, and `Held` that
+-- it has some
+pub record InitEnd
+    (Created : List ℕ → Type 0) (Same Held : Type 0) (status : ℕ) (left after old new : Option (List ℕ)) : Type 0 where
+  -- the input was read to its end, and is the setup of the tracker that was made; nothing was written
+  pub done : status ≡ 0 → (new ≡ old) × IfSome left (λ bytes. IsAtEnd after × (length bytes ≤ setup_limit) × Created bytes)
+  -- a read failed
+  pub read : status ≡ 2 → (new ≡ old) × Same
+  -- a write failed: a text has a front
+  pub written : status ≡ 3 → GrewByFront old new (IsInitText left) × Same
+  -- the keeper failed
+  pub unopened : status ≡ 4 → (new ≡ old) × Same
+  -- want of memory
+  pub memory : status ≡ 6 → (new ≡ old) × Same
+  -- the input is too long
+  pub limit : status ≡ 7 → Appends old new limit_input × IfSome left (λ bytes. setup_limit < length bytes) × Same
+  -- the input is no setup
+  pub setup : status ≡ 8 → GrewBy old new (IsSetupText left) × Same
+  -- the keeper has a row
+  pub held_is : status ≡ 9 → Appends old new held × Held × Same
+  pub statuses : (status ≤ 9) × (status ≢ 1) × (status ≢ 5)

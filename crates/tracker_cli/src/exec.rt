@@ -10,11 +10,14 @@ use request_lines::Responder;
 use std::alloc::{AllocError, Global};
 use std::marker::Model;
 use std::sync::ledger::Ledger;
-use tracker_calls::{KEEPER_TEXT, MEMORY_TEXT, Refusal, Reply, read_line, reply_text};
+use tracker_calls::{
+    Call, KEEPER_TEXT, MEMORY_TEXT, Refusal, Reply, UserName, read_line, reply_text,
+};
 use tracker_core::Desk;
 use tracker_keeper::Keeper;
+use tracker_server::Maker;
 
-/// A desk that answers request lines, and counts its steps. Contracts see it as the desk.
+/// A desk that answers request lines and makes the calls of requests, and counts its steps. Contracts see it as the desk.
 #[derive(Drop)]
 pub struct RequestLines<L: Ledger, P: Keeper + Drop> {
     alloc: Global,
@@ -53,6 +56,7 @@ impl<L: Ledger, P: Keeper + Drop> RequestLines<L, P> {
     fn reply_to(&mut self, line: &[u8]) -> Reply
         ensures reply { IsReplied self.old.machine line.now result self.new.machine (P.faults self.old.keeper) (P.faults self.new.keeper) }
         ensures rows { P.keeps self.old.keeper (rows_of self.old.machine) → P.keeps self.new.keeper (rows_of self.new.machine) }
+        ensures told { P.tells self.new.keeper → P.tells self.old.keeper }
     {
         match read_line(self.alloc, line) {
             Ok((user, call)) => self.desk.call(&user, &call, &mut self.steps),
@@ -62,7 +66,7 @@ impl<L: Ledger, P: Keeper + Drop> RequestLines<L, P> {
 }
 
 impl<L: Ledger, P: Keeper + Drop> Responder for RequestLines<L, P> {
-    ghost answers = { AnswersKept P.keeps P.faults };
+    ghost answers = { AnswersKept P.keeps P.tells P.faults };
 
     fn respond(&mut self, line: &[u8], answer: &mut Vec<u8>) -> Result<(), AllocError> {
         answer.clear();
@@ -71,6 +75,21 @@ impl<L: Ledger, P: Keeper + Drop> Responder for RequestLines<L, P> {
         }
         let reply = self.reply_to(line);
         put_reply(self.alloc, &reply, answer)
+    }
+}
+
+impl<L: Ledger, P: Keeper + Drop> Maker for RequestLines<L, P> {
+    ghost use Rattle.tracker_core.specs.Desk.{DeskParts};
+    ghost use Rattle.tracker_cli.specs.Serving.{MakesCall, tells_parts};
+
+    ghost State = { DeskParts P };
+
+    ghost tells = { tells_parts };
+
+    ghost makes = { MakesCall P.keeps P.tells P.faults };
+
+    fn call(&mut self, caller: &UserName, call: &Call) -> Reply {
+        self.desk.call(caller, call, &mut self.steps)
     }
 }
 

@@ -5,8 +5,18 @@ mod adapters;
 mod check;
 mod command;
 mod exec;
+mod init;
+mod lines;
+mod network;
+mod number;
+mod serving;
+mod store;
+mod texts;
 
 pub use adapters::{Reading, Writing};
 pub use check::Checks;
 pub use command::run;
 pub use exec::RequestLines;
+pub use network::{MachineClock, PortLinks};
+pub use serving::serve;
+pub use store::Store;

@@ -1,5 +1,5 @@
 -- What a desk has kept.
-use Rattle.std.proofs.Common.{◌≡◌, ◌≢◌, ◌<◌, ◌^◌, ℕ, List, [], ◌∷◌, Some, None, refl, ap, sym, subst, ◌∙◌}
+use Rattle.std.proofs.Common.{◌≡◌, ◌≢◌, ◌<◌, ◌^◌, ℕ, List, [], ◌∷◌, Some, refl, ap, sym, subst, ◌∙◌}
 use Rattle.std.specs.List.{All}
 use Rattle.std.proofs.lemmas.Bool.{eq-eqb}
 use Rattle.field_values.specs.Parts.{Parts}
@@ -11,7 +11,7 @@ use Rattle.tracker_machine.specs.Tracker.{IsTracker}
 use Rattle.tracker_machine.specs.Effect.{Effect, applied, IsAllowed}
 use Rattle.tracker_machine.specs.Kept.{rows_of, ops_of, opening_ops}
 use Rattle.tracker_machine.proofs.Kept.{rows_applied, rows_opening, ops_small, opening_small}
-use Rattle.tracker_core.specs.Desk.{HasRow, HasNoRow}
+use Rattle.tracker_core.specs.Desk.{HasRow}
 
 -- a list that shows the rows and has one
 pub listed_row : (rows : Rows) (list : List Row) → list ≢ [] → IsListing rows list → HasRow rows

@@ -1,3 +1,5 @@
 pub mod Desks
 pub mod Forms
+pub mod Kept
+pub mod Order
 pub mod Steps

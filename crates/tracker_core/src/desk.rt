@@ -10,7 +10,7 @@ ghost use Rattle.tracker_machine.specs.Meaning.{Performs, HasEffect};
 ghost use Rattle.tracker_machine.specs.Meaning.Meaning.{Makes};
 ghost use Rattle.tracker_machine.specs.Kept.{rows_of, ops_of};
 ghost use Rattle.tracker_machine.specs.Step.{IsStep, evaluations, meaning};
-ghost use Rattle.tracker_core.specs.Desk.{IsOwed, HasRow, HasNoRow, due_in};
+ghost use Rattle.tracker_core.specs.Desk.{IsOwed, IsKeepersOwn, IsCreateFault, HasRow, HasNoRow, due_in};
 ghost use Rattle.tracker_state.specs.Plan.{effect_of, cost_of, Fits};
 
 use crate::preparing::prepare;
@@ -46,12 +46,14 @@ pub enum OpenFault {
     Keeper,
     /// The keeper has a row already.
     Held,
+    /// The keeper's row of this kind and number is the first bad one, or has to be there and isn't.
+    BadRow { kind: u8, no: u64 },
     Memory,
 }
 
 impl OpenFault {
-    fn of(fault: KeepFault) -> OpenFault
-        ensures { (result ≡ OpenFault.Keeper → fault ≡ KeepFault.Failed) × (result ≡ OpenFault.Held → ⊥) }
+    pub(crate) fn of(fault: KeepFault) -> OpenFault
+        ensures { (result ≡ OpenFault.Keeper → fault ≡ KeepFault.Failed) × IsKeepersOwn result }
     {
         match fault {
             KeepFault::Failed => OpenFault::Keeper,
@@ -69,6 +71,7 @@ impl<P: Keeper + Drop> Desk<P> {
         ensures none { (rows : Rows) → P.keeps keeper rows → IfOk result (λ desk. P.tells desk.keeper → HasNoRow rows) }
         ensures same { (rows : Rows) → P.keeps keeper rows → IfErr result (λ e. P.keeps e.1 rows) }
         ensures held { (rows : Rows) → P.keeps keeper rows → IfErr result (λ e. e.0 ≡ OpenFault.Held → P.tells e.1 → HasRow rows) }
+        ensures fault { IfErr result (λ e. IsCreateFault e.0) }
         ensures cause { IfErr result (λ e. e.0 ≡ OpenFault.Keeper → Rose (P.faults keeper) (P.faults e.1)) }
         ensures later_ok { IfOk result (λ desk. P.faults keeper ≤ P.faults desk.keeper) }
         ensures later_err { IfErr result (λ e. P.faults keeper ≤ P.faults e.1) }
@@ -77,14 +80,22 @@ impl<P: Keeper + Drop> Desk<P> {
         if let Err(fault) = look(&mut keeper) {
             return Err((fault, keeper));
         }
-        let opened = open(alloc, &mut keeper, setup);
+        let opened = begun(alloc, &mut keeper, setup);
         match opened {
-            Ok(state) => Ok(Desk {
-                alloc,
-                state,
-                keeper,
-            }),
+            Ok(state) => Ok(Desk::over(alloc, state, keeper)),
             Err(fault) => Err((fault, keeper)),
+        }
+    }
+
+    // The desk of this state over this keeper.
+    pub(crate) fn over(alloc: Global, state: State, keeper: P) -> Desk<P>
+        ensures machine { result.machine ≡ state.machine }
+        ensures keeper { result.keeper ≡ keeper }
+    {
+        Desk {
+            alloc,
+            state,
+            keeper,
         }
     }
 
@@ -96,6 +107,7 @@ impl<P: Keeper + Drop> Desk<P> {
     pub fn call<L: Ledger>(&mut self, caller: &UserName, call: &Call, steps: &mut Steps<L>) -> Reply
         ensures step { IsStep self.old.machine caller.now call.now result self.new.machine }
         ensures rows { P.keeps self.old.keeper (rows_of self.old.machine) → P.keeps self.new.keeper (rows_of self.new.machine) }
+        ensures told { P.tells self.new.keeper → P.tells self.old.keeper }
         ensures cause { IsOwed result (P.faults self.old.keeper) (P.faults self.new.keeper) }
         ensures unasked { ¬ (HasEffect (meaning self.old.machine caller.now call.now)) → self.new.keeper ≡ self.old.keeper }
         ensures steps { steps.new ≤ steps.old + evaluations (due_in self.old.cells) self.old.machine caller.now call.now }
@@ -143,6 +155,7 @@ fn look<P: Keeper>(keeper: &mut P) -> Result<(), OpenFault>
     ensures held { (rows : Rows) → P.keeps keeper.old rows → result ≡ Err OpenFault.Held → P.tells keeper.new → HasRow rows }
     ensures told { P.tells keeper.new → P.tells keeper.old }
     ensures same { (rows : Rows) → P.keeps keeper.old rows → P.keeps keeper.new rows }
+    ensures fault { IfErr result IsCreateFault }
     ensures cause { result ≡ Err OpenFault.Keeper → Rose (P.faults keeper.old) (P.faults keeper.new) }
     ensures later { P.faults keeper.old ≤ P.faults keeper.new }
 {
@@ -158,7 +171,7 @@ fn look<P: Keeper>(keeper: &mut P) -> Result<(), OpenFault>
     }
 }
 
-fn has_none(list: &[Row]) -> bool
+pub(crate) fn has_none(list: &[Row]) -> bool
     ensures none { result ≡ true → list.now ≡ [] }
     ensures some { result ≡ false → list.now ≢ [] }
 {
@@ -166,12 +179,16 @@ fn has_none(list: &[Row]) -> bool
 }
 
 // Keeps the opening rows, and makes the state of a new tracker.
-fn open<P: Keeper>(alloc: Global, keeper: &mut P, setup: Setup) -> Result<State, OpenFault>
+pub(crate) fn begun<P: Keeper>(
+    alloc: Global,
+    keeper: &mut P,
+    setup: Setup,
+) -> Result<State, OpenFault>
     ensures state { IfOk result (λ state. state.machine ≡ opening setup.text (parts setup)) }
     ensures rows { P.keeps keeper.old no_rows → OnOk result (P.keeps keeper.new (rows_of (opening setup.text (parts setup)))) }
     ensures told { P.tells keeper.new → P.tells keeper.old }
     ensures same { (rows : Rows) → P.keeps keeper.old rows → OnErr result (P.keeps keeper.new rows) }
-    ensures held { result ≡ Err OpenFault.Held → ⊥ }
+    ensures own { IfErr result IsKeepersOwn }
     ensures cause { result ≡ Err OpenFault.Keeper → Rose (P.faults keeper.old) (P.faults keeper.new) }
     ensures later { P.faults keeper.old ≤ P.faults keeper.new }
 {
@@ -201,6 +218,7 @@ fn make<P: Keeper, L: Ledger>(
     requires keeps { rows.now ≡ ops_of (effect_of plan) state.old.machine }
     ensures step { Performs (Makes answer (effect_of plan)) state.old.machine result state.new.machine }
     ensures rows { P.keeps keeper.old (rows_of state.old.machine) → P.keeps keeper.new (rows_of state.new.machine) }
+    ensures told { P.tells keeper.new → P.tells keeper.old }
     ensures cause { IsOwed result (P.faults keeper.old) (P.faults keeper.new) }
     ensures steps { steps.new ≤ steps.old + cost_of plan state.old }
 {

@@ -2,6 +2,7 @@
 #![tactic(auto)]
 
 mod desk;
+mod opening;
 mod preparing;
 
 pub use desk::{Desk, OpenFault};

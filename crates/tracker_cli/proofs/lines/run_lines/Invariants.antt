@@ -1,4 +1,4 @@
-use Rattle.tracker_cli.proofs.command.run.Given as goal
+use Rattle.tracker_cli.proofs.lines.run_lines.Given as goal
 
 abbrev pub ghosts-carry_out : goal.ghosts-carry_out
 ghosts-carry_out g a = record { name = a.blank.name; parts = a.blank.parts }

@@ -1,0 +1,25 @@
+use Rattle.std.proofs.Common.{subst}
+use Rattle.tracker_core.specs.Desk.{HasBadRow, IsOpenFault}
+use Rattle.setup_reading.specs.declared.built_in_text.TheConstants.{BUILT_IN}
+use Rattle.tracker_cli.proofs.Served.{served_opened}
+use Rattle.tracker_cli.proofs.serving.serve_desk.Goals as goal
+
+pub returns-in-Ended-clause-served : goal.returns-in-Ended-clause-served
+returns-in-Ended-clause-served g c = λ _.
+    served_opened g.P.Keeper.keeps g.P.Keeper.tells g.P.Keeper.faults BUILT_IN.now c.args.keeper c.close.result
+    c.in-Ok.desk c.new-requests.result c.serve_links-end.result.2
+    c.in-Ok.ensures.opened c.in-Ok.ensures.rows c.new-requests.ensures c.serve_links-end.ensures.made c.close.ensures
+
+pub returns-in-Failed-clause-served : goal.returns-in-Failed-clause-served
+returns-in-Failed-clause-served g c = λ _.
+    served_opened g.P.Keeper.keeps g.P.Keeper.tells g.P.Keeper.faults BUILT_IN.now c.args.keeper c.close-in-Failed.result
+    c.in-Ok.desk c.new-requests.result c.serve_links-end.result.2
+    c.in-Ok.ensures.opened c.in-Ok.ensures.rows c.new-requests.ensures c.serve_links-end.ensures.made c.close-in-Failed.ensures
+
+pub returns-in-Err-BadRow-default-clause-bad : goal.returns-in-Err-BadRow-default-clause-bad
+returns-in-Err-BadRow-default-clause-bad g c = λ _.
+    let bad = c.in-Err-BadRow-default in (
+      bad.field-0-0-0,
+      bad.field-0-0-1,
+      subst (IsOpenFault (HasBadRow g.P.Keeper.keeps g.P.Keeper.tells c.args.keeper bad.keeper)) bad.field-0-0-is bad.ensures.fault,
+    )

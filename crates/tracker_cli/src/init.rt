@@ -1,0 +1,131 @@
+// The command that makes a new tracker of a setup.
+ghost use Rattle.std.specs.Prelude.{◌≡◌, ◌≢◌, ◌⊎◌, ◌≤◌, ◌<◌, Some, length, IfSome};
+ghost use Rattle.fields.specs.SetupParts.{parts};
+ghost use Rattle.std.specs.Io.KnownBytes.{Appends, IsAtEnd};
+ghost use Rattle.setup_drafts.specs.declared.fault.SetupFault.{SetupFault};
+ghost use Rattle.request_lines.specs.Causes.{Rose};
+ghost use Rattle.tracker_keeper.specs.Rows.{Rows, no_rows};
+ghost use Rattle.tracker_machine.specs.Machine.{opening};
+ghost use Rattle.tracker_machine.specs.Kept.{rows_of};
+ghost use Rattle.tracker_core.specs.Desk.{HasNoRow};
+ghost use Rattle.tracker_cli.specs.Texts.{setup_line};
+ghost use Rattle.tracker_cli.specs.Outcome.{held, limit_input, setup_limit, GrewBy, GrewByFront, HasItsRows, HasSomeRow, IsCreated, IsSetupText, IsInitText};
+
+use crate::texts::setup_line;
+use fields::{Setup, SetupFault};
+use std::alloc::Global;
+use tracker_calls::{Failed, Sink, Source, write_all};
+use tracker_core::{Desk, OpenFault};
+use tracker_keeper::Keeper;
+use whole_input::{InputFault, read_whole};
+
+/// The most bytes of a setup.
+const SETUP_LIMIT: usize = 1_048_576;
+
+/// Reads a setup and makes a new tracker of it, where the keeper has no row; answers the status and hands the keeper back.
+pub(crate) fn init<S: Source, T: Sink, P: Keeper + Drop>(
+    alloc: Global,
+    input: &mut S,
+    out: &mut T,
+    keeper: P,
+) -> (u8, P)
+    ensures done { result.0 ≡ 0 → (T.taken out.new ≡ T.taken out.old) × IfSome (S.left input.old) (λ bytes.
+        IsAtEnd (S.left input.new) × (length bytes ≤ setup_limit) × IsCreated P.keeps P.tells keeper result.1 bytes) }
+    ensures read { result.0 ≡ 2 → (T.taken out.new ≡ T.taken out.old) × HasItsRows P.keeps keeper result.1 }
+    ensures written { result.0 ≡ 3 → GrewByFront (T.taken out.old) (T.taken out.new) (IsInitText (S.left input.old))
+        × HasItsRows P.keeps keeper result.1 }
+    ensures unopened { result.0 ≡ 4 → (T.taken out.new ≡ T.taken out.old) × HasItsRows P.keeps keeper result.1 }
+    ensures memory { result.0 ≡ 6 → (T.taken out.new ≡ T.taken out.old) × HasItsRows P.keeps keeper result.1 }
+    ensures limit { result.0 ≡ 7 → Appends (T.taken out.old) (T.taken out.new) limit_input
+        × IfSome (S.left input.old) (λ bytes. setup_limit < length bytes) × HasItsRows P.keeps keeper result.1 }
+    ensures setup { result.0 ≡ 8 → GrewBy (T.taken out.old) (T.taken out.new) (IsSetupText (S.left input.old))
+        × HasItsRows P.keeps keeper result.1 }
+    ensures held { result.0 ≡ 9 → Appends (T.taken out.old) (T.taken out.new) held
+        × HasSomeRow P.keeps P.tells keeper result.1 × HasItsRows P.keeps keeper result.1 }
+    ensures read_cause { result.0 ≡ 2 → Rose (S.faults input.old) (S.faults input.new) }
+    ensures write_cause { result.0 ≡ 3 → Rose (T.faults out.old) (T.faults out.new) }
+    ensures keeper_cause { result.0 ≡ 4 → Rose (P.faults keeper) (P.faults result.1) }
+    ensures read_later { S.faults input.old ≤ S.faults input.new }
+    ensures write_later { T.faults out.old ≤ T.faults out.new }
+    ensures statuses { (result.0 ≤ 9) × (result.0 ≢ 1) × (result.0 ≢ 5) }
+{
+    match read_whole(alloc, input, SETUP_LIMIT) {
+        Ok(text) => make(alloc, &text, out, keeper),
+        Err(InputFault::Failed) => (2, keeper),
+        Err(InputFault::Memory) => (6, keeper),
+        Err(InputFault::TooLong) => match write_all(out, b"limit input\n") {
+            Ok(()) => (7, keeper),
+            Err(Failed) => (3, keeper),
+        },
+    }
+}
+
+// Makes a new tracker of the setup that the text is.
+fn make<T: Sink, P: Keeper + Drop>(alloc: Global, text: &[u8], out: &mut T, keeper: P) -> (u8, P)
+    ensures done { result.0 ≡ 0 → (T.taken out.new ≡ T.taken out.old) × IsCreated P.keeps P.tells keeper result.1 text.now }
+    ensures written { result.0 ≡ 3 → GrewByFront (T.taken out.old) (T.taken out.new) (IsInitText (Some text.now))
+        × HasItsRows P.keeps keeper result.1 }
+    ensures unopened { result.0 ≡ 4 → (T.taken out.new ≡ T.taken out.old) × HasItsRows P.keeps keeper result.1 }
+    ensures memory { result.0 ≡ 6 → (T.taken out.new ≡ T.taken out.old) × HasItsRows P.keeps keeper result.1 }
+    ensures setup { result.0 ≡ 8 → GrewBy (T.taken out.old) (T.taken out.new) (IsSetupText (Some text.now))
+        × HasItsRows P.keeps keeper result.1 }
+    ensures held { result.0 ≡ 9 → Appends (T.taken out.old) (T.taken out.new) held
+        × HasSomeRow P.keeps P.tells keeper result.1 × HasItsRows P.keeps keeper result.1 }
+    ensures write_cause { result.0 ≡ 3 → Rose (T.faults out.old) (T.faults out.new) }
+    ensures keeper_cause { result.0 ≡ 4 → Rose (P.faults keeper) (P.faults result.1) }
+    ensures write_later { T.faults out.old ≤ T.faults out.new }
+    ensures statuses { (result.0 ≡ 0) ⊎ (result.0 ≡ 3) ⊎ (result.0 ≡ 4) ⊎ (result.0 ≡ 6) ⊎ (result.0 ≡ 8) ⊎ (result.0 ≡ 9) }
+{
+    match Setup::read(alloc, text) {
+        Ok(setup) => create(alloc, setup, out, keeper),
+        Err(fault) => (tell_fault(alloc, out, fault), keeper),
+    }
+}
+
+// Makes a new tracker of the setup.
+fn create<T: Sink, P: Keeper + Drop>(alloc: Global, setup: Setup, out: &mut T, keeper: P) -> (u8, P)
+    ensures done { result.0 ≡ 0 → (T.taken out.new ≡ T.taken out.old)
+        × (P.keeps keeper no_rows → P.keeps result.1 (rows_of (opening setup.text (parts setup))))
+        × ((rows : Rows) → P.keeps keeper rows → P.tells result.1 → HasNoRow rows) }
+    ensures written { result.0 ≡ 3 → GrewByFront (T.taken out.old) (T.taken out.new) (λ due. due ≡ held) }
+    ensures unwritten { (result.0 ≡ 4) ⊎ (result.0 ≡ 6) → T.taken out.new ≡ T.taken out.old }
+    ensures held { result.0 ≡ 9 → Appends (T.taken out.old) (T.taken out.new) held × HasSomeRow P.keeps P.tells keeper result.1 }
+    ensures same { result.0 ≢ 0 → HasItsRows P.keeps keeper result.1 }
+    ensures write_cause { result.0 ≡ 3 → Rose (T.faults out.old) (T.faults out.new) }
+    ensures keeper_cause { result.0 ≡ 4 → Rose (P.faults keeper) (P.faults result.1) }
+    ensures write_later { T.faults out.old ≤ T.faults out.new }
+    ensures statuses { (result.0 ≡ 0) ⊎ (result.0 ≡ 3) ⊎ (result.0 ≡ 4) ⊎ (result.0 ≡ 6) ⊎ (result.0 ≡ 9) }
+{
+    match Desk::create(alloc, keeper, setup) {
+        Ok(desk) => (0, desk.close()),
+        Err((OpenFault::Keeper, keeper)) => (4, keeper),
+        Err((OpenFault::Memory, keeper)) => (6, keeper),
+        Err((OpenFault::Held, keeper)) => match write_all(out, b"held\n") {
+            Ok(()) => (9, keeper),
+            Err(Failed) => (3, keeper),
+        },
+        Err((OpenFault::BadRow { .. }, _keeper)) => unreachable!(),
+    }
+}
+
+// Writes why the text is no setup: 8, or 3 where the sink failed on it, or 6 where there was no memory and nothing was written.
+fn tell_fault<T: Sink>(alloc: Global, out: &mut T, fault: SetupFault) -> u8
+    ensures told { result ≡ 8 → (fault ≢ SetupFault.Memory) × Appends (T.taken out.old) (T.taken out.new) (setup_line fault) }
+    ensures written { result ≡ 3 → (fault ≢ SetupFault.Memory)
+        × GrewByFront (T.taken out.old) (T.taken out.new) (λ due. due ≡ setup_line fault) }
+    ensures memory { result ≡ 6 → T.taken out.new ≡ T.taken out.old }
+    ensures write_cause { result ≡ 3 → Rose (T.faults out.old) (T.faults out.new) }
+    ensures later { T.faults out.old ≤ T.faults out.new }
+    ensures statuses { (result ≡ 3) ⊎ (result ≡ 6) ⊎ (result ≡ 8) }
+{
+    if let SetupFault::Memory = &fault {
+        return 6;
+    }
+    let Ok(text) = setup_line(alloc, &fault) else {
+        return 6;
+    };
+    match write_all(out, text.as_str().as_bytes()) {
+        Ok(()) => 8,
+        Err(Failed) => 3,
+    }
+}

@@ -1,0 +1,182 @@
+// The commands that answer line after line.
+ghost use Rattle.std.specs.Prelude.{◌≡◌, ◌≢◌, ◌∷◌, [], ◌⊎◌, List, ℕ, Some, ◌≤◌, ◌<◌, map, string_bytes, IfSome, IfOk, IfErr};
+ghost use Rattle.std.specs.Io.KnownBytes.{Appends, Consumes, IsAtEnd};
+ghost use Rattle.request_lines.specs.Causes.{Rose};
+ghost use Rattle.request_lines.specs.Lines.{lines, whole_lines, AreWithinLimits};
+ghost use Rattle.tracker_core.specs.Desk.{HasBadRow, IsOpenFault};
+ghost use Rattle.tracker_cli.specs.Outcome.{IsExec, IsOfLines, AreReplies, AreCutReplies, AreChecked, AreCutChecks, AreRepliesOf, AreCutRepliesOf, BeginsIn, HasRowsOf, HasItsRows, GrewBy, GrewByFront, IsKeptText, IsLimitText, IsCutLimitText, EndsRun};
+ghost use Rattle.tracker_cli.specs.Texts.{kept_line};
+
+use crate::check::Checks;
+use crate::command::is_check;
+use crate::exec::RequestLines;
+use crate::texts::kept_line;
+use fields::{BUILT_IN, Steps};
+use request_lines::{End, answer_lines};
+use std::alloc::Global;
+use std::marker::Brand;
+use std::sync::ledger::{Blank, Ledger};
+use tracker_calls::{Failed, Sink, Source, write_all};
+use tracker_core::{Desk, OpenFault};
+use tracker_keeper::Keeper;
+
+/// Has the lines of the input answered by the words' command, answers the status and hands the keeper back.
+pub(crate) fn run_lines<S: Source, T: Sink, P: Keeper + Drop>(
+    alloc: Global,
+    words: &[String],
+    input: &mut S,
+    out: &mut T,
+    keeper: P,
+) -> (u8, P)
+    requires { IsOfLines (map string_bytes words.now) }
+    ensures done { result.0 ≡ 0 → IfSome (S.left input.old) (λ bytes. IsAtEnd (S.left input.new) × AreWithinLimits (lines bytes)
+        × GrewBy (T.taken out.old) (T.taken out.new) (AreRepliesOf (BeginsIn P.keeps P.tells BUILT_IN.now keeper result.1)
+        (HasRowsOf P.keeps P.tells P.faults keeper result.1) (map string_bytes words.now) (lines bytes))) }
+    ensures read { result.0 ≡ 2 → IfSome (S.left input.old) (λ bytes. (read : List ℕ) × Consumes (Some bytes) (S.left input.new) read
+        × AreWithinLimits (whole_lines read)
+        × GrewBy (T.taken out.old) (T.taken out.new) (AreRepliesOf (BeginsIn P.keeps P.tells BUILT_IN.now keeper result.1)
+        (HasRowsOf P.keeps P.tells P.faults keeper result.1) (map string_bytes words.now) (whole_lines read))) }
+    ensures written { result.0 ≡ 3 → IfSome (S.left input.old) (λ bytes.
+        GrewBy (T.taken out.old) (T.taken out.new) (AreCutRepliesOf (BeginsIn P.keeps P.tells BUILT_IN.now keeper result.1)
+        (HasRowsOf P.keeps P.tells P.faults keeper result.1) (HasItsRows P.keeps keeper result.1) (map string_bytes words.now) bytes)
+        ⊎ GrewBy (T.taken out.old) (T.taken out.new) (IsCutLimitText (AreRepliesOf (BeginsIn P.keeps P.tells BUILT_IN.now keeper result.1)
+        (HasRowsOf P.keeps P.tells P.faults keeper result.1) (map string_bytes words.now)) bytes))
+        ⊎ (GrewByFront (T.taken out.old) (T.taken out.new) (IsKeptText (HasBadRow P.keeps P.tells keeper result.1))
+        × HasItsRows P.keeps keeper result.1) }
+    ensures unopened { result.0 ≡ 4 → (T.taken out.new ≡ T.taken out.old) × HasItsRows P.keeps keeper result.1 }
+    ensures bad { result.0 ≡ 5 → GrewBy (T.taken out.old) (T.taken out.new) (IsKeptText (HasBadRow P.keeps P.tells keeper result.1))
+        × HasItsRows P.keeps keeper result.1 }
+    ensures memory { result.0 ≡ 6 → IfSome (S.left input.old) (λ bytes. GrewBy (T.taken out.old) (T.taken out.new)
+        (AreCutRepliesOf (BeginsIn P.keeps P.tells BUILT_IN.now keeper result.1) (HasRowsOf P.keeps P.tells P.faults keeper result.1)
+        (HasItsRows P.keeps keeper result.1) (map string_bytes words.now) bytes)) }
+    ensures limit { result.0 ≡ 7 → IfSome (S.left input.old) (λ bytes. GrewBy (T.taken out.old) (T.taken out.new)
+        (IsLimitText (AreRepliesOf (BeginsIn P.keeps P.tells BUILT_IN.now keeper result.1)
+        (HasRowsOf P.keeps P.tells P.faults keeper result.1) (map string_bytes words.now)) bytes)) }
+    ensures no_desk { ¬ (IsExec (map string_bytes words.now)) → HasItsRows P.keeps keeper result.1 }
+    ensures read_cause { result.0 ≡ 2 → Rose (S.faults input.old) (S.faults input.new) }
+    ensures write_cause { result.0 ≡ 3 → Rose (T.faults out.old) (T.faults out.new) }
+    ensures keeper_cause { result.0 ≡ 4 → Rose (P.faults keeper) (P.faults result.1) }
+    ensures read_later { S.faults input.old ≤ S.faults input.new }
+    ensures write_later { T.faults out.old ≤ T.faults out.new }
+    ensures statuses { (result.0 ≤ 7) × (result.0 ≢ 1) }
+{
+    match carry_out::<Brand, S, T, P>(alloc, words, input, out, keeper, Blank::new(1)) {
+        Ok((End::Done, keeper)) => (0, keeper),
+        Ok((End::ReadFault, keeper)) => (2, keeper),
+        Ok((End::WriteFault, keeper)) => (3, keeper),
+        Ok((End::Memory, keeper)) => (6, keeper),
+        Ok((End::LongLine, keeper)) => match write_all(out, b"limit line\n") {
+            Ok(()) => (7, keeper),
+            Err(Failed) => (3, keeper),
+        },
+        Ok((End::ManyLines, keeper)) => match write_all(out, b"limit lines\n") {
+            Ok(()) => (7, keeper),
+            Err(Failed) => (3, keeper),
+        },
+        Err((OpenFault::Keeper, keeper)) => (4, keeper),
+        Err((OpenFault::BadRow { kind, no }, keeper)) => (tell_row(alloc, out, kind, no), keeper),
+        Err((OpenFault::Memory, keeper)) => (6, keeper),
+        Err((OpenFault::Held, _keeper)) => unreachable!(),
+    }
+}
+
+// Writes which row is bad: 5, or 3 where the sink failed on it, or 6 where there was no memory for it and nothing was written.
+fn tell_row<T: Sink>(alloc: Global, out: &mut T, kind: u8, no: u64) -> u8
+    ensures told { result ≡ 5 → Appends (T.taken out.old) (T.taken out.new) (kept_line kind no) }
+    ensures written { result ≡ 3 → GrewByFront (T.taken out.old) (T.taken out.new) (λ due. due ≡ kept_line kind no) }
+    ensures memory { result ≡ 6 → T.taken out.new ≡ T.taken out.old }
+    ensures write_cause { result ≡ 3 → Rose (T.faults out.old) (T.faults out.new) }
+    ensures later { T.faults out.old ≤ T.faults out.new }
+    ensures statuses { (result ≡ 3) ⊎ (result ≡ 5) ⊎ (result ≡ 6) }
+{
+    let Ok(text) = kept_line(alloc, kind, no) else {
+        return 6;
+    };
+    match write_all(out, text.as_str().as_bytes()) {
+        Ok(()) => 5,
+        Err(Failed) => 3,
+    }
+}
+
+// Has the lines answered by the words' command.
+fn carry_out<L: Ledger, S: Source, T: Sink, P: Keeper + Drop>(
+    alloc: Global,
+    words: &[String],
+    input: &mut S,
+    out: &mut T,
+    keeper: P,
+    blank: Blank,
+) -> Result<(End, P), (OpenFault, P)>
+    requires command { IsOfLines (map string_bytes words.now) }
+    requires name { blank.name ≡ L.name }
+    requires parts { blank.parts ≡ L.parts }
+    requires some { 0 < L.parts }
+    ensures run { IfOk result (λ r. IfSome (S.left input.old) (λ bytes. EndsRun
+        (AreRepliesOf (BeginsIn P.keeps P.tells BUILT_IN.now keeper r.1) (HasRowsOf P.keeps P.tells P.faults keeper r.1) (map string_bytes words.now))
+        (AreCutRepliesOf (BeginsIn P.keeps P.tells BUILT_IN.now keeper r.1) (HasRowsOf P.keeps P.tells P.faults keeper r.1)
+        (HasItsRows P.keeps keeper r.1) (map string_bytes words.now))
+        bytes (S.left input.new) (T.taken out.old) (T.taken out.new) r.0)) }
+    ensures unwritten { IfErr result (λ e. T.taken out.new ≡ T.taken out.old) }
+    ensures exec { IfErr result (λ e. IsExec (map string_bytes words.now)) }
+    ensures same { IfErr result (λ e. HasItsRows P.keeps keeper e.1) }
+    ensures fault { IfErr result (λ e. IsOpenFault (HasBadRow P.keeps P.tells keeper e.1) e.0) }
+    ensures no_desk { ¬ (IsExec (map string_bytes words.now)) → IfOk result (λ r. HasItsRows P.keeps keeper r.1) }
+    ensures keeper_cause { IfErr result (λ e. e.0 ≡ OpenFault.Keeper → Rose (P.faults keeper) (P.faults e.1)) }
+    ensures read_cause { IfOk result (λ r. r.0 ≡ End.ReadFault → Rose (S.faults input.old) (S.faults input.new)) }
+    ensures write_cause { IfOk result (λ r. r.0 ≡ End.WriteFault → Rose (T.faults out.old) (T.faults out.new)) }
+    ensures read_later { S.faults input.old ≤ S.faults input.new }
+    ensures write_later { T.faults out.old ≤ T.faults out.new }
+{
+    if is_check(words) {
+        let end = check(alloc, input, out);
+        return Ok((end, keeper));
+    }
+    exec::<L, S, T, P>(alloc, input, out, keeper, blank)
+}
+
+// Has the request lines answered by the desk of what the keeper has. The steps are counted, and the count is let go.
+fn exec<L: Ledger, S: Source, T: Sink, P: Keeper + Drop>(
+    alloc: Global,
+    input: &mut S,
+    out: &mut T,
+    keeper: P,
+    blank: Blank,
+) -> Result<(End, P), (OpenFault, P)>
+    requires name { blank.name ≡ L.name }
+    requires parts { blank.parts ≡ L.parts }
+    requires some { 0 < L.parts }
+    ensures run { IfOk result (λ r. IfSome (S.left input.old) (λ bytes. EndsRun
+        (AreReplies (BeginsIn P.keeps P.tells BUILT_IN.now keeper r.1) (HasRowsOf P.keeps P.tells P.faults keeper r.1))
+        (AreCutReplies (BeginsIn P.keeps P.tells BUILT_IN.now keeper r.1) (HasRowsOf P.keeps P.tells P.faults keeper r.1)
+        (HasItsRows P.keeps keeper r.1))
+        bytes (S.left input.new) (T.taken out.old) (T.taken out.new) r.0)) }
+    ensures unwritten { IfErr result (λ e. T.taken out.new ≡ T.taken out.old) }
+    ensures same { IfErr result (λ e. HasItsRows P.keeps keeper e.1) }
+    ensures fault { IfErr result (λ e. IsOpenFault (HasBadRow P.keeps P.tells keeper e.1) e.0) }
+    ensures keeper_cause { IfErr result (λ e. e.0 ≡ OpenFault.Keeper → Rose (P.faults keeper) (P.faults e.1)) }
+    ensures read_cause { IfOk result (λ r. r.0 ≡ End.ReadFault → Rose (S.faults input.old) (S.faults input.new)) }
+    ensures write_cause { IfOk result (λ r. r.0 ≡ End.WriteFault → Rose (T.faults out.old) (T.faults out.new)) }
+    ensures read_later { S.faults input.old ≤ S.faults input.new }
+    ensures write_later { T.faults out.old ≤ T.faults out.new }
+{
+    let desk = match Desk::open(alloc, keeper) {
+        Ok(desk) => desk,
+        Err((fault, keeper)) => return Err((fault, keeper)),
+    };
+    let mut requests = RequestLines::new(alloc, desk, Steps::<L>::new(blank));
+    let end = answer_lines(alloc, &mut requests, input, out);
+    Ok((end, requests.close()))
+}
+
+// Has the lines answered as queries.
+fn check<S: Source, T: Sink>(alloc: Global, input: &mut S, out: &mut T) -> End
+    ensures run { IfSome (S.left input.old) (λ bytes. EndsRun AreChecked AreCutChecks bytes
+        (S.left input.new) (T.taken out.old) (T.taken out.new) result) }
+    ensures read_cause { result ≡ End.ReadFault → Rose (S.faults input.old) (S.faults input.new) }
+    ensures write_cause { result ≡ End.WriteFault → Rose (T.faults out.old) (T.faults out.new) }
+    ensures read_later { S.faults input.old ≤ S.faults input.new }
+    ensures write_later { T.faults out.old ≤ T.faults out.new }
+{
+    let mut checks = Checks::new(alloc);
+    answer_lines(alloc, &mut checks, input, out)
+}

@@ -1,0 +1,39 @@
+use Rattle.std.proofs.Common.{◌≡◌, [], List, ◌∙◌, sym, subst}
+use Rattle.tracker_keeper.specs.declared.row.Row.{Row}
+use Rattle.tracker_keeper.specs.Rows.{Rows, IsListing}
+use Rattle.tracker_core.specs.Desk.{HasNoRow}
+use Rattle.tracker_core.proofs.Kept.{no_row, without_rows, loaded_opens, loaded_keeps, new_opens, new_keeps, bad_opens}
+use Rattle.tracker_core.proofs.opening.opened.Goals as goal
+
+none : (rows : Rows) (list lent : List Row) → lent ≡ list → lent ≡ [] → IsListing rows list → HasNoRow rows
+none rows list lent is empty listing = no_row rows (subst (IsListing rows) (sym is ∙ empty) listing)
+
+pub returns-then-has_none-clause-opened : goal.returns-then-has_none-clause-opened
+returns-then-has_none-clause-opened g c = λ rows kept.
+    new_opens (λ s. s.machine) c.new_tracker.result _ rows
+    (λ told. none rows _ _ c.deref.ensures.value (c.has_none.ensures.none c.if-has_none.true) (c.in-Ok.ensures.rows (c.new_tracker.ensures.told told) rows kept))
+    c.new_tracker.ensures.state
+
+pub returns-then-has_none-clause-rows : goal.returns-then-has_none-clause-rows
+returns-then-has_none-clause-rows g c = λ rows kept.
+    new_keeps c.new_tracker.result _
+    (λ told. subst (g.P.Keeper.keeps c.rows.new.self)
+    (without_rows rows
+    (none rows _ _ c.deref.ensures.value (c.has_none.ensures.none c.if-has_none.true) (c.in-Ok.ensures.rows (c.new_tracker.ensures.told told) rows kept)))
+    (c.in-Ok.ensures.same rows kept))
+    c.new_tracker.ensures.rows
+
+pub returns-in-Ok-clause-opened : goal.returns-in-Ok-clause-opened
+returns-in-Ok-clause-opened g c = λ rows kept.
+    loaded_opens (λ s. s.machine) c.loaded.result _ rows _
+    (λ told. subst (IsListing rows) (sym c.deref-else-has_none.ensures.value) (c.in-Ok.ensures.rows told rows kept)) c.loaded.ensures.loads
+
+pub returns-in-Ok-clause-rows : goal.returns-in-Ok-clause-rows
+returns-in-Ok-clause-rows g c = λ rows kept.
+    loaded_keeps (λ s. s.machine) c.loaded.result (g.P.Keeper.keeps c.rows.new.self) rows _
+    (λ told. subst (IsListing rows) (sym c.deref-else-has_none.ensures.value) (c.in-Ok.ensures.rows told rows kept)) c.loaded.ensures.loads (c.in-Ok.ensures.same rows kept)
+
+pub returns-in-Ok-clause-fault : goal.returns-in-Ok-clause-fault
+returns-in-Ok-clause-fault g c =
+    bad_opens c.loaded.result g.P.Keeper.keeps g.P.Keeper.tells c.args.keeper.now c.rows.new.self _
+    (λ told rows kept. subst (IsListing rows) (sym c.deref-else-has_none.ensures.value) (c.in-Ok.ensures.rows told rows kept)) c.loaded.ensures.fault

@@ -1,0 +1,115 @@
+// How a desk begins that opens what is kept.
+ghost use Rattle.std.specs.Prelude.{◌≡◌, ◌≤◌, IfOk, IfErr, OnErr, MatchOption, IsTrue, ◌↔◌};
+ghost use Rattle.fields.specs.SetupParts.{parts};
+ghost use Rattle.request_lines.specs.Causes.{Rose};
+ghost use Rattle.tracker_keeper.specs.Rows.{Rows, no_rows, IsBelow};
+ghost use Rattle.tracker_machine.specs.Kept.{rows_of};
+ghost use Rattle.tracker_rows.specs.Listed.{InOrder};
+ghost use Rattle.tracker_rows.specs.Loading.{Loads, IsFirstBad};
+ghost use Rattle.tracker_core.specs.Desk.{HasBadRow, IsKeepersOwn, IsNew, IsOpened, IsOpenFault};
+
+use crate::desk::{Desk, OpenFault, begun, has_none};
+use fields::{BUILT_IN, Setup};
+use std::alloc::Global;
+use tracker_keeper::{Keeper, Row};
+use tracker_loading::{LoadFault, load};
+use tracker_state::State;
+
+impl<P: Keeper + Drop> Desk<P> {
+    /// The desk of the tracker whose rows the keeper has; where it has none, that of a new tracker, whose opening rows are kept then.
+    /// A keeper that fails, or among whose rows is a bad one, is handed back with its rows as they were.
+    pub fn open(alloc: Global, keeper: P) -> Result<Desk<P>, (OpenFault, P)>
+        ensures opened { (rows : Rows) → P.keeps keeper rows → IfOk result (λ desk.
+            P.tells desk.keeper → IsOpened BUILT_IN.now rows desk.machine) }
+        ensures rows { (rows : Rows) → P.keeps keeper rows → IfOk result (λ desk.
+            P.tells desk.keeper → P.keeps desk.keeper (rows_of desk.machine)) }
+        ensures same { (rows : Rows) → P.keeps keeper rows → IfErr result (λ e. P.keeps e.1 rows) }
+        ensures fault { IfErr result (λ e. IsOpenFault (HasBadRow P.keeps P.tells keeper e.1) e.0) }
+        ensures cause { IfErr result (λ e. e.0 ≡ OpenFault.Keeper → Rose (P.faults keeper) (P.faults e.1)) }
+        ensures later_ok { IfOk result (λ desk. P.faults keeper ≤ P.faults desk.keeper) }
+        ensures later_err { IfErr result (λ e. P.faults keeper ≤ P.faults e.1) }
+    {
+        let mut keeper = keeper;
+        let opened = opened(alloc, &mut keeper);
+        match opened {
+            Ok(state) => Ok(Desk::over(alloc, state, keeper)),
+            Err(fault) => Err((fault, keeper)),
+        }
+    }
+}
+
+// The state of the rows that the keeper has, or that of a new tracker, whose opening rows are kept then.
+fn opened<P: Keeper>(alloc: Global, keeper: &mut P) -> Result<State, OpenFault>
+    ensures opened { (rows : Rows) → P.keeps keeper.old rows → IfOk result (λ state.
+        P.tells keeper.new → IsOpened BUILT_IN.now rows state.machine) }
+    ensures rows { (rows : Rows) → P.keeps keeper.old rows → IfOk result (λ state.
+        P.tells keeper.new → P.keeps keeper.new (rows_of state.machine)) }
+    ensures same { (rows : Rows) → P.keeps keeper.old rows → OnErr result (P.keeps keeper.new rows) }
+    ensures fault { IfErr result (IsOpenFault (HasBadRow P.keeps P.tells keeper.old keeper.new)) }
+    ensures cause { result ≡ Err OpenFault.Keeper → Rose (P.faults keeper.old) (P.faults keeper.new) }
+    ensures later { P.faults keeper.old ≤ P.faults keeper.new }
+{
+    match keeper.rows() {
+        Ok(list) => {
+            if has_none(&list) {
+                new_tracker(alloc, keeper)
+            } else {
+                loaded(alloc, &list)
+            }
+        }
+        Err(fault) => Err(OpenFault::of(fault)),
+    }
+}
+
+// The state of a new tracker, whose opening rows are kept.
+fn new_tracker<P: Keeper>(alloc: Global, keeper: &mut P) -> Result<State, OpenFault>
+    ensures state { IfOk result (λ state. IsNew BUILT_IN.now state.machine) }
+    ensures rows { P.keeps keeper.old no_rows → IfOk result (λ state. P.keeps keeper.new (rows_of state.machine)) }
+    ensures told { P.tells keeper.new → P.tells keeper.old }
+    ensures same { (rows : Rows) → P.keeps keeper.old rows → OnErr result (P.keeps keeper.new rows) }
+    ensures own { IfErr result IsKeepersOwn }
+    ensures cause { result ≡ Err OpenFault.Keeper → Rose (P.faults keeper.old) (P.faults keeper.new) }
+    ensures later { P.faults keeper.old ≤ P.faults keeper.new }
+{
+    match Setup::built_in(alloc) {
+        Ok(setup) => begun(alloc, keeper, setup),
+        Err(_) => Err(OpenFault::Memory),
+    }
+}
+
+// The state of the tracker whose rows these are, which a keeper tells in order.
+fn loaded(alloc: Global, rows: &[Row]) -> Result<State, OpenFault>
+    ensures loads { InOrder rows.now → IfOk result (λ state. Loads rows.now state.machine) }
+    ensures fault { IfErr result (IsOpenFault (λ kind number. InOrder rows.now → IsFirstBad rows.now kind number)) }
+    ensures cause { result ≡ Err OpenFault.Keeper → ⊥ }
+{
+    if let Some(row) = first_behind(rows) {
+        return Err(OpenFault::BadRow {
+            kind: row.kind,
+            no: row.no,
+        });
+    }
+    match load(alloc, rows) {
+        Ok(state) => Ok(state),
+        Err(LoadFault::BadRow { kind, no }) => Err(OpenFault::BadRow { kind, no }),
+        Err(LoadFault::Memory) => Err(OpenFault::Memory),
+    }
+}
+
+// The first row that stands before the one ahead of it, by kind and then number.
+fn first_behind(rows: &[Row]) -> Option<&Row>
+    ensures { MatchOption result (InOrder rows.now) (λ row. ¬ (InOrder rows.now)) }
+{
+    for at in 1..rows.len() {
+        if is_below(&rows[at], &rows[at - 1]) {
+            return Some(&rows[at]);
+        }
+    }
+    None
+}
+
+fn is_below(one: &Row, other: &Row) -> bool
+    ensures { IsTrue result ↔ IsBelow one.now other.now }
+{
+    one.kind < other.kind || (one.kind == other.kind && one.no < other.no)
+}
