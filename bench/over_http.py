@@ -1,0 +1,330 @@
+#!/usr/bin/env python3
+"""Asks the tracker over HTTP by sockets, by Python's client and by curl, and compares what comes with what docs/HTTP.md says.
+
+usage: python3 bench/over_http.py [PROGRAM [PORT]]
+       python3 bench/over_http.py load [PROGRAM [PORT]]
+
+PROGRAM is the built tracker, crates/tracker/out/tracker by default, and is started on PORT of 127.0.0.1, 8766 by default. Each case
+has a line. The last one counts them, and the status is 1 where one is not ok. With the word `load` it times connections one after
+another, each of sixteen requests that are sent at once, and tells how many requests are answered in a second.
+"""
+import http.client
+import json
+import os
+import pathlib
+import resource
+import shutil
+import socket
+import struct
+import subprocess
+import sys
+import tempfile
+import time
+
+TOP = pathlib.Path(__file__).resolve().parent.parent
+HOST = '127.0.0.1'
+CONNECTIONS, EACH = 3_000, 16
+
+SHOW = '/issues/OPS-1'
+CREATE = b'{"call":"create","project":"OPS","type":"Task","summary":"Fix login","set":{"points":"3"}}'
+CLOSE = 'Connection: close'
+UNKNOWN = '{"refused":{"kind":"issue","name":"%s","no":2}}'
+
+
+class Answer:
+    """A response: its status, its fields by name in small letters, and its body."""
+
+    def __init__(self, status, fields, body):
+        self.status, self.fields, self.body = status, fields, body
+
+    def closes(self):
+        return self.fields.get('connection') == 'close'
+
+
+def request(target, *fields, method='GET', version='HTTP/1.1', host=True, user='cy', body=b''):
+    """The bytes of a request."""
+    lines = [f'{method} {target} {version}']
+    lines += ['Host: tracker'] * host + [f'X-User: {user}'] * bool(user) + list(fields)
+    return '\r\n'.join(lines).encode() + b'\r\n\r\n' + body
+
+
+def posted(body, *fields, user='anna', target='/calls'):
+    return request(target, f'Content-Length: {len(body)}', *fields, method='POST', user=user, body=body)
+
+
+def head_of(length):
+    """A request for OPS-1 whose head has so many bytes."""
+    plain = request(SHOW, 'X-Filler: ', CLOSE)
+    return request(SHOW, 'X-Filler: ' + 'a' * (length - len(plain)), CLOSE)
+
+
+def with_fields(count, *fields):
+    """A request for OPS-1 with so many fields, the last of which are these."""
+    return request(SHOW, *(f'X-{number}: a' for number in range(count - 3 - len(fields))), *fields, CLOSE)
+
+
+def answers(came, without_body=False):
+    """The responses that these bytes are, one behind another."""
+    found = []
+    while came:
+        head, _, rest = came.partition(b'\r\n\r\n')
+        first, *lines = head.decode().split('\r\n')
+        fields = {name.lower(): value for name, value in (line.split(': ', 1) for line in lines)}
+        length = 0 if without_body else int(fields['content-length'])
+        found.append(Answer(int(first.split(' ')[1]), fields, rest[:length].decode()))
+        came = rest[length:]
+    return found
+
+
+class Asking:
+    """Asks the program on a port, and tells each case."""
+
+    def __init__(self, port):
+        self.port, self.good, self.bad = port, 0, 0
+
+    def tell(self, name, wanted, came):
+        if wanted == came:
+            self.good += 1
+            print(f'ok      {name}')
+        else:
+            self.bad += 1
+            print(f'not ok  {name}: wanted {wanted!r}, came {came!r}')
+
+    def exchange(self, sent, piece=None, finish=True):
+        """What comes back, until the program closes, to bytes that are sent at once or in pieces."""
+        with socket.create_connection((HOST, self.port), 20) as link:
+            try:
+                for at in range(0, len(sent), piece or len(sent)):
+                    link.sendall(sent[at:at + (piece or len(sent))])
+                if finish:
+                    link.shutdown(socket.SHUT_WR)
+            except (BrokenPipeError, ConnectionResetError):
+                pass
+            came = b''
+            try:
+                while more := link.recv(65_536):
+                    came += more
+            except ConnectionResetError:
+                came += b''
+            return came
+
+    def reset(self, sent):
+        """Sends these bytes, and resets the connection."""
+        with socket.create_connection((HOST, self.port), 20) as link:
+            link.setsockopt(socket.SOL_SOCKET, socket.SO_LINGER, struct.pack('ii', 1, 0))
+            link.sendall(sent)
+
+    def one(self, name, sent, status, body, **fields):
+        """A request that is answered by a response of this status and body, with these fields, which closes the connection."""
+        found = answers(self.exchange(sent, finish=False))
+        wanted = [(status, body, True, fields)]
+        self.tell(name, wanted, [(it.status, it.body, it.closes(), {key: it.fields.get(key) for key in fields}) for it in found])
+
+    def refused(self, name, sent, status, **fields):
+        self.one(name, sent, status, f'{{"http":{status}}}', **fields)
+
+    def form(self, name, sent, member):
+        """A request that is refused by the call's form."""
+        self.one(name, sent, 400, f'{{"refused":{{"member":"{member}","no":1}}}}')
+
+
+def show_body(ask):
+    """The reply for the one issue."""
+    return answers(ask.exchange(request(SHOW, CLOSE)))[0].body
+
+
+def calls(ask):
+    """The first call, the paths, and statuses of replies."""
+    before = int(time.time())
+    ask.one('an issue is made', posted(CREATE, CLOSE), 200, '{"ok":{"already":false,"change":1,"issue":"OPS-1"}}')
+    shown = json.loads(show_body(ask))['ok']
+    ask.tell('its clock is the machine\'s', True, before <= shown['created'] <= time.time())
+    ask.tell('its fields are told', ('anna', '3'), (shown['fields']['reporter'], shown['fields']['points']))
+    ask.one('a search', request('/search?jql=points+%3E+2&count=10', CLOSE), 200, '{"ok":{"issues":["OPS-1"],"total":1}}')
+    ask.one('no entry of its history', request(SHOW + '/history', CLOSE), 200, '{"ok":{"entries":[],"total":0}}')
+    ask.one('an unknown issue', request('/issues/OPS-9', CLOSE), 404, UNKNOWN % 'OPS-9')
+    ask.one('an unknown filter', request('/filters/007', CLOSE), 404, '{"refused":{"kind":"filter","name":"7","no":2}}')
+    ask.one('an unknown board', request('/boards/1', CLOSE), 404, '{"refused":{"kind":"board","name":"1","no":2}}')
+    ask.one('an unknown sprint', request('/sprints/1/burndown', CLOSE), 404, '{"refused":{"kind":"sprint","name":"1","no":2}}')
+    ask.one('an unknown user', request(SHOW, CLOSE, user='zed'), 404, '{"refused":{"kind":"user","name":"zed","no":2}}')
+    ask.one('what cy may not', posted(CREATE, CLOSE, user='cy'), 403,
+            '{"refused":{"no":3,"permission":"create","project":"OPS"}}')
+    ask.one('a query with a fault', request('/search?jql=colour+%3D+red', CLOSE), 422, '{"refused":{"kind":11,"no":7,"place":0}}')
+    ask.one('a balance that is idle', posted(b'{"call":"rebalance_step","count":1}', CLOSE, user='root'), 409,
+            '{"refused":{"kept":"idle 0","no":12}}')
+    ask.form('nobody asks', request(SHOW, CLOSE, user=None), 'user')
+    ask.form('a tick isn\'t served', posted(b'{"call":"tick","to":5}', CLOSE), 'call')
+    ask.form('a body that names a user', posted(b'{"user":"root","call":"show","issue":"OPS-1"}', CLOSE), 'user')
+    ask.form('a body that is none', posted(b'nonsense', CLOSE), 'line')
+    ask.form('a filter that is no number', request('/filters/one', CLOSE), 'filter')
+
+
+def targets(ask):
+    """Query texts and paths."""
+    ask.form('a repeated member of a query text', request('/search?jql=&count=1&count=1', CLOSE), 'count')
+    ask.form('an unknown member of a query text', request('/search?jql=&limit=5', CLOSE), 'limit')
+    ask.form('a member of another call', request(SHOW + '?from=0', CLOSE), 'from')
+    ask.form('a search without a query', request('/search', CLOSE), 'jql')
+    ask.form('a count of nothing', request('/search?jql=&count=0', CLOSE), 'count')
+    ask.one('an encoded name of a member', request('/search?%6Aql=points%3D3', CLOSE), 200, '{"ok":{"issues":["OPS-1"],"total":1}}')
+    ask.one('percent signs in a path', request('/issues/OPS%2D1', CLOSE), 404, UNKNOWN % 'OPS%2D1')
+    for target in ('/issues/', '/issues//history', '/filters/', '/sprints//burndown', '/', '/Search', '/calls/', '//calls',
+                   '/issues/OPS-1/', 'http://tracker/issues/OPS-1'):
+        ask.refused(f'the path {target}', request(target), 404)
+    ask.one('a query text behind posted calls', posted(b'{"call":"show","issue":"OPS-9"}', CLOSE, target='/calls?x=1'), 404,
+            UNKNOWN % 'OPS-9')
+    ask.one('a body of what is got', request(SHOW[:-1] + '9', 'Content-Length: 5', CLOSE, body=b'aside'), 404, UNKNOWN % 'OPS-9')
+
+
+def heads(ask):
+    """Requests that are refused by their heads, and those at the limits."""
+    shown = show_body(ask)
+    ask.one('a head of 8,192 bytes', head_of(8_192), 200, shown)
+    ask.refused('a head of 8,193 bytes', head_of(8_193), 431)
+    ask.one('64 fields', with_fields(64), 200, shown)
+    ask.refused('65 fields', with_fields(65), 431)
+    ask.refused('65 fields, one of no grammar', with_fields(65, 'no colon'), 400)
+    ask.refused('65 fields, and a body too long', with_fields(65, 'Content-Length: 65537'), 431)
+    ask.refused('no version', b'GET /issues/OPS-1\r\n\r\n', 400)
+    ask.refused('HTTP/2.0', request(SHOW, version='HTTP/2.0'), 400)
+    ask.refused('no Host', request(SHOW, host=False), 400)
+    ask.refused('two Hosts', request(SHOW, 'Host: other'), 400)
+    ask.refused('two X-Users', request(SHOW, 'x-user: root'), 400)
+    ask.refused('two Content-Lengths', request('/calls', 'Content-Length: 2', 'Content-Length: 2', method='POST', body=b'{}'), 400)
+    for length in ('', '+2', '2, 2', '0x2', '-1'):
+        ask.refused(f'the length "{length}"', request('/calls', f'Content-Length: {length}', method='POST', body=b'{}'), 400)
+    ask.refused('a body in chunks', request('/calls', 'Transfer-Encoding: chunked', method='POST', body=b'2\r\n{}\r\n0\r\n\r\n'), 501)
+    ask.refused('chunks, and a body too long', request('/calls', 'Transfer-Encoding: chunked', 'Content-Length: 65537'), 501)
+    ask.refused('a body of 65,537 bytes', posted(b'{"call":"show","issue":"OPS-9"}'.ljust(65_537)), 413)
+    ask.refused('too long a body for no path', request('/nowhere', 'Content-Length: 65537'), 413)
+    ask.one('a body of 65,536 bytes', posted(b'{"call":"show","issue":"OPS-9"}'.ljust(65_536), CLOSE), 404, UNKNOWN % 'OPS-9')
+
+
+def methods(ask):
+    """Other methods than a path's."""
+    ask.refused('DELETE of posted calls', request('/calls', method='DELETE'), 405, allow='POST')
+    ask.refused('POST of an issue', request(SHOW, method='POST'), 405, allow='GET')
+    ask.refused('a method in small letters', request(SHOW, method='get'), 405, allow='GET')
+    ask.refused('DELETE of no path', request('/nowhere', method='DELETE'), 404, allow=None)
+    came = ask.exchange(request(SHOW, method='HEAD'), finish=False)
+    found = answers(came, without_body=True)[0]
+    ask.tell('HEAD has no body', (405, 'GET', None, True, True),
+             (found.status, found.fields.get('allow'), found.fields.get('content-length'), found.closes(), came.endswith(b'\r\n\r\n')))
+
+
+def connections(ask):
+    """What keeps a connection open, and what closes it."""
+    both = answers(ask.exchange(posted(b'{"call":"show","issue":"OPS-9"}') + request(SHOW, CLOSE) + request(SHOW)))
+    ask.tell('two requests at once, and none behind one that closes', [(404, False), (200, True)], [(it.status, it.closes()) for it in both])
+    ask.one('a list of fields that closes', request(SHOW, 'Connection: keep-alive, Close'), 200, show_body(ask))
+    ask.one('HTTP/1.0', request(SHOW, version='HTTP/1.0', host=False), 200, show_body(ask))
+    ask.one('HTTP/1.0 that would stay', request(SHOW, 'Connection: keep-alive', version='HTTP/1.0'), 200, show_body(ask))
+    many = answers(ask.exchange(request(SHOW) * 17))
+    ask.tell('the sixteenth response closes', [False] * 15 + [True], [it.closes() for it in many])
+    open_end = answers(ask.exchange(request(SHOW)))
+    ask.tell('the input ends between requests', [(200, False)], [(it.status, it.closes()) for it in open_end])
+    ask.tell('the input ends inside a head', b'', ask.exchange(request(SHOW)[:-1]))
+    ask.tell('the input ends inside a body', b'', ask.exchange(posted(CREATE)[:-1]))
+    slow = answers(ask.exchange(request(SHOW, CLOSE), piece=1))
+    ask.tell('a byte at a time', [(200, show_body(ask))], [(it.status, it.body) for it in slow])
+    for sent in (request(SHOW) * 16, request(SHOW)[:-1]):
+        ask.reset(sent)
+        ask.one(f'behind a client that reset its connection after {len(sent)} bytes', request(SHOW, CLOSE), 200, show_body(ask))
+    behind = answers(ask.exchange(request(SHOW) + request('/nowhere') + request(SHOW)))
+    ask.tell('nothing behind a request that is refused', [200, 404], [it.status for it in behind])
+
+
+def python_client(ask):
+    """Python's own client."""
+    link = http.client.HTTPConnection(HOST, ask.port, timeout=20)
+    seen = []
+    for number in range(2):
+        link.request('GET', f'/issues/OPS-{1 + 8 * number}', headers={'X-User': 'cy'})
+        seen.append((link.getresponse().read()[:6], id(link.sock)))
+    ask.tell('http.client: two requests on one connection', ([b'{"ok":', b'{"refu'], 1),
+             ([text for text, _ in seen], len({sock for _, sock in seen})))
+    link.close()
+    link = http.client.HTTPConnection(HOST, ask.port, timeout=20)
+    link.request('PATCH', '/calls', b'{}', {'X-User': 'cy'})
+    came = link.getresponse()
+    ask.tell('http.client: PATCH', (405, 'POST', b'{"http":405}'), (came.status, came.headers['Allow'], came.read()))
+    link.close()
+
+
+def curl(ask):
+    """curl, where it is there."""
+    if not shutil.which('curl'):
+        print('curl is not there: its cases are left out')
+        return
+
+    def run(*words):
+        ran = subprocess.run(['curl', '-s', '--max-time', '20', *words], stdout=subprocess.PIPE, stderr=subprocess.PIPE, check=True)
+        return ran.stdout.decode(), ran.stderr.decode()
+
+    base = f'http://{HOST}:{ask.port}'
+    twice = run('-v', '-H', 'X-User: cy', base + '/issues/OPS-8', base + '/issues/OPS-9')
+    ask.tell('curl: two requests on one connection', (UNKNOWN % 'OPS-8' + UNKNOWN % 'OPS-9', 1),
+             (twice[0], twice[1].count('Re-using existing connection')))
+    with tempfile.NamedTemporaryFile() as body:
+        body.write(b'{"call":"search","jql":"points = 3"}')
+        body.flush()
+        ask.tell('curl: --data-binary', '{"ok":{"issues":["OPS-1"],"total":1}}',
+                 run('-H', 'X-User: cy', '--data-binary', f'@{body.name}', base + '/calls')[0])
+    ask.tell('curl: -I', ['HTTP/1.1 405 Method Not Allowed', 'Content-Type: application/json', 'Allow: GET', 'Connection: close', '', ''],
+             run('-I', '-H', 'X-User: cy', base + SHOW)[0].split('\r\n'))
+    ask.tell('curl: a member that is encoded', '{"ok":{"issues":["OPS-1"],"total":1}}',
+             run('-G', '-H', 'X-User: cy', '--data-urlencode', 'jql=points = 3', base + '/search')[0])
+
+
+def load(ask):
+    """Connections one after another, each of sixteen requests that are sent at once."""
+    ask.exchange(posted(CREATE, CLOSE))
+    sent = request(SHOW) * EACH
+    wanted = len(ask.exchange(sent))
+    begin, used = time.monotonic(), resource.getrusage(resource.RUSAGE_SELF).ru_utime
+    for _ in range(CONNECTIONS):
+        if len(ask.exchange(sent, finish=False)) != wanted:
+            sys.exit('a connection had other responses')
+    took = time.monotonic() - begin
+    used = resource.getrusage(resource.RUSAGE_SELF).ru_utime - used
+    print(f'{CONNECTIONS * EACH} requests by {CONNECTIONS} connections: {took:.2f} s, {CONNECTIONS * EACH / took:,.0f} a second '
+          f'(the client used {used:.2f} s)')
+
+
+def started(program, port):
+    """The program, which listens."""
+    running = subprocess.Popen([program, ':memory:', 'serve', str(port)], stdout=subprocess.DEVNULL)
+    for _ in range(200):
+        if running.poll() is not None:
+            sys.exit(f'{program} ended with status {running.returncode}')
+        try:
+            socket.create_connection((HOST, port), 1).close()
+            return running
+        except ConnectionRefusedError:
+            time.sleep(0.05)
+    running.kill()
+    sys.exit(f'{program} does not listen')
+
+
+def main():
+    words = sys.argv[1:]
+    timing = words[:1] == ['load']
+    words = words[timing:]
+    if len(words) > 2 or words[:1] in (['-h'], ['--help']):
+        sys.exit(__doc__)
+    program = os.path.abspath(words[0]) if words else str(TOP / 'crates/tracker/out/tracker')
+    ask = Asking(int(words[1]) if len(words) > 1 else 8766)
+    running = started(program, ask.port)
+    try:
+        for cases in (load,) if timing else (calls, targets, heads, methods, connections, python_client, curl):
+            cases(ask)
+    finally:
+        running.kill()
+        running.wait()
+    if not timing:
+        print(f'{ask.good} ok, {ask.bad} not ok')
+    sys.exit(1 if ask.bad else 0)
+
+
+if __name__ == '__main__':
+    main()
