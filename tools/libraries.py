@@ -3,13 +3,18 @@
 
 usage: python3 tools/libraries.py [--lanes N] [CRATE..]
        python3 tools/libraries.py check CRATE [FLAGS OF rt check..]
+       python3 tools/libraries.py link [CHECKOUT..]
 
 The first form builds what the crates stand on and the crates themselves, all where none is named, at most N at a time (all processors
 by default), and tells the time of each. The second checks a crate over the libraries as they are. `rt check` builds the crates below one
 after another, and sums their sources anew on each path that leads to them, of which the command line has some twelve thousand; here each
-crate is summed once. Nothing is to be edited while either runs, and only `rt ci` gives a verdict. The status is 1 where a crate isn't proved.
+crate is summed once. The third takes the libraries that a running `rt ci` has proved so far of the same sources, by hard links, from the
+checkout that it runs in, or from the copies of runs that were given names: checks here stand on them, and what lies below isn't proved twice.
+Nothing is to be edited while any of them runs, and only `rt ci` gives a verdict. The status is 1 where a crate isn't proved.
 """
 import concurrent.futures
+import filecmp
+import glob
 import os
 import pathlib
 import shutil
@@ -71,6 +76,31 @@ def build_all(crates, lanes):
     return 1 if left or any(built.values()) else 0
 
 
+def same_sources(one, other):
+    """Whether two folders of a crate have the same src/, specs/ and proofs/."""
+    def files(folder):
+        return sorted(os.path.relpath(f'{at}/{name}', folder) for part in ('src', 'specs', 'proofs')
+                      for at, _, names in os.walk(f'{folder}/{part}') for name in names)
+    return files(one) == files(other) and all(filecmp.cmp(f'{one}/{it}', f'{other}/{it}', False) for it in files(one))
+
+
+def link(crates, checkouts):
+    """Takes each library that lacks here from the first of the checkouts that has it of the same sources."""
+    for crate in crates:
+        if not crate.makes_rlib() or crate.is_built():
+            continue
+        for top in checkouts:
+            of, to = f'{top}/crates/{crate.name}', f'{crate.folder}/out/rlib'
+            library = f'out/rlib/{crate.name}.rlib'
+            if os.path.isfile(f'{of}/{library}/format') and same_sources(of, crate.folder):
+                shutil.rmtree(to, ignore_errors=True)
+                shutil.copytree(f'{of}/{library}', f'{crate.folder}/{library}', copy_function=os.link)
+                pathlib.Path(f'{to}/stamp').write_text(crate.stamp(), encoding='utf-8')
+                print(f'{crate.name} linked from {top}')
+                break
+    return 0
+
+
 def main(words):
     if words[:1] in (['-h'], ['--help']):
         sys.exit(__doc__)
@@ -87,6 +117,8 @@ def main(words):
         os.makedirs(f'{crate.folder}/out', exist_ok=True)
         os.chdir(crate.folder)
         return 1 if crate.check(words[2:]) else 0
+    if words[:1] == ['link']:
+        return link(crates, words[1:] or glob.glob('/tmp/rt-copy-*/repo'))
     lanes = len(os.sched_getaffinity(0))
     if words[:1] == ['--lanes']:
         lanes, words = int(words[1]), words[2:]
