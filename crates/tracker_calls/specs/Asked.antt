@@ -7,8 +7,9 @@ use Rattle.serde_json.specs.Read.{read}
 use Rattle.field_forms.specs.Names.{is_title}
 use Rattle.tracker_calls.specs.Given.{set_at, set_if_there}
 use Rattle.tracker_calls.specs.declared.call.Call.{Call}
-use Rattle.tracker_calls.specs.declared.call.Call.TheVariants.{Create, Edit, Transition, Tick, MoveBefore, MoveAfter, RebalanceStart, RebalanceStep, SaveFilter, DropFilter, MakeBoard, DropBoard, MakeSprint, StartSprint, CloseSprint, Show, History, Search, Ranks, Balance, Filter, Board, Burndown}
+use Rattle.tracker_calls.specs.declared.call.Call.TheVariants.{Create, Edit, Transition, Tick, MoveBefore, MoveAfter, RebalanceStart, RebalanceStep, SaveFilter, DropFilter, MakeBoard, DropBoard, MakeSprint, StartSprint, CloseSprint, SetGroup, Show, History, Search, Ranks, Balance, Filter, Board, Burndown}
 use Rattle.tracker_calls.specs.Part.{whole_within, from_if_there, count_if_there, count_at}
+use Rattle.tracker_calls.specs.Named.{external_if_there, names_at}
 use Rattle.tracker_calls.specs.declared.call.CallKind.{CallKind}
 use Rattle.tracker_calls.specs.declared.call.CallKind.TheVariants as kind
 use Rattle.tracker_calls.specs.declared.reply.Refusal.{Refusal}
@@ -83,6 +84,7 @@ kind_named name =
     (if bytes_eq name (codes "make_sprint") then Some kind.MakeSprint else
     (if bytes_eq name (codes "start_sprint") then Some kind.StartSprint else
     (if bytes_eq name (codes "close_sprint") then Some kind.CloseSprint else
+    (if bytes_eq name (codes "set_group") then Some kind.SetGroup else
     (if bytes_eq name (codes "show") then Some kind.Show else
     (if bytes_eq name (codes "history") then Some kind.History else
     (if bytes_eq name (codes "search") then Some kind.Search else
@@ -90,10 +92,10 @@ kind_named name =
     (if bytes_eq name (codes "balance") then Some kind.Balance else
     (if bytes_eq name (codes "filter") then Some kind.Filter else
     (if bytes_eq name (codes "board") then Some kind.Board else
-    (if bytes_eq name (codes "burndown") then Some kind.Burndown else None))))))))))))))))))))))
+    (if bytes_eq name (codes "burndown") then Some kind.Burndown else None)))))))))))))))))))))))
 
 abbrev pub call_members : CallKind → List (List ℕ)
-call_members kind.Create = codes "call" ∷ codes "project" ∷ codes "set" ∷ codes "summary" ∷ codes "type" ∷ codes "user" ∷ []
+call_members kind.Create = codes "call" ∷ codes "external" ∷ codes "project" ∷ codes "set" ∷ codes "summary" ∷ codes "type" ∷ codes "user" ∷ []
 call_members kind.Edit = codes "call" ∷ codes "issue" ∷ codes "set" ∷ codes "user" ∷ []
 call_members kind.Transition = codes "call" ∷ codes "issue" ∷ codes "set" ∷ codes "transition" ∷ codes "user" ∷ []
 call_members kind.Tick = codes "call" ∷ codes "to" ∷ codes "user" ∷ []
@@ -108,6 +110,7 @@ call_members kind.DropBoard = codes "board" ∷ codes "call" ∷ codes "user" �
 call_members kind.MakeSprint = codes "call" ∷ codes "name" ∷ codes "user" ∷ []
 call_members kind.StartSprint = codes "call" ∷ codes "sprint" ∷ codes "user" ∷ []
 call_members kind.CloseSprint = codes "call" ∷ codes "sprint" ∷ codes "user" ∷ []
+call_members kind.SetGroup = codes "call" ∷ codes "group" ∷ codes "members" ∷ codes "user" ∷ []
 call_members kind.Show = codes "call" ∷ codes "issue" ∷ codes "user" ∷ []
 call_members kind.History = codes "call" ∷ codes "count" ∷ codes "from" ∷ codes "issue" ∷ codes "user" ∷ []
 call_members kind.Search = codes "call" ∷ codes "count" ∷ codes "from" ∷ codes "jql" ∷ codes "user" ∷ []
@@ -134,7 +137,8 @@ create_of d members user =
     need (text_at (codes "type") d) (codes "type") (λ issue_type.
     need (text_at (codes "summary") d) (codes "summary") (λ summary.
     need (set_if_there d) (codes "set") (λ set.
-    no_other (first_other kind.Create (names_of members)) (Ok (user, Create project issue_type summary set))))))
+    need (external_if_there d) (codes "external") (λ external.
+    no_other (first_other kind.Create (names_of members)) (Ok (user, Create project issue_type summary set external)))))))
 
 abbrev pub edit_of : Data → Members → List ℕ → Asked
 edit_of d members user =
@@ -206,6 +210,12 @@ close_sprint_of d members user =
     need (number_at (codes "sprint") d) (codes "sprint") (λ sprint.
     no_other (first_other kind.CloseSprint (names_of members)) (Ok (user, CloseSprint (record { 0 = sprint }))))
 
+abbrev pub set_group_of : Data → Members → List ℕ → Asked
+set_group_of d members user =
+    need (text_at (codes "group") d) (codes "group") (λ group.
+    need (names_at (codes "members") d) (codes "members") (λ names.
+    no_other (first_other kind.SetGroup (names_of members)) (Ok (user, SetGroup group names))))
+
 abbrev pub show_of : Data → Members → List ℕ → Asked
 show_of d members user =
     need (text_at (codes "issue") d) (codes "issue") (λ issue.
@@ -271,6 +281,7 @@ asked_by kind.DropBoard d members user = drop_board_of d members user
 asked_by kind.MakeSprint d members user = make_sprint_of d members user
 asked_by kind.StartSprint d members user = start_sprint_of d members user
 asked_by kind.CloseSprint d members user = close_sprint_of d members user
+asked_by kind.SetGroup d members user = set_group_of d members user
 asked_by kind.Show d members user = show_of d members user
 asked_by kind.History d members user = history_of d members user
 asked_by kind.Search d members user = search_of d members user

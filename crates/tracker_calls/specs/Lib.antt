@@ -1,5 +1,6 @@
 pub mod Given
 pub mod Part
+pub mod Named
 pub mod Asked
 pub mod Body
 pub mod Reply

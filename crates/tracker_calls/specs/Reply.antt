@@ -39,6 +39,7 @@ thing_name thing.Sprint = codes "sprint"
 thing_name thing.Field = codes "field"
 thing_name thing.Filter = codes "filter"
 thing_name thing.Board = codes "board"
+thing_name thing.Group = codes "group"
 
 abbrev pub limit_name : Limit → List ℕ
 limit_name limit.Issues = codes "issues"
@@ -190,6 +191,10 @@ board_data columns total = object
 abbrev pub make_sprint_data : ℕ → Data
 make_sprint_data sprint = object (member (codes "sprint") (natural sprint) no_members)
 
+-- a group and how many members it has
+abbrev pub set_group_data : List ℕ → ℕ → Data
+set_group_data group members = object (member (codes "group") (string group) (member (codes "members") (natural members) no_members))
+
 abbrev pub sprint_phase_data : ℕ → SprintPhase → Data
 sprint_phase_data sprint phase = object
     (member (codes "sprint") (natural sprint) (member (codes "state") (string (phase_name phase)) no_members))
@@ -231,6 +236,7 @@ answer_data (answer.MakeBoard board) = board_number_data board.0
 answer_data (answer.DropBoard board) = board_number_data board.0
 answer_data (answer.Board columns total) = board_data columns total
 answer_data (answer.MakeSprint sprint) = make_sprint_data sprint.0
+answer_data (answer.SetGroup group members) = set_group_data group members
 answer_data (answer.SprintPhase sprint phase) = sprint_phase_data sprint.0 phase
 answer_data (answer.Burndown left rows start phase total) = burndown_data left rows start phase total
 
@@ -276,6 +282,11 @@ balance_text (kept.Moving from to) = codes "moving " ++ (decimal from ++ 32 ∷ 
 abbrev pub balance_is_data : BalanceKept → Data
 balance_is_data balance = object (member (codes "kept") (string (balance_text balance)) (member (codes "no") (natural 12) no_members))
 
+-- the key of the issue that has an external id
+abbrev pub external_is_data : List ℕ → List ℕ → Data
+external_is_data external kept = object
+    (member (codes "external") (string external) (member (codes "kept") (string kept) (member (codes "no") (natural 13) no_members)))
+
 abbrev pub number_data : ℕ → Data
 number_data n = object (member (codes "no") (natural n) no_members)
 
@@ -292,6 +303,7 @@ refusal_data (refusal.SprintIs phase) = sprint_is_data phase
 refusal_data (refusal.Limit l) = limit_data l
 refusal_data (refusal.Earlier kept) = earlier_data kept
 refusal_data (refusal.BalanceIs balance) = balance_is_data balance
+refusal_data (refusal.ExternalIs external kept) = external_is_data external kept
 refusal_data refusal.Keeper = number_data 14
 refusal_data refusal.Memory = number_data 15
 

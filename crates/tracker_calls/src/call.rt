@@ -3,7 +3,7 @@ ghost use Rattle.std.specs.Prelude.{◌≡◌, map};
 ghost use Rattle.tracker_calls.specs.Asked.{kind_named, call_members};
 
 use crate::given::GivenFields;
-use field_values::{BoardNo, FilterNo, Moment, SprintNo, Text};
+use field_values::{BoardNo, FilterNo, Moment, Names, SprintNo, Text};
 
 /// What a line asks for.
 pub enum Call {
@@ -13,6 +13,8 @@ pub enum Call {
         issue_type: Text,
         summary: Text,
         set: GivenFields,
+        /// The issue's number or name where it came from: 1 to 64 printable characters of ASCII.
+        external: Option<Text>,
     },
 
     /// Fields of the issue are to hold these values.
@@ -94,6 +96,13 @@ pub enum Call {
         sprint: SprintNo,
     },
 
+    /// The group of that name is to have these users and no others.
+    SetGroup {
+        group: Text,
+        /// At most [`MOST_MEMBERS`].
+        members: Names,
+    },
+
     /// The issue's present values.
     Show {
         issue: Text,
@@ -147,6 +156,7 @@ impl Drop for Call {
                 issue_type: _,
                 summary: _,
                 set: _,
+                external: _,
             }
             | Call::Edit { issue: _, set: _ }
             | Call::Tick { to: _ }
@@ -166,6 +176,10 @@ impl Drop for Call {
             | Call::MakeSprint { name: _ }
             | Call::StartSprint { sprint: _ }
             | Call::CloseSprint { sprint: _ }
+            | Call::SetGroup {
+                group: _,
+                members: _,
+            }
             | Call::Show { issue: _ }
             | Call::History { issue: _, part: _ }
             | Call::Search { jql: _, part: _ }
@@ -196,6 +210,9 @@ pub const MOST_ENTRIES: u32 = 50;
 /// The greatest `count` of a part of a list of issues, which is also that of a part that names none.
 pub const MOST_LISTED: u32 = 1_000;
 
+/// How many members a call names at most.
+pub const MOST_MEMBERS: usize = 200;
+
 /// A call by its name.
 #[derive(Clone, Copy, PartialEq, Eq)]
 pub enum CallKind {
@@ -214,6 +231,7 @@ pub enum CallKind {
     MakeSprint,
     StartSprint,
     CloseSprint,
+    SetGroup,
     Show,
     History,
     Search,
@@ -244,6 +262,7 @@ pub fn kind_named(name: &str) -> Option<CallKind>
         "make_sprint" => Some(CallKind::MakeSprint),
         "start_sprint" => Some(CallKind::StartSprint),
         "close_sprint" => Some(CallKind::CloseSprint),
+        "set_group" => Some(CallKind::SetGroup),
         "show" => Some(CallKind::Show),
         "history" => Some(CallKind::History),
         "search" => Some(CallKind::Search),
@@ -261,7 +280,7 @@ pub fn call_members(kind: CallKind) -> &'static [&'static str]
     ensures { map (λ name. name.now) result.now ≡ call_members kind }
 {
     match kind {
-        CallKind::Create => &["call", "project", "set", "summary", "type", "user"],
+        CallKind::Create => &["call", "external", "project", "set", "summary", "type", "user"],
         CallKind::Edit => &["call", "issue", "set", "user"],
         CallKind::Transition => &["call", "issue", "set", "transition", "user"],
         CallKind::Tick => &["call", "to", "user"],
@@ -276,6 +295,7 @@ pub fn call_members(kind: CallKind) -> &'static [&'static str]
         CallKind::MakeSprint => &["call", "name", "user"],
         CallKind::StartSprint => &["call", "sprint", "user"],
         CallKind::CloseSprint => &["call", "sprint", "user"],
+        CallKind::SetGroup => &["call", "group", "members", "user"],
         CallKind::Show => &["call", "issue", "user"],
         CallKind::History => &["call", "count", "from", "issue", "user"],
         CallKind::Search => &["call", "count", "from", "jql", "user"],

@@ -138,6 +138,12 @@ pub enum Answer {
         sprint: SprintNo,
     },
 
+    /// The group's name as the setup spells it, and how many members it has now.
+    SetGroup {
+        group: Text,
+        members: u64,
+    },
+
     /// How far a sprint is once it was started or closed.
     SprintPhase {
         sprint: SprintNo,
@@ -364,6 +370,12 @@ pub enum Refusal {
     /// Number 12: the balance is this one, which doesn't let the call through.
     BalanceIs(BalanceKept),
 
+    /// Number 13: the issue of this key has the external id already, and was created as another one.
+    ExternalIs {
+        external: Text,
+        kept: Text,
+    },
+
     /// Number 14: what keeps the rows failed, and nothing was kept.
     Keeper,
 
@@ -391,6 +403,7 @@ pub enum Thing {
     Field,
     Filter,
     Board,
+    Group,
 }
 
 /// What the tracker keeps no more of than a number.
