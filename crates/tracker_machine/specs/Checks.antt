@@ -13,6 +13,7 @@ use Rattle.fields.specs.SetupParts.{names_in, may}
 use Rattle.change_history.specs.declared.entry.Entry.{Entry}
 use Rattle.change_history.specs.History.{History}
 use Rattle.tracker_calls.specs.Given.{has_twins}
+use Rattle.tracker_calls.specs.Named.{is_external, are_few}
 use Rattle.tracker_calls.specs.Part.{part_fault}
 use Rattle.tracker_calls.specs.declared.call.Part.{Part}
 use Rattle.tracker_calls.specs.declared.given.GivenField.{GivenField}
@@ -49,6 +50,15 @@ only_if holds r = if holds then None else Some r
 -- the names in `set` don't differ in case alone
 abbrev pub twins_refusal : List GivenField → Option Refusal
 twins_refusal set = if has_twins set then Some (refusal.Form (codes "set")) else None
+
+-- an external id, if one is given, has its form
+abbrev pub external_refusal : Option (List ℕ) → Option Refusal
+external_refusal None = None
+external_refusal (Some id) = only_if (is_external id) (refusal.Form (codes "external"))
+
+-- at most 200 members are named
+abbrev pub few_refusal : List (List ℕ) → Option Refusal
+few_refusal names = only_if (are_few names) (refusal.Form (codes "members"))
 
 -- a part is in range
 abbrev pub part_refusal : ℕ → Part → Option Refusal

@@ -1,15 +1,21 @@
 -- What an accepted call does.
-use Rattle.std.specs.Prelude.{◌≡◌, ◌≢◌, ℕ, ◌+◌, ◌≤◌, List, [], ◌∷◌, ◌++◌, slice_get, slice_set, Some, None}
+use Rattle.std.specs.Prelude.{◌≡◌, ◌≢◌, ℕ, ◌+◌, ◌-◌, ◌≤◌, List, [], ◌∷◌, ◌++◌, slice_get, slice_set, length, true, Option, Some, None}
 use Rattle.std.specs.Option.{option_map_or}
 use Rattle.rising_numbers.specs.ByNumber.{by_number, put_by_number, without_number}
 use Rattle.field_values.specs.Years.{last_second}
+use Rattle.field_values.specs.Parts.{Parts}
+use Rattle.field_values.specs.GroupMembers.{with_members, is_user_list}
 use Rattle.change_history.specs.declared.entry.Entry.{Entry}
 use Rattle.change_history.specs.declared.entry.Group.{Group}
 use Rattle.change_history.specs.History.{History}
 use Rattle.field_values.specs.declared.numbers.BoardNo.{BoardNo}
 use Rattle.field_values.specs.declared.numbers.FilterNo.{FilterNo}
+use Rattle.field_values.specs.declared.numbers.GroupNo.{GroupNo}
 use Rattle.field_values.specs.declared.numbers.IssueNo.{IssueNo}
 use Rattle.field_values.specs.declared.numbers.SprintNo.{SprintNo}
+use Rattle.field_values.specs.declared.numbers.UserNo.{UserNo}
+use Rattle.external_ids.specs.declared.id.ExternalId.{ExternalId}
+use Rattle.external_ids.specs.Ids.{external_number, external_named}
 use Rattle.rank_strings.specs.Rank.{RankParts}
 use Rattle.board.specs.declared.board.Board.{Board}
 use Rattle.rank_balancer.specs.declared.balance.Balance.{Balance}
@@ -17,6 +23,7 @@ use Rattle.rank_balancer.specs.Balance.{IsMoving, after_start, from_of, to_of}
 use Rattle.rank_balancer.specs.Step.{Move, ArePicks, after_move, after_moves}
 use Rattle.tracker_ranks.specs.Ranked.{IsGiven, IsNext, with_last, balance_moved}
 use Rattle.sprints.specs.declared.state.SprintState.{SprintState}
+use Rattle.tracker_calls.specs.Named.{is_external}
 use Rattle.tracker_machine.specs.Machine.{Machine}
 use Rattle.tracker_machine.specs.Saved.{SavedFilter, filter_number, board_number, without_boards_of, MaySave, MayMake}
 use Rattle.tracker_machine.specs.SprintRules.{with_future, in_state, MayMakeSprint, MayTurn}
@@ -25,8 +32,8 @@ use Rattle.tracker_machine.specs.Tracker.{MayOpen, MayGroup}
 pub data Effect : Type 0 where
   -- it is this moment now
   NewMoment : ℕ → Effect
-  -- there is a new issue, of this rank
-  NewIssue : History → RankParts → Effect
+  -- there is a new issue, of this rank, with an external id if it has one
+  NewIssue : History → RankParts → Option (List ℕ) → Effect
   -- the issue at a place is changed
   NewGroup : ℕ → Group → Effect
   -- an issue has another rank
@@ -47,11 +54,19 @@ pub data Effect : Type 0 where
   NewBoard : Board → Effect
   -- a board is dropped
   NoBoard : BoardNo → Effect
+  -- a group has these members, and no others
+  NewMembers : GroupNo → List UserNo → Effect
 
-abbrev pub with_issue : Machine → History → RankParts → Machine
-with_issue m h rank = record m {
+-- the external ids with that of an issue, if it has one
+abbrev pub with_external : List ExternalId → IssueNo → Option (List ℕ) → List ExternalId
+with_external ids issue None = ids
+with_external ids issue (Some id) = put_by_number external_number (record { no = issue; id = id }) ids
+
+abbrev pub with_issue : Machine → History → RankParts → Option (List ℕ) → Machine
+with_issue m h rank external = record m {
   change = m.change + 1;
   histories = m.histories ++ h ∷ [];
+  externals = with_external m.externals h.no external;
   order = with_last m.order h.no rank;
 }
 
@@ -96,10 +111,17 @@ with_board m b = record m { boards = put_by_number board_number b m.boards }
 abbrev pub without_board : Machine → BoardNo → Machine
 without_board m board_no = record m { boards = without_number board_number board_no.0 m.boards }
 
+-- the setup where a group has other members
+abbrev pub regrouped : Parts → GroupNo → List UserNo → Parts
+regrouped setup group members = record setup { group = with_members setup.group (group.0 - 1) members }
+
+abbrev pub with_group_members : Machine → GroupNo → List UserNo → Machine
+with_group_members m group members = record m { setup = regrouped m.setup group members }
+
 -- the state after an effect
 unfoldable pub applied : Effect → Machine → Machine
 applied (NewMoment to) m = record m { moment = to }
-applied (NewIssue h rank) m = with_issue m h rank
+applied (NewIssue h rank external) m = with_issue m h rank external
 applied (NewGroup place group) m = with_group m place group
 applied (NewRank issue rank) m = with_new_rank m issue rank
 applied (NewBalance balance) m = with_balance m balance
@@ -110,11 +132,23 @@ applied (NewFilter f) m = with_filter m f
 applied (NoFilter filter_no) m = without_filter m filter_no
 applied (NewBoard b) m = with_board m b
 applied (NoBoard board_no) m = without_board m board_no
+applied (NewMembers group members) m = with_group_members m group members
+
+-- an external id has its form, and no other issue has it
+abbrev pub MayName : List ExternalId → Option (List ℕ) → Type 0
+MayName ids None = Unit {0}
+MayName ids (Some id) = (is_external id ≡ true) × (external_named id ids ≡ None)
+
+-- the group is there, and is to have users of the setup, in their order
+pub record MayHave (setup : Parts) (group : GroupNo) (members : List UserNo) : Type 0 where
+  pub from_one : 1 ≤ group.0
+  pub there : group.0 ≤ length setup.group
+  pub listed : is_user_list (length setup.users) members ≡ true
 
 -- an effect is of a tracker that may have it
 unfoldable pub IsAllowed : Effect → Machine → Type 0
 IsAllowed (NewMoment to) m = (m.moment ≤ to) × (to ≤ last_second)
-IsAllowed (NewIssue h rank) m = MayOpen m h × IsNext m.order m.balance h.no rank
+IsAllowed (NewIssue h rank external) m = MayOpen m h × IsNext m.order m.balance h.no rank × MayName m.externals external
 IsAllowed (NewGroup place group) m = MayGroup m place group
 IsAllowed (NewRank issue rank) m = IsGiven m.order m.balance issue rank
 IsAllowed (NewBalance balance) m = after_start m.balance ≡ Some balance
@@ -125,3 +159,4 @@ IsAllowed (NewFilter f) m = MaySave m.setup m.filters f
 IsAllowed (NoFilter filter_no) m = by_number filter_number filter_no.0 m.filters ≢ None
 IsAllowed (NewBoard b) m = MayMake m.filters m.boards b
 IsAllowed (NoBoard board_no) m = by_number board_number board_no.0 m.boards ≢ None
+IsAllowed (NewMembers group members) m = MayHave m.setup group members

@@ -12,8 +12,14 @@ use Rattle.change_history.specs.History.{History}
 use Rattle.field_values.specs.declared.numbers.FilterNo.{FilterNo}
 use Rattle.field_values.specs.declared.numbers.IssueNo.{IssueNo}
 use Rattle.field_values.specs.declared.numbers.SprintNo.{SprintNo}
+use Rattle.field_values.specs.declared.numbers.GroupNo.{GroupNo}
+use Rattle.field_values.specs.declared.numbers.UserNo.{UserNo}
+use Rattle.field_values.specs.declared.parts.Group.{Group as UserGroup}
+use Rattle.external_ids.specs.declared.id.ExternalId.{ExternalId}
+use Rattle.external_ids.specs.Ids.{external_number}
 use Rattle.rank_strings.specs.Rank.{RankParts}
 use Rattle.board.specs.Order.{Pair, rank_in}
+use Rattle.jql_meaning.specs.Surroundings.{numbered}
 use Rattle.sprints.specs.declared.sprint.Sprint.{Sprint}
 use Rattle.sprints.specs.declared.state.SprintState.{SprintState}
 use Rattle.sprints.specs.Sprint.{future, sprint_of}
@@ -23,14 +29,14 @@ use Rattle.tracker_keeper.specs.declared.row.RowOp.{RowOp}
 use Rattle.tracker_keeper.specs.declared.row.RowOp.TheVariants.{Put, Drop}
 use Rattle.tracker_keeper.specs.declared.part.Part.{Part}
 use Rattle.tracker_keeper.specs.declared.part.Part.TheVariants as part
-use Rattle.tracker_keeper.specs.declared.part.Format.TheVariants.{First}
+use Rattle.tracker_keeper.specs.declared.part.Format.TheVariants.{Second}
 use Rattle.tracker_keeper.specs.Parts.{part_kind, part_number}
 use Rattle.tracker_keeper.specs.Bodies.{body_text}
 use Rattle.tracker_keeper.specs.Rows.{Rows}
 use Rattle.tracker_machine.specs.Machine.{Machine}
 use Rattle.tracker_machine.specs.Saved.{SavedFilter, filter_number, board_number, is_board_of}
 use Rattle.tracker_machine.specs.Effect.{Effect, with_issue, with_group, with_balance, with_moves}
-use Rattle.tracker_machine.specs.Effect.Effect.{NewMoment, NewIssue, NewGroup, NewRank, NewBalance, NewRanks, NewSprint, NewState, NewFilter, NoFilter, NewBoard, NoBoard}
+use Rattle.tracker_machine.specs.Effect.Effect.{NewMoment, NewIssue, NewGroup, NewRank, NewBalance, NewRanks, NewSprint, NewState, NewFilter, NoFilter, NewBoard, NoBoard, NewMembers}
 
 -- ---- parts
 
@@ -39,7 +45,7 @@ setup_part m = part.Setup m.text
 
 -- where the tracker stands
 abbrev pub present_part : Machine → Part
-present_part m = part.Present m.balance m.change First m.moment
+present_part m = part.Present m.balance m.change Second m.moment
 
 -- an issue as it was created
 abbrev pub issue_part : History → Part
@@ -60,6 +66,13 @@ filter_part f = part.Filter f.no f.owner f.name f.text
 
 abbrev pub board_part : Board → Part
 board_part b = part.Board b.no b.name b.filter
+
+abbrev pub external_part : ExternalId → Part
+external_part e = part.External e.no e.id
+
+-- the members of a group
+abbrev pub members_part : GroupNo → List UserNo → Part
+members_part group members = part.Members group members
 
 -- ---- the part of each kind and number
 
@@ -93,6 +106,10 @@ rank_numbered order number = option_map (rank_part (record { 0 = number })) (ran
 abbrev pub sprint_numbered : List Sprint → ℕ → Option Part
 sprint_numbered sprints number = option_map (sprint_part (record { 0 = number })) (sprint_of sprints number)
 
+-- the members of the group of a number
+abbrev pub members_numbered : List UserGroup → ℕ → Option Part
+members_numbered groups number = option_map (λ g. members_part (record { 0 = number }) g.members) (numbered groups number)
+
 -- the one part of a kind, which has number 0
 abbrev pub lone : Part → ℕ → Option Part
 lone p number = if number == 0 then Some p else None
@@ -117,9 +134,11 @@ kinds m =
     ∷ kind_of 3 (λ n. option_map issue_part (issue_numbered m.histories n))
     ∷ kind_of 4 (group_numbered m.histories)
     ∷ kind_of 5 (rank_numbered m.order)
+    ∷ kind_of 6 (λ n. option_map external_part (by_number external_number n m.externals))
     ∷ kind_of 7 (sprint_numbered m.sprints)
     ∷ kind_of 8 (λ n. option_map filter_part (by_number filter_number n m.filters))
     ∷ kind_of 9 (λ n. option_map board_part (by_number board_number n m.boards))
+    ∷ kind_of 10 (members_numbered m.setup.group)
     ∷ []
 
 unfoldable pub part_at : Machine → ℕ → ℕ → Option Part
@@ -144,6 +163,11 @@ put_parts setup ps = map (put_part (names_in setup)) ps
 abbrev pub group_parts : List History → ℕ → Group → List Part
 group_parts histories place group = option_map_or (λ h. group_part h group ∷ []) (slice_get histories place) []
 
+-- the external id of an issue, if it has one
+abbrev pub external_parts : IssueNo → Option (List ℕ) → List Part
+external_parts issue None = []
+external_parts issue (Some id) = external_part (record { no = issue; id = id }) ∷ []
+
 -- the ranks that moves give
 abbrev pub rank_parts : List Move → List Part
 rank_parts moves = map (λ move. rank_part move.0 move.1) moves
@@ -156,7 +180,8 @@ state_parts sprints sprint_no state =
 -- the parts that an effect changes or makes, by kind
 unfoldable pub parts_of : Effect → Machine → List Part
 parts_of (NewMoment to) m = present_part (record m { moment = to }) ∷ []
-parts_of (NewIssue h rank) m = present_part (with_issue m h rank) ∷ issue_part h ∷ rank_part h.no rank ∷ []
+parts_of (NewIssue h rank external) m =
+    present_part (with_issue m h rank external) ∷ issue_part h ∷ rank_part h.no rank ∷ external_parts h.no external
 parts_of (NewGroup place group) m = present_part (with_group m place group) ∷ group_parts m.histories place group
 parts_of (NewRank issue rank) m = rank_part issue rank ∷ []
 parts_of (NewBalance balance) m = present_part (with_balance m balance) ∷ []
@@ -167,6 +192,7 @@ parts_of (NewFilter f) m = filter_part f ∷ []
 parts_of (NoFilter filter_no) m = []
 parts_of (NewBoard b) m = board_part b ∷ []
 parts_of (NoBoard board_no) m = []
+parts_of (NewMembers group members) m = members_part group members ∷ []
 
 -- ---- what is taken out
 
@@ -188,10 +214,22 @@ ops_of (NoFilter filter_no) m = drops_of (NoFilter filter_no) m
 ops_of (NoBoard board_no) m = drops_of (NoBoard board_no) m
 ops_of effect m = put_parts m.setup (parts_of effect m)
 
--- a new tracker has a setup, and stands at its beginning
+-- the members of groups that are numbered from this number on
+abbrev pub members_from : ℕ → List UserGroup → List Part
+members_from first [] = []
+members_from first (g ∷ gs) = members_part (record { 0 = first }) g.members ∷ members_from (first + 1) gs
+
+abbrev pub all_members : Machine → List Part
+all_members m = members_from 1 m.setup.group
+
+-- a new tracker has a setup, stands at its beginning, and has the members that its groups have
 abbrev pub opening_parts : Machine → List Part
-opening_parts m = setup_part m ∷ present_part m ∷ []
+opening_parts m = setup_part m ∷ present_part m ∷ all_members m
 
 -- the operations that keep a new tracker
 unfoldable pub opening_ops : Machine → List RowOp
 opening_ops m = put_parts m.setup (opening_parts m)
+
+-- the operations that make rows of the second format of a tracker's rows of the first one, in which no row tells members
+unfoldable pub migrating_ops : Machine → List RowOp
+migrating_ops m = put_parts m.setup (present_part m ∷ all_members m)

@@ -1,5 +1,5 @@
 -- What is proved of the abstract tracker.
-use Rattle.std.specs.Prelude.{◌≡◌, ℕ, ◌<◌, ◌^◌, List, false, slice_get, None, Some}
+use Rattle.std.specs.Prelude.{◌≡◌, ℕ, ◌<◌, ◌^◌, List, false, length, slice_get, None, Some}
 use Rattle.std.specs.List.{All, list_any}
 use Rattle.field_values.specs.Parts.{Parts}
 use Rattle.field_forms.specs.Values.{is_before}
@@ -8,7 +8,7 @@ use Rattle.tracker_keeper.specs.declared.part.Part.{Part}
 use Rattle.tracker_keeper.specs.Rows.{no_rows, with_ops, number_of}
 use Rattle.tracker_keeper.specs.Kept.{IsSetupText, IsPart, IsPartAt}
 use Rattle.tracker_machine.specs.Machine.{Machine, opening}
-use Rattle.tracker_machine.specs.Tracker.{IsTracker}
+use Rattle.tracker_machine.specs.Tracker.{IsTracker, HaveUsers}
 use Rattle.tracker_machine.specs.Effect.{Effect, applied, IsAllowed}
 use Rattle.tracker_machine.specs.Kept.{part_at, rows_of, parts_of, ops_of, opening_parts, opening_ops}
 use Rattle.tracker_machine.specs.Checks.{first_with}
@@ -48,7 +48,9 @@ abbrev pub EffectsMayBeKept : Type 0
 EffectsMayBeKept = (effect : Effect) (m : Machine) → IsAllowed effect m → IsTracker m → All (IsPart m.setup) (parts_of effect m)
 
 abbrev pub OpeningMayBeKept : Type 0
-OpeningMayBeKept = (text : List ℕ) (setup : Parts) → IsSetupText text → All (IsPart setup) (opening_parts (opening text setup))
+OpeningMayBeKept =
+    (text : List ℕ) (setup : Parts) → IsSetupText text → HaveUsers (length setup.users) setup.group
+    → All (IsPart setup) (opening_parts (opening text setup))
 
 -- ---- names
 

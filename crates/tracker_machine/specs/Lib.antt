@@ -14,6 +14,7 @@ pub mod Meaning
 pub mod Rank
 pub mod Group
 pub mod Create
+pub mod Members
 pub mod Edit
 pub mod Transition
 pub mod Move

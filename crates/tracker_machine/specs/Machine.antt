@@ -2,6 +2,7 @@
 use Rattle.std.specs.Prelude.{ℕ, List, []}
 use Rattle.field_values.specs.Parts.{Parts}
 use Rattle.change_history.specs.History.{History}
+use Rattle.external_ids.specs.declared.id.ExternalId.{ExternalId}
 use Rattle.board.specs.Order.{Pair}
 use Rattle.board.specs.declared.board.Board.{Board}
 use Rattle.rank_balancer.specs.declared.balance.Balance.{Balance}
@@ -10,7 +11,7 @@ use Rattle.sprints.specs.declared.sprint.Sprint.{Sprint}
 use Rattle.tracker_machine.specs.Saved.{SavedFilter}
 
 pub record Machine : Type 0 where
-  -- the text of the setup, and its parts
+  -- the text of the setup, and its parts, where each group has its present members
   pub text : List ℕ
   pub setup : Parts
   pub moment : ℕ
@@ -18,6 +19,8 @@ pub record Machine : Type 0 where
   pub change : ℕ
   -- the issues, by their numbers from 1
   pub histories : List History
+  -- what they are called where they came from, by their numbers
+  pub externals : List ExternalId
   -- their ranks, the top of a board first, and in which buckets these are
   pub order : List Pair
   pub balance : Balance
@@ -35,6 +38,7 @@ opening text setup = record {
   moment = 0;
   change = 0;
   histories = [];
+  externals = [];
   order = [];
   balance = Idle 0;
   sprints = [];

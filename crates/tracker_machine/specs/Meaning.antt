@@ -1,5 +1,5 @@
 -- What a call means: a refusal, an answer, or an answer and an effect.
-use Rattle.std.specs.Prelude.{◌≡◌, ℕ, length, Option, Some, None}
+use Rattle.std.specs.Prelude.{◌≡◌, ℕ, ◌*◌, length, Option, Some, None}
 use Rattle.tracker_calls.specs.declared.reply.Answer.{Answer}
 use Rattle.tracker_calls.specs.declared.reply.Refusal.{Refusal}
 use Rattle.tracker_calls.specs.declared.reply.Refusal.TheVariants as refusal
@@ -8,7 +8,7 @@ use Rattle.tracker_calls.specs.declared.reply.Reply.TheVariants as reply
 use Rattle.tracker_machine.specs.Machine.{Machine}
 use Rattle.tracker_machine.specs.Effect.{Effect, applied}
 use Rattle.tracker_machine.specs.SprintRules.{sum_in_sprint}
-use Rattle.tracker_machine.specs.Effect.Effect.{NewMoment, NewIssue, NewGroup, NewState, NewFilter}
+use Rattle.tracker_machine.specs.Effect.Effect.{NewMoment, NewIssue, NewGroup, NewState, NewFilter, NewMembers}
 
 pub data Meaning : Type 0 where
   Refuses : Refusal → Meaning
@@ -34,13 +34,14 @@ next_after _ m = m
 
 -- how often at most an effect has it asked whether a query holds of an issue, where so many kept verdicts end up to a moment:
 -- a saved filter once for each issue, a new or a changed issue once for each filter, a sprint's start or close once for each filter
--- and issue in it, and a later moment once for each such verdict
+-- and issue in it, other members of a group once for each filter and issue, and a later moment once for each such verdict
 abbrev pub cost : (ℕ → ℕ) → Effect → Machine → ℕ
 cost ended (NewMoment to) m = ended to
-cost ended (NewIssue h rank) m = length m.filters
+cost ended (NewIssue h rank external) m = length m.filters
 cost ended (NewGroup place group) m = length m.filters
 cost ended (NewState sprint state) m = sum_in_sprint (length m.filters) sprint.0 m.histories
 cost ended (NewFilter f) m = length m.histories
+cost ended (NewMembers group members) m = length m.filters * length m.histories
 cost ended _ m = 0
 
 abbrev pub allowance : (ℕ → ℕ) → Meaning → Machine → ℕ

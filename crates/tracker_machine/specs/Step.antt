@@ -6,9 +6,10 @@ use Rattle.tracker_calls.specs.declared.reply.Refusal.{Refusal}
 use Rattle.tracker_calls.specs.declared.reply.Reply.{Reply}
 use Rattle.tracker_machine.specs.Machine.{Machine}
 use Rattle.tracker_machine.specs.Known.{known_place}
-use Rattle.tracker_machine.specs.Checks.{caller_refusal, twins_refusal, part_refusal, count_refusal, other_refusal, title_refusal}
+use Rattle.tracker_machine.specs.Checks.{or_then, caller_refusal, twins_refusal, external_refusal, few_refusal, part_refusal, count_refusal, other_refusal, title_refusal}
 use Rattle.tracker_machine.specs.Meaning.{Meaning, unless, reply_to, next_after, allowance, Performs}
 use Rattle.tracker_machine.specs.Create.{create_meaning}
+use Rattle.tracker_machine.specs.Members.{set_group_meaning}
 use Rattle.tracker_machine.specs.Edit.{edit_meaning}
 use Rattle.tracker_machine.specs.Transition.{transition_meaning}
 use Rattle.tracker_machine.specs.Tick.{tick_meaning}
@@ -24,7 +25,7 @@ use Rattle.tracker_machine.specs.Sprints.{make_sprint_meaning, start_sprint_mean
 
 -- the call of a user, who is known, by place
 unfoldable pub meaning_for : Machine → ℕ → Call → Meaning
-meaning_for m user (call.Create project issue_type summary set) = create_meaning m user project issue_type summary set
+meaning_for m user (call.Create project issue_type summary set external) = create_meaning m user project issue_type summary set external
 meaning_for m user (call.Edit issue set) = edit_meaning m user issue set
 meaning_for m user (call.Transition issue transition set) = transition_meaning m user issue transition set
 meaning_for m user (call.Tick to) = tick_meaning m to
@@ -46,11 +47,12 @@ meaning_for m user (call.Board board part) = board_meaning m user board part
 meaning_for m user (call.MakeSprint name) = make_sprint_meaning m user name
 meaning_for m user (call.StartSprint sprint) = start_sprint_meaning m user sprint
 meaning_for m user (call.CloseSprint sprint) = close_sprint_meaning m user sprint
+meaning_for m user (call.SetGroup group members) = set_group_meaning m user group members
 meaning_for m user (call.Burndown sprint part) = burndown_meaning m user sprint part
 
 -- the fault of a call's form; a call that was read from a line has none
 unfoldable pub form_refusal : Call → Option Refusal
-form_refusal (call.Create project issue_type summary set) = twins_refusal set
+form_refusal (call.Create project issue_type summary set external) = or_then (twins_refusal set) (external_refusal external)
 form_refusal (call.Edit issue set) = twins_refusal set
 form_refusal (call.Transition issue transition set) = twins_refusal set
 form_refusal (call.History issue part) = part_refusal 50 part
@@ -64,6 +66,7 @@ form_refusal (call.Filter filter part) = part_refusal 1_000 part
 form_refusal (call.MakeBoard name filter) = title_refusal name
 form_refusal (call.Board board part) = part_refusal 1_000 part
 form_refusal (call.MakeSprint name) = title_refusal name
+form_refusal (call.SetGroup group members) = few_refusal members
 form_refusal (call.Burndown sprint part) = part_refusal 1_000 part
 form_refusal _ = None
 

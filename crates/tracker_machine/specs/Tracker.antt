@@ -17,6 +17,12 @@ use Rattle.fields.specs.SetupParts.{names_in}
 use Rattle.fields.specs.Naming.{name_at, key_of}
 use Rattle.tracker_keeper.specs.Forms.{is_small, are_opening}
 use Rattle.tracker_ranks.specs.Ranked.{IsRanked}
+use Rattle.rising_numbers.specs.ByNumber.{RiseFrom}
+use Rattle.field_values.specs.GroupMembers.{is_user_list}
+use Rattle.field_values.specs.declared.parts.Group.{Group as UserGroup}
+use Rattle.external_ids.specs.declared.id.ExternalId.{ExternalId}
+use Rattle.external_ids.specs.Ids.{external_number, HaveOwnIds}
+use Rattle.tracker_calls.specs.Named.{is_external}
 use Rattle.tracker_machine.specs.Machine.{Machine}
 use Rattle.tracker_machine.specs.Saved.{AreSaved}
 use Rattle.tracker_machine.specs.SprintRules.{OpensInSprints, BringsSprints, AreSprints}
@@ -105,6 +111,23 @@ pub record HasRanks (m : Machine) : Type 0 where
   pub each : length m.order ≡ length m.histories
   pub ranked : IsRanked m.order m.balance
 
+-- ---- external ids, and members
+
+-- an external id has its form, and is that of an issue, of which there are so many
+pub record IsExternalOf (issues : ℕ) (e : ExternalId) : Type 0 where
+  pub there : e.no.0 ≤ issues
+  pub formed : is_external e.id ≡ true
+
+-- no two issues have the same external id
+pub record AreExternals (issues : ℕ) (ids : List ExternalId) : Type 0 where
+  pub rising : RiseFrom external_number 1 ids
+  pub own : HaveOwnIds ids
+  pub each : All (IsExternalOf issues) ids
+
+-- the members of each group are some of so many users, in their order
+abbrev pub HaveUsers : ℕ → List UserGroup → Type 0
+HaveUsers users groups = All (λ g. is_user_list users g.members ≡ true) groups
+
 -- what holds of every tracker
 pub record IsTracker (m : Machine) : Type 0 where
   pub few_issues : length m.histories ≤ 50_000
@@ -117,6 +140,8 @@ pub record IsTracker (m : Machine) : Type 0 where
   pub each : length m.order ≡ length m.histories
   pub ranked : IsRanked m.order m.balance
   pub keys : AreKeyed m.setup [] m.histories
+  pub externals : AreExternals (length m.histories) m.externals
+  pub members : HaveUsers (length m.setup.users) m.setup.group
   -- the number of the last change is at most that of the issues and the groups, and the creations are by rising numbers
   pub numbered : m.change ≤ length m.histories + groups_kept m.histories
   pub rising : RisesAbove 0 (map (λ h. h.change) m.histories)

@@ -1,12 +1,15 @@
 -- What is proved of all lists of rows.
-use Rattle.std.specs.Prelude.{◌≡◌, ◌++◌, ◌∷◌, [], ℕ, List, Ok}
+use Rattle.std.specs.Prelude.{◌≡◌, ◌++◌, ◌∷◌, [], ℕ, List, map, Ok}
 use Rattle.setup_reading.specs.Reading.{setup_in}
 use Rattle.tracker_keeper.specs.declared.row.Row.{Row}
 use Rattle.tracker_keeper.specs.declared.part.Part.{Part}
-use Rattle.tracker_keeper.specs.Rows.{IsListing}
+use Rattle.tracker_keeper.specs.declared.part.Format.{Format}
+use Rattle.tracker_keeper.specs.declared.part.Format.TheVariants.{First, Second}
+use Rattle.tracker_keeper.specs.Rows.{Rows, IsListing, with_ops}
 use Rattle.tracker_machine.specs.Machine.{Machine}
 use Rattle.tracker_machine.specs.Tracker.{IsTracker}
-use Rattle.tracker_machine.specs.Kept.{rows_of}
+use Rattle.tracker_machine.specs.Kept.{rows_of, migrating_ops}
+use Rattle.tracker_machine.specs.Members.{IsSetupOf}
 use Rattle.tracker_rows.specs.Gathered.{Gathered, with_part}
 use Rattle.tracker_rows.specs.Gathered.Gathered.{Nothing}
 use Rattle.tracker_rows.specs.Loading.{IsInTime, IsGood, AreRead, Loads, IsFirstBad}
@@ -23,21 +26,32 @@ GoodRowsLeadOn =
 
 -- what rows load is a tracker
 abbrev pub LoadedAreTrackers : Type 0
-LoadedAreTrackers = (rows : List Row) (m : Machine) → Loads rows m → IsTracker m
+LoadedAreTrackers = (format : Format) (rows : List Row) (m : Machine) → Loads format rows m → IsTracker m
 
--- and its setup is that of its text
+-- and its setup is that of its text, but for who is in its groups
 abbrev pub LoadedSetupsAreTheirTexts : Type 0
-LoadedSetupsAreTheirTexts = (rows : List Row) (m : Machine) → Loads rows m → setup_in m.text ≡ Ok m.setup
+LoadedSetupsAreTheirTexts = (format : Format) (rows : List Row) (m : Machine) → Loads format rows m → IsSetupOf m.text m.setup
 
--- its rows are those
+-- in rows of the first format the groups have the members that the text gives them
+abbrev pub FirstRowsHaveTheirMembers : Type 0
+FirstRowsHaveTheirMembers = (rows : List Row) (m : Machine) → Loads First rows m → setup_in m.text ≡ Ok m.setup
+
+-- its rows are those, where they are of the second format
 abbrev pub LoadedRowsAreTheirs : Type 0
-LoadedRowsAreTheirs = (rows : List Row) (m : Machine) → Loads rows m → IsListing (rows_of m) rows
+LoadedRowsAreTheirs = (rows : List Row) (m : Machine) → Loads Second rows m → IsListing (rows_of m) rows
+
+-- and rows of the first format become its rows by the operations that migrate them
+abbrev pub MigratedRowsAreTheirs : Type 0
+MigratedRowsAreTheirs =
+    (rows : List Row) (kept : Rows) (m : Machine) → Loads First rows m → IsListing kept rows → with_ops (migrating_ops m) kept ≡ rows_of m
 
 -- ---- one or the other
 
 -- rows load one tracker at most
 abbrev pub RowsLoadOne : Type 0
-RowsLoadOne = (rows : List Row) (one other : Machine) → Loads rows one → Loads rows other → one ≡ other
+RowsLoadOne =
+    (format other_format : Format) (rows : List Row) (one other : Machine) → Loads format rows one → Loads other_format rows other
+    → (one ≡ other) × (format ≡ other_format)
 
 -- one row at most is the first bad one
 pub record IsSameRow (kind number other_kind other_number : ℕ) : Type 0 where
@@ -51,4 +65,5 @@ FirstBadIsOne =
 
 -- and rows that load a tracker have none
 abbrev pub LoadedHaveNoBad : Type 0
-LoadedHaveNoBad = (rows : List Row) (m : Machine) (kind number : ℕ) → Loads rows m → IsFirstBad rows kind number → ⊥
+LoadedHaveNoBad =
+    (format : Format) (rows : List Row) (m : Machine) (kind number : ℕ) → Loads format rows m → IsFirstBad rows kind number → ⊥

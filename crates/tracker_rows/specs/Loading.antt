@@ -1,8 +1,9 @@
 -- Which rows are a tracker's, and which row is the first bad one.
-use Rattle.std.specs.Prelude.{◌≡◌, ◌⊎◌, ℕ, List, [], ◌∷◌, ◌++◌, length, Some, IfSome}
+use Rattle.std.specs.Prelude.{◌≡◌, ◌⊎◌, ℕ, List, [], ◌∷◌, ◌++◌, Some, None, IfSome}
 use Rattle.std.specs.List.{All}
 use Rattle.field_values.specs.Parts.{Parts}
 use Rattle.tracker_keeper.specs.declared.row.Row.{Row}
+use Rattle.tracker_keeper.specs.declared.part.Format.{Format}
 use Rattle.tracker_keeper.specs.declared.part.Part.{Part}
 use Rattle.tracker_keeper.specs.Kept.{IsRowOf}
 use Rattle.tracker_machine.specs.Machine.{Machine}
@@ -18,7 +19,7 @@ use Rattle.tracker_rows.specs.Rules.{MayFollow}
 abbrev pub Tells : Gathered → Row → Part → Type 0
 Tells Nothing row p = (setup : Parts) × IsRowOf setup row.kind row.no row.body p
 Tells (HasSetup text setup) row p = IsRowOf setup row.kind row.no row.body p
-Tells (Stands m) row p = IsRowOf m.setup row.kind row.no row.body p
+Tells (Stands format told m) row p = IsRowOf m.setup row.kind row.no row.body p
 
 -- no row is missing before this one
 abbrev pub IsInTime : Gathered → Row → Type 0
@@ -42,11 +43,12 @@ abbrev pub AreRead : List Row → Gathered → List Row → Gathered → Type 0
 AreRead rows g [] after = after ≡ g
 AreRead rows g (row ∷ more) after = IsInTime g row × ((p : Part) × IsGood rows g row p × AreRead rows (with_part g p) more after)
 
--- the rows are this tracker's: all are good, and none is missing at their end
-pub record Loads (rows : List Row) (m : Machine) : Type 0 where
+-- the rows, which are of this format, make this tracker: all are good, and none is missing at their end
+pub record Loads (format : Format) (rows : List Row) (m : Machine) : Type 0 where
   pub ordered : InOrder rows
-  pub read : AreRead rows Nothing rows (Stands m)
-  pub whole : length m.order ≡ length m.histories
+  pub told : ℕ
+  pub read : AreRead rows Nothing rows (Stands format told m)
+  pub whole : due (Stands format told m) ≡ None
 
 -- ---- the first bad row
 

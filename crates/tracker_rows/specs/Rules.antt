@@ -17,7 +17,8 @@ use Rattle.sprints.specs.declared.sprint.Sprint.{Sprint}
 use Rattle.tracker_ranks.specs.Loaded.{AllowsBucket}
 use Rattle.tracker_keeper.specs.declared.row.Row.{Row}
 use Rattle.tracker_keeper.specs.declared.part.Format.{Format}
-use Rattle.tracker_keeper.specs.declared.part.Format.TheVariants.{First}
+use Rattle.tracker_keeper.specs.declared.part.Format.TheVariants.{Second}
+use Rattle.external_ids.specs.Ids.{external_named}
 use Rattle.tracker_keeper.specs.declared.part.Part.{Part}
 use Rattle.tracker_keeper.specs.declared.part.Part.TheVariants as part
 use Rattle.tracker_machine.specs.Machine.{Machine}
@@ -33,11 +34,9 @@ use Rattle.tracker_rows.specs.Gathered.Gathered.{Nothing, HasSetup, Stands}
 
 -- ---- present
 
-pub record MayBePresent (rows : List Row) (change : ℕ) (format : Format) : Type 0 where
+pub record MayBePresent (rows : List Row) (change : ℕ) : Type 0 where
   -- its change is at most the number of rows of issues and of change groups
   pub counted : change ≤ changes_in rows
-  -- rows of the first format are read
-  pub first : format ≡ First
 
 -- ---- issues and change groups
 
@@ -105,6 +104,14 @@ pub record MayBeRank (m : Machine) (issue : IssueNo) (rank : RankParts) : Type 0
   -- it is in a bucket that the balance allows
   pub allowed : AllowsBucket m.balance rank.bucket
 
+-- ---- external ids
+
+pub record MayBeExternal (m : Machine) (issue : IssueNo) (external : List ℕ) : Type 0 where
+  -- it is that of an issue that is there
+  pub there : issue.0 ≤ length m.histories
+  -- no other issue has it
+  pub alone : external_named external m.externals ≡ None
+
 -- ---- sprints
 
 pub record MayBeSprint (m : Machine) (sprint_no : ℕ) (s : Sprint) : Type 0 where
@@ -134,20 +141,22 @@ pub record MayBeBoard (m : Machine) (b : Board) : Type 0 where
 
 -- ---- all kinds
 
--- the part may be the next one of a tracker in the making. This has its setup and its present already; and there are no external ids
--- yet, nor rows of members in the first format
-unfoldable pub MayJoin : Machine → Part → Type 0
-MayJoin m (part.Issue issue key change at author values) = MayBeIssue m (opened issue key change at author values)
-MayJoin m (part.Group issue group) = MayBeGroupOf m issue group
-MayJoin m (part.Rank issue rank) = MayBeRank m issue rank
-MayJoin m (part.Sprint sprint_no sprint) = MayBeSprint m sprint_no.0 sprint
-MayJoin m (part.Filter filter_no owner name jql) = MayBeFilter m (record { no = filter_no; owner = owner; name = name; text = jql })
-MayJoin m (part.Board board_no name filter) = MayBeBoard m (record { no = board_no; name = name; filter = filter })
-MayJoin m _ = ⊥
+-- the part may be the next one of a tracker in the making, which has its setup and its present already. The members of groups are
+-- rows of the second format alone
+unfoldable pub MayJoin : Format → Machine → Part → Type 0
+MayJoin format m (part.Issue issue key change at author values) = MayBeIssue m (opened issue key change at author values)
+MayJoin format m (part.Group issue group) = MayBeGroupOf m issue group
+MayJoin format m (part.Rank issue rank) = MayBeRank m issue rank
+MayJoin format m (part.External issue external) = MayBeExternal m issue external
+MayJoin format m (part.Sprint sprint_no sprint) = MayBeSprint m sprint_no.0 sprint
+MayJoin format m (part.Filter filter_no owner name jql) = MayBeFilter m (record { no = filter_no; owner = owner; name = name; text = jql })
+MayJoin format m (part.Members group members) = format ≡ Second
+MayJoin format m (part.Board board_no name filter) = MayBeBoard m (record { no = board_no; name = name; filter = filter })
+MayJoin format m _ = ⊥
 
 -- the part may follow what was gathered, where these are all rows
 unfoldable pub MayFollow : List Row → Gathered → Part → Type 0
 MayFollow rows Nothing (part.Setup text) = Unit {0}
-MayFollow rows (HasSetup text setup) (part.Present balance change format moment) = MayBePresent rows change format
-MayFollow rows (Stands m) p = MayJoin m p
+MayFollow rows (HasSetup text setup) (part.Present balance change format moment) = MayBePresent rows change
+MayFollow rows (Stands format told m) p = MayJoin format m p
 MayFollow rows _ p = ⊥
