@@ -14,7 +14,7 @@ use Rattle.field_values.specs.declared.numbers.GroupNo.{GroupNo}
 use Rattle.field_values.specs.declared.numbers.IssueNo.{IssueNo}
 use Rattle.field_values.specs.declared.numbers.SprintNo.{SprintNo}
 use Rattle.field_values.specs.declared.numbers.UserNo.{UserNo}
-use Rattle.external_ids.specs.declared.id.ExternalId.{ExternalId}
+use Rattle.external_ids.specs.declared.external_id.ExternalId.{ExternalId}
 use Rattle.external_ids.specs.Ids.{external_number, external_named}
 use Rattle.rank_strings.specs.Rank.{RankParts}
 use Rattle.board.specs.declared.board.Board.{Board}

@@ -2,7 +2,7 @@
 use Rattle.std.specs.Prelude.{ℕ, List, []}
 use Rattle.field_values.specs.Parts.{Parts}
 use Rattle.change_history.specs.History.{History}
-use Rattle.external_ids.specs.declared.id.ExternalId.{ExternalId}
+use Rattle.external_ids.specs.declared.external_id.ExternalId.{ExternalId}
 use Rattle.board.specs.Order.{Pair}
 use Rattle.board.specs.declared.board.Board.{Board}
 use Rattle.rank_balancer.specs.declared.balance.Balance.{Balance}

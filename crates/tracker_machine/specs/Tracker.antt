@@ -20,7 +20,7 @@ use Rattle.tracker_ranks.specs.Ranked.{IsRanked}
 use Rattle.rising_numbers.specs.ByNumber.{RiseFrom}
 use Rattle.field_values.specs.GroupMembers.{is_user_list}
 use Rattle.field_values.specs.declared.parts.Group.{Group as UserGroup}
-use Rattle.external_ids.specs.declared.id.ExternalId.{ExternalId}
+use Rattle.external_ids.specs.declared.external_id.ExternalId.{ExternalId}
 use Rattle.external_ids.specs.Ids.{external_number, HaveOwnIds}
 use Rattle.tracker_calls.specs.Named.{is_external}
 use Rattle.tracker_machine.specs.Machine.{Machine}
