@@ -1,10 +1,9 @@
 -- External ids when one comes that no issue has yet, of an issue behind all that have one.
-use Rattle.std.proofs.Common.{◌≡◌, ℕ, suc, ◌<◌, ◌≤◌, ◌==◌, List, [], ◌∷◌, ◌++◌, Bool, true, false, Option, Some, None, length, bytes_eq, refl, sym, subst, ◌∙◌, ap, false≢true, arith}
+use Rattle.std.proofs.Common.{◌≡◌, ℕ, ◌<◌, ◌≤◌, ◌==◌, List, [], ◌∷◌, ◌++◌, Bool, true, false, Option, Some, None, bytes_eq, refl, sym, subst, ◌∙◌, ap, arith}
 use Rattle.std.specs.Prelude.{if◌then◌else◌}
 use Rattle.std.specs.List.{All}
 use Rattle.std.proofs.lemmas.Bool.Decides.{nat_tests}
 use Rattle.std.proofs.lemmas.List.Elements.{All-tail}
-use Rattle.std.proofs.lemmas.Option.{same_Some}
 use Rattle.std.proofs.lemmas.Slice.Eq.{bytes_eq-Decides}
 use Rattle.rising_numbers.specs.ByNumber.{RiseFrom, by_number, put_by_number}
 use Rattle.rising_numbers.proofs.ByNumber.{rise_put, by_put}
@@ -66,27 +65,6 @@ own_append (e ∷ es) new free own =
     let rest = others_free e (bytes_eq e.id new.id) (external_named new.id es) free in
     let none = ap (λ b. if b then Some new else external_named e.id es) (other_way e.id new.id other) ∙ own.0 in
     (external_named-append e.id es new rest ∙ none, own_append es new rest own.1)
-
--- one that is found has the id
-pub named_has_id : (id : List ℕ) (es : List ExternalId) (e : ExternalId) → external_named id es ≡ Some e → e.id ≡ id
-named_has_id id [] e is = cc
-named_has_id id (d ∷ es) e is = by (bytes_eq d.id id) refl is where
-  by : (b : Bool) → bytes_eq d.id id ≡ b → (if b then Some d else external_named id es) ≡ Some e → e.id ≡ id
-  by true same is = ap (λ (e : ExternalId). e.id) (sym (same_Some d e is)) ∙ (bytes_eq-Decides d.id id).0 same
-  by false other is = named_has_id id es e is
-
--- the external id of an issue leads to it
-pub number_named : (n : ℕ) (es : List ExternalId) (e : ExternalId) → HaveOwnIds es → by_number external_number n es ≡ Some e → external_named e.id es ≡ Some e
-number_named n [] e own is = cc
-number_named n (d ∷ es) e own is = at (d.no.0 == n) (bytes_eq d.id e.id) refl is where
-  at : (here same : Bool) → bytes_eq d.id e.id ≡ same → (if here then Some d else by_number external_number n es) ≡ Some e → (if same then Some d else external_named e.id es) ≡ Some e
-  at true true same_is is = is
-  at true false same_is is = absurd (false≢true (sym same_is ∙ (bytes_eq-Decides d.id e.id).1 (ap (λ (e : ExternalId). e.id) (same_Some d e is))))
-  at false true same_is is =
-      let found : external_named e.id es ≡ Some e = number_named n es e own.1 is in
-      let none : external_named e.id es ≡ None = ap (λ id. external_named id es) (sym ((bytes_eq-Decides d.id e.id).0 same_is)) ∙ own.0 in
-      cc
-  at false false same_is is = number_named n es e own.1 is
 
 -- by its id the new one is found, and the others as before
 pub named_put_last : (new : ExternalId) (es : List ExternalId) (id : List ℕ) → All (λ e. e.no.0 < new.no.0) es → external_named new.id es ≡ None
