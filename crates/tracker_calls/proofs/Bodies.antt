@@ -9,6 +9,7 @@ use Rattle.tracker_calls.specs.declared.reply.Refusal.TheVariants as refusal
 use Rattle.tracker_calls.specs.Asked.{Asked, asked_by, need, no_other, names_of, is_member, first_other, UnlessMemory, text_at, title_at, number_at, moment_at, other_than}
 use Rattle.tracker_calls.specs.declared.call.Call.{Call}
 use Rattle.tracker_calls.specs.Given.{set_at, set_if_there}
+use Rattle.tracker_calls.specs.Named.{external_if_there, names_at}
 use Rattle.tracker_calls.specs.Part.{from_if_there, count_if_there, count_at}
 use Rattle.tracker_calls.specs.Body.{is_body_member, first_unknown, asked_alone, asked_beside, fault_beside, of_line}
 
@@ -44,7 +45,8 @@ module _ (ms : Members) (user : List ℕ) where
       first (text_at (codes "type") (object ms)) (codes "type") _ _ refl (λ type.
       first (text_at (codes "summary") (object ms)) (codes "summary") _ _ refl (λ summary.
       first (set_if_there (object ms)) (codes "set") _ _ refl (λ set.
-      told _ _ _ _))))
+      first (external_if_there (object ms)) (codes "external") _ _ refl (λ external.
+      told _ _ _ _)))))
   looked kind.Edit = first (text_at (codes "issue") (object ms)) (codes "issue") _ _ refl (λ issue.
       first (set_at (object ms)) (codes "set") _ _ refl (λ set.
       told _ _ _ _))
@@ -79,6 +81,9 @@ module _ (ms : Members) (user : List ℕ) where
       told _ _ _ _)
   looked kind.CloseSprint = first (number_at (codes "sprint") (object ms)) (codes "sprint") _ _ refl (λ sprint.
       told _ _ _ _)
+  looked kind.SetGroup = first (text_at (codes "group") (object ms)) (codes "group") _ _ refl (λ group.
+      first (names_at (codes "members") (object ms)) (codes "members") _ _ refl (λ names.
+      told _ _ _ _))
   looked kind.Show = first (text_at (codes "issue") (object ms)) (codes "issue") _ _ refl (λ issue.
       told _ _ _ _)
   looked kind.History = first (text_at (codes "issue") (object ms)) (codes "issue") _ _ refl (λ issue.
@@ -122,6 +127,7 @@ keeps_fault kind other (refusal.SprintIs s) is = refl
 keeps_fault kind other (refusal.Limit l) is = refl
 keeps_fault kind other (refusal.Earlier m) is = refl
 keeps_fault kind other (refusal.BalanceIs b) is = refl
+keeps_fault kind other (refusal.ExternalIs e k) is = refl
 keeps_fault kind other refusal.Keeper is = refl
 
 -- the first unknown name of a line is no member of the call, and then a body has an unknown name too
@@ -171,6 +177,7 @@ unless (Err (refusal.SprintIs s)) expected h = inr h
 unless (Err (refusal.Limit l)) expected h = inr h
 unless (Err (refusal.Earlier m)) expected h = inr h
 unless (Err (refusal.BalanceIs b)) expected h = inr h
+unless (Err (refusal.ExternalIs e k)) expected h = inr h
 unless (Err refusal.Keeper) expected h = inr h
 
 memory_stays : {T : Type 0} (result expected : Result T Refusal) → UnlessMemory result (Err refusal.Memory) → UnlessMemory result expected

@@ -1,5 +1,5 @@
 -- What stays in an object once a member is taken out.
-use Rattle.std.proofs.Common.{◌≡◌, ℕ, List, [], ◌∷◌, Option, Some, find, Bool, true, false, cond, Ordering, Less, Equal, Greater, is_eq, string_bytes, String, Global, nat_cmp, refl, sym, ap, ◌∙◌, inl, inr}
+use Rattle.std.proofs.Common.{◌≡◌, ℕ, List, [], ◌∷◌, codes, Option, Some, find, Bool, true, false, cond, Ordering, Less, Equal, Greater, is_eq, string_bytes, String, Global, nat_cmp, refl, sym, ap, ◌∙◌, inl, inr}
 use Rattle.std.specs.Prelude.{if◌then◌else◌, not}
 use Rattle.std.specs.Ordering.{match_ordering}
 use Rattle.std.specs.Cmp.Lexicographic.{slice_cmp}
@@ -15,6 +15,7 @@ use Rattle.serde_json.specs.View.{view, members_view}
 use Rattle.serde_json.specs.declared.value.Value.{Value}
 use Rattle.tracker_calls.specs.declared.call.CallKind.{CallKind}
 use Rattle.tracker_calls.specs.Asked.{text_at, names_of, first_other, is_member}
+use Rattle.tracker_calls.specs.Named.{external_if_there}
 use Rattle.tracker_calls.specs.Taken.{without}
 use Rattle.tracker_calls.proofs.Twins.{bytes_eq_flips}
 
@@ -50,6 +51,9 @@ get_without name other (member k d more) apart = elim (cases_Bool (bytes_eq name
 
 pub text_at_without : (name other : List ℕ) (ms : Members) → bytes_eq name other ≡ false → text_at other (object (without name ms)) ≡ text_at other (object ms)
 text_at_without name other ms apart = rw (get_without name other ms apart) refl
+
+pub external_without : (name : List ℕ) (ms : Members) → bytes_eq name (codes "external") ≡ false → external_if_there (object (without name ms)) ≡ external_if_there (object ms)
+external_without name ms apart = rw (get_without name (codes "external") ms apart) refl
 
 -- a name that passes no test isn't missed by it
 pub find_without : (test : List ℕ → Bool) (name : List ℕ) (ms : Members) → test name ≡ false → find test (names_of (without name ms)) ≡ find test (names_of ms)

@@ -1,9 +1,9 @@
 -- Bodies and what they ask for.
-use Rattle.std.proofs.Common.{◌≡◌, codes, Some, None, Ok, Err, refl}
+use Rattle.std.proofs.Common.{◌≡◌, [], ◌∷◌, codes, Some, None, Ok, Err, refl}
 use Rattle.std.specs.Str.{is_utf8, chars}
 use Rattle.serde_json.proofs.OnLiterals.{serde_json_on_literals}
 use Rattle.tracker_calls.specs.Body.{body_of}
-use Rattle.tracker_calls.specs.declared.call.Call.TheVariants.{Show, SaveFilter}
+use Rattle.tracker_calls.specs.declared.call.Call.TheVariants.{Show, SaveFilter, SetGroup}
 use Rattle.tracker_calls.specs.declared.reply.Refusal.TheVariants.{Form}
 
 pub a_posted_show : body_of (codes "{\"call\":\"show\",\"issue\":\"OPS-9\"}") (Some (codes "anna")) ≡ Ok (codes "anna", Show (codes "OPS-9"))
@@ -46,3 +46,11 @@ a_text_of_nobody = refl
 pub a_call_of_nobody : body_of (codes "{\"call\":\"shew\"}") None ≡ Err (Form (codes "user"))
 unfolding is_utf8 chars serde_json_on_literals body_of
 a_call_of_nobody = refl
+
+pub a_posted_group : body_of (codes "{\"call\":\"set_group\",\"group\":\"team\",\"members\":[\"anna\"]}") (Some (codes "root")) ≡ Ok (codes "root", SetGroup (codes "team") (codes "anna" ∷ []))
+unfolding is_utf8 chars serde_json_on_literals body_of
+a_posted_group = refl
+
+pub a_posted_external_id : body_of (codes "{\"call\":\"create\",\"project\":\"OPS\",\"type\":\"Bug\",\"summary\":\"Slow\",\"external\":\"\",\"user\":\"anna\"}") (Some (codes "anna")) ≡ Err (Form (codes "external"))
+unfolding is_utf8 chars serde_json_on_literals body_of
+a_posted_external_id = refl

@@ -1,9 +1,9 @@
 -- Lines and what they ask for.
-use Rattle.std.proofs.Common.{◌≡◌, codes, Ok, Err, refl}
+use Rattle.std.proofs.Common.{◌≡◌, [], ◌∷◌, codes, Some, None, Ok, Err, refl}
 use Rattle.std.specs.Str.{is_utf8, chars}
 use Rattle.serde_json.proofs.OnLiterals.{serde_json_on_literals}
 use Rattle.tracker_calls.specs.Asked.{line_of}
-use Rattle.tracker_calls.specs.declared.call.Call.TheVariants.{MoveBefore, SaveFilter, DropFilter, MakeBoard, DropBoard, MakeSprint, StartSprint, CloseSprint, Filter, Board, Burndown}
+use Rattle.tracker_calls.specs.declared.call.Call.TheVariants.{Create, MoveBefore, SaveFilter, DropFilter, MakeBoard, DropBoard, MakeSprint, StartSprint, CloseSprint, SetGroup, Filter, Board, Burndown}
 use Rattle.tracker_calls.specs.declared.reply.Refusal.TheVariants.{Form}
 
 pub a_move : line_of (codes "{\"user\":\"root\",\"call\":\"move_before\",\"issue\":\"OPS-1\",\"other\":\"OPS-2\"}") ≡ Ok (codes "root", MoveBefore (codes "OPS-1") (codes "OPS-2"))
@@ -98,3 +98,81 @@ a_burndown_from_too_far = refl
 pub a_burndown_of_none : line_of (codes "{\"user\":\"root\",\"call\":\"burndown\",\"sprint\":1,\"count\":0}") ≡ Err (Form (codes "count"))
 unfolding is_utf8 chars serde_json_on_literals line_of
 a_burndown_of_none = refl
+
+pub a_created_issue : line_of (codes "{\"user\":\"root\",\"call\":\"create\",\"project\":\"OPS\",\"type\":\"Bug\",\"summary\":\"Slow\",\"external\":\"J-1\"}") ≡ Ok (codes "root", Create (codes "OPS") (codes "Bug") (codes "Slow") [] (Some (codes "J-1")))
+unfolding is_utf8 chars serde_json_on_literals line_of
+a_created_issue = refl
+
+pub without_an_external_id : line_of (codes "{\"user\":\"root\",\"call\":\"create\",\"project\":\"OPS\",\"type\":\"Bug\",\"summary\":\"Slow\"}") ≡ Ok (codes "root", Create (codes "OPS") (codes "Bug") (codes "Slow") [] None)
+unfolding is_utf8 chars serde_json_on_literals line_of
+without_an_external_id = refl
+
+pub the_longest_external_id : line_of (codes "{\"user\":\"root\",\"call\":\"create\",\"project\":\"OPS\",\"type\":\"Bug\",\"summary\":\"Slow\",\"external\":\"J-012345678901234567890123456789012345678901234567890123456789~ \"}") ≡ Ok (codes "root", Create (codes "OPS") (codes "Bug") (codes "Slow") [] (Some (codes "J-012345678901234567890123456789012345678901234567890123456789~ ")))
+unfolding is_utf8 chars serde_json_on_literals line_of
+the_longest_external_id = refl
+
+-- of 65 bytes
+pub too_long_an_external_id : line_of (codes "{\"user\":\"root\",\"call\":\"create\",\"project\":\"OPS\",\"type\":\"Bug\",\"summary\":\"Slow\",\"external\":\"J-012345678901234567890123456789012345678901234567890123456789~ 1\"}") ≡ Err (Form (codes "external"))
+unfolding is_utf8 chars serde_json_on_literals line_of
+too_long_an_external_id = refl
+
+pub an_empty_external_id : line_of (codes "{\"user\":\"root\",\"call\":\"create\",\"project\":\"OPS\",\"type\":\"Bug\",\"summary\":\"Slow\",\"external\":\"\"}") ≡ Err (Form (codes "external"))
+unfolding is_utf8 chars serde_json_on_literals line_of
+an_empty_external_id = refl
+
+pub a_control_character : line_of (codes "{\"user\":\"root\",\"call\":\"create\",\"project\":\"OPS\",\"type\":\"Bug\",\"summary\":\"Slow\",\"external\":\"J\\t1\"}") ≡ Err (Form (codes "external"))
+unfolding is_utf8 chars serde_json_on_literals line_of
+a_control_character = refl
+
+pub a_letter_beyond_ascii : line_of (codes "{\"user\":\"root\",\"call\":\"create\",\"project\":\"OPS\",\"type\":\"Bug\",\"summary\":\"Slow\",\"external\":\"J-\\u00e91\"}") ≡ Err (Form (codes "external"))
+unfolding is_utf8 chars serde_json_on_literals line_of
+a_letter_beyond_ascii = refl
+
+-- absent is fine, and null is not
+pub no_external_id : line_of (codes "{\"user\":\"root\",\"call\":\"create\",\"project\":\"OPS\",\"type\":\"Bug\",\"summary\":\"Slow\",\"external\":null}") ≡ Err (Form (codes "external"))
+unfolding is_utf8 chars serde_json_on_literals line_of
+no_external_id = refl
+
+pub a_number_as_external_id : line_of (codes "{\"user\":\"root\",\"call\":\"create\",\"project\":\"OPS\",\"type\":\"Bug\",\"summary\":\"Slow\",\"external\":1}") ≡ Err (Form (codes "external"))
+unfolding is_utf8 chars serde_json_on_literals line_of
+a_number_as_external_id = refl
+
+-- before the external id
+pub the_set_first : line_of (codes "{\"user\":\"root\",\"call\":\"create\",\"project\":\"OPS\",\"type\":\"Bug\",\"summary\":\"Slow\",\"external\":1,\"set\":1}") ≡ Err (Form (codes "set"))
+unfolding is_utf8 chars serde_json_on_literals line_of
+the_set_first = refl
+
+-- before the members that are none of the call's
+pub the_external_id_first : line_of (codes "{\"user\":\"root\",\"call\":\"create\",\"project\":\"OPS\",\"type\":\"Bug\",\"summary\":\"Slow\",\"external\":1,\"a\":1}") ≡ Err (Form (codes "external"))
+unfolding is_utf8 chars serde_json_on_literals line_of
+the_external_id_first = refl
+
+pub a_group : line_of (codes "{\"call\":\"set_group\",\"group\":\"team\",\"members\":[\"root\",\"anna\"],\"user\":\"anna\"}") ≡ Ok (codes "anna", SetGroup (codes "team") (codes "root" ∷ codes "anna" ∷ []))
+unfolding is_utf8 chars serde_json_on_literals line_of
+a_group = refl
+
+pub a_group_of_nobody : line_of (codes "{\"call\":\"set_group\",\"group\":\"team\",\"members\":[],\"user\":\"anna\"}") ≡ Ok (codes "anna", SetGroup (codes "team") [])
+unfolding is_utf8 chars serde_json_on_literals line_of
+a_group_of_nobody = refl
+
+pub a_number_among_members : line_of (codes "{\"call\":\"set_group\",\"group\":\"team\",\"members\":[\"root\",1],\"user\":\"anna\"}") ≡ Err (Form (codes "members"))
+unfolding is_utf8 chars serde_json_on_literals line_of
+a_number_among_members = refl
+
+pub members_as_a_text : line_of (codes "{\"call\":\"set_group\",\"group\":\"team\",\"members\":\"root\",\"user\":\"anna\"}") ≡ Err (Form (codes "members"))
+unfolding is_utf8 chars serde_json_on_literals line_of
+members_as_a_text = refl
+
+-- before the members that are none of the call's
+pub a_group_without_members : line_of (codes "{\"a\":1,\"call\":\"set_group\",\"group\":\"team\",\"user\":\"anna\"}") ≡ Err (Form (codes "members"))
+unfolding is_utf8 chars serde_json_on_literals line_of
+a_group_without_members = refl
+
+-- before its members
+pub a_group_by_number : line_of (codes "{\"call\":\"set_group\",\"group\":1,\"members\":1,\"user\":\"anna\"}") ≡ Err (Form (codes "group"))
+unfolding is_utf8 chars serde_json_on_literals line_of
+a_group_by_number = refl
+
+pub a_group_with_a_name : line_of (codes "{\"call\":\"set_group\",\"group\":\"team\",\"members\":[],\"user\":\"anna\",\"name\":\"x\"}") ≡ Err (Form (codes "name"))
+unfolding is_utf8 chars serde_json_on_literals line_of
+a_group_with_a_name = refl

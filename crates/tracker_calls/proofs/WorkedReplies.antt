@@ -1,4 +1,4 @@
--- Texts of replies about ranks and their balance, saved filters, boards and sprints.
+-- Texts of replies about ranks and their balance, saved filters, boards, sprints, groups and external ids.
 use Rattle.std.proofs.Common.{◌≡◌, [], ◌∷◌, codes, Some, None, true, false, pos, negsuc, refl}
 use Rattle.std.specs.Fmt.{digits}
 use Rattle.serde_json.proofs.OnLiterals.{serde_json_on_literals}
@@ -149,3 +149,15 @@ no_more_sprints = refl
 pub no_such_sprint : reply_text (reply.Refused (refusal.Unknown thing.Sprint (codes "7"))) ≡ codes "{\"refused\":{\"kind\":\"sprint\",\"name\":\"7\",\"no\":2}}"
 unfolding digits serde_json_on_literals reply_text
 no_such_sprint = refl
+
+pub a_set_group : reply_text (reply.Ok (answer.SetGroup (codes "team") 2)) ≡ codes "{\"ok\":{\"group\":\"team\",\"members\":2}}"
+unfolding digits serde_json_on_literals reply_text
+a_set_group = refl
+
+pub no_such_group : reply_text (reply.Refused (refusal.Unknown thing.Group (codes "tean"))) ≡ codes "{\"refused\":{\"kind\":\"group\",\"name\":\"tean\",\"no\":2}}"
+unfolding digits serde_json_on_literals reply_text
+no_such_group = refl
+
+pub created_as_another : reply_text (reply.Refused (refusal.ExternalIs (codes "J-1") (codes "OPS-1"))) ≡ codes "{\"refused\":{\"external\":\"J-1\",\"kept\":\"OPS-1\",\"no\":13}}"
+unfolding digits serde_json_on_literals reply_text
+created_as_another = refl

@@ -2,6 +2,7 @@
 ghost use Rattle.tracker_calls.specs.Asked.{UnlessMemory};
 ghost use Rattle.tracker_calls.specs.Taken.{asked_in};
 
+use crate::asked_groups::set_group_of;
 use crate::asked_sprints::{burndown_of, close_sprint_of, make_sprint_of, start_sprint_of};
 use crate::call::{Call, CallKind, MOST_ENTRIES, MOST_LISTED, Part};
 use crate::given::{take_set, take_set_if_there};
@@ -9,6 +10,7 @@ use crate::members::{
     count_at, count_if_there, first_other, from_if_there, misses, moment_at, number_at, other_than,
     text_at, title_at,
 };
+use crate::named::take_external;
 use crate::reply::Refusal;
 use crate::taken::{take_text, take_user};
 use crate::user_name::UserName;
@@ -40,6 +42,7 @@ pub fn asked_in(
         CallKind::MakeSprint => make_sprint_of(alloc, members),
         CallKind::StartSprint => start_sprint_of(alloc, members),
         CallKind::CloseSprint => close_sprint_of(alloc, members),
+        CallKind::SetGroup => set_group_of(alloc, members),
         CallKind::Show => show_of(alloc, members),
         CallKind::History => history_of(alloc, members),
         CallKind::Search => search_of(alloc, members),
@@ -51,7 +54,7 @@ pub fn asked_in(
     }
 }
 
-#[tactic(auto, using(crate::proofs::Taking::text_at_without, crate::proofs::Taking::first_other_without))]
+#[tactic(auto, using(crate::proofs::Taking::text_at_without, crate::proofs::Taking::external_without, crate::proofs::Taking::first_other_without))]
 fn create_of(alloc: Global, members: &mut Map<String, Value>) -> Result<(UserName, Call), Refusal>
     ensures { UnlessMemory result (asked_in CallKind.Create members.old) }
 {
@@ -67,6 +70,9 @@ fn create_of(alloc: Global, members: &mut Map<String, Value>) -> Result<(UserNam
     let Some(set) = take_set_if_there(alloc, members)? else {
         return misses(alloc, "set");
     };
+    let Some(external) = take_external(members) else {
+        return misses(alloc, "external");
+    };
     if let Some(other) = first_other(CallKind::Create, members) {
         return misses(alloc, other);
     }
@@ -81,6 +87,7 @@ fn create_of(alloc: Global, members: &mut Map<String, Value>) -> Result<(UserNam
             issue_type,
             summary,
             set,
+            external,
         },
     ))
 }

@@ -280,7 +280,9 @@ pub fn call_members(kind: CallKind) -> &'static [&'static str]
     ensures { map (λ name. name.now) result.now ≡ call_members kind }
 {
     match kind {
-        CallKind::Create => &["call", "external", "project", "set", "summary", "type", "user"],
+        CallKind::Create => &[
+            "call", "external", "project", "set", "summary", "type", "user",
+        ],
         CallKind::Edit => &["call", "issue", "set", "user"],
         CallKind::Transition => &["call", "issue", "set", "transition", "user"],
         CallKind::Tick => &["call", "to", "user"],

@@ -1,9 +1,10 @@
 // Copies of calls.
-ghost use Rattle.std.specs.Prelude.{◌≡◌, IfOk};
+ghost use Rattle.std.specs.Prelude.{◌≡◌, IfOk, option_map};
 ghost use Rattle.tracker_calls.specs.declared.call.Call.TheVariants as calls;
 
 use crate::call::Call;
 use crate::given::{Given, GivenField, GivenFields};
+use crate::reply_copy::text_if_any;
 use field_values::{Memory, Names, Text};
 use std::alloc::Global;
 
@@ -18,7 +19,8 @@ impl Call {
                 issue_type,
                 summary,
                 set,
-            } => copy_create(alloc, project, issue_type, summary, set),
+                external,
+            } => copy_create(alloc, project, issue_type, summary, set, external.as_ref()),
             Call::Edit { issue, set } => copy_edit(alloc, issue, set),
             Call::Tick { to } => Ok(Call::Tick { to: *to }),
             Call::Transition {
@@ -46,6 +48,7 @@ impl Call {
             }
             Call::StartSprint { sprint } => Ok(Call::StartSprint { sprint: *sprint }),
             Call::CloseSprint { sprint } => Ok(Call::CloseSprint { sprint: *sprint }),
+            Call::SetGroup { group, members } => copy_set_group(alloc, group, members),
             Call::Show { issue } => {
                 let issue = issue.copy(alloc)?;
                 Ok(Call::Show { issue })
@@ -82,18 +85,22 @@ fn copy_create(
     issue_type: &Text,
     summary: &Text,
     set: &GivenFields,
+    external: Option<&Text>,
 ) -> Result<Call, Memory>
-    ensures { IfOk result (λ c. c ≡ calls.Create project.now issue_type.now summary.now set.now) }
+    ensures { IfOk result (λ c. c ≡ calls.Create project.now issue_type.now summary.now set.now
+        (option_map (λ t. t.now) external.entry)) }
 {
     let project = project.copy(alloc)?;
     let issue_type = issue_type.copy(alloc)?;
     let summary = summary.copy(alloc)?;
     let set = set.copy(alloc)?;
+    let external = text_if_any(alloc, external)?;
     Ok(Call::Create {
         project,
         issue_type,
         summary,
         set,
+        external,
     })
 }
 
@@ -145,6 +152,14 @@ fn copy_save_filter(alloc: Global, name: &Text, jql: &Text) -> Result<Call, Memo
     let name = name.copy(alloc)?;
     let jql = jql.copy(alloc)?;
     Ok(Call::SaveFilter { name, jql })
+}
+
+fn copy_set_group(alloc: Global, group: &Text, members: &Names) -> Result<Call, Memory>
+    ensures { IfOk result (λ c. c ≡ calls.SetGroup group.now members.now) }
+{
+    let group = group.copy(alloc)?;
+    let members = members.copy(alloc)?;
+    Ok(Call::SetGroup { group, members })
 }
 
 impl Given {

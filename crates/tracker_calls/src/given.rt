@@ -249,7 +249,8 @@ fn given_of(alloc: Global, value: Value) -> Result<Given, Memory>
     }
 }
 
-fn texts_of(alloc: Global, items: Vec<Value>) -> Result<Option<Names>, Memory>
+/// The texts of an array, or `None` where it has anything else.
+pub(crate) fn texts_of(alloc: Global, items: Vec<Value>) -> Result<Option<Names>, Memory>
     ensures { IfOk result (λ names. names ≡ texts_of (items_view items.items)) }
 {
     let mut names = Names::new(alloc);

@@ -3,16 +3,19 @@
 #![tactic(auto)]
 
 mod asked;
+mod asked_groups;
 mod asked_sprints;
 mod body;
 mod call;
 mod call_copy;
 mod filters_json;
 mod given;
+mod groups_json;
 mod history_json;
 mod json_text;
 mod line;
 mod members;
+mod named;
 mod ranks_json;
 mod reply;
 mod reply_copy;
@@ -23,10 +26,11 @@ mod taken;
 mod user_name;
 
 pub use body::read_body;
-pub use call::{Call, CallKind, MOST_ENTRIES, MOST_FROM, MOST_LISTED, Part};
+pub use call::{Call, CallKind, MOST_ENTRIES, MOST_FROM, MOST_LISTED, MOST_MEMBERS, Part};
 pub use given::{Given, GivenField, GivenFields, has_twins};
 pub use line::read_line;
 pub use members::{is_among, misses};
+pub use named::is_external;
 pub use reply::{
     Answer, BalanceKept, BalanceState, BurnedRow, BurnedRows, Column, Columns, Limit, RankedKey,
     RankedKeys, Refusal, Reply, Shown, ShownField, ShownFields, SprintPhase, Thing, ToldEntries,

@@ -79,6 +79,7 @@ impl Answer {
             Answer::DropBoard { board } => Ok(Answer::DropBoard { board: *board }),
             Answer::Board { columns, total } => copy_boarded(alloc, columns, *total),
             Answer::MakeSprint { sprint } => Ok(Answer::MakeSprint { sprint: *sprint }),
+            Answer::SetGroup { group, members } => copy_set_group(alloc, group, *members),
             Answer::SprintPhase { sprint, state } => Ok(Answer::SprintPhase {
                 sprint: *sprint,
                 state: *state,
@@ -188,6 +189,13 @@ fn copy_boarded(alloc: Global, list: &Columns, total: u64) -> Result<Answer, Mem
 {
     let columns = copy_columns(alloc, list)?;
     Ok(Answer::Board { columns, total })
+}
+
+fn copy_set_group(alloc: Global, group: &Text, members: u64) -> Result<Answer, Memory>
+    ensures { IfOk result (λ a. a ≡ answers.SetGroup group.now members) }
+{
+    let group = group.copy(alloc)?;
+    Ok(Answer::SetGroup { group, members })
 }
 
 // ---- the parts of answers
@@ -371,6 +379,7 @@ impl Refusal {
             Refusal::Limit { limit } => Ok(Refusal::Limit { limit: *limit }),
             Refusal::Earlier { kept } => Ok(Refusal::Earlier { kept: *kept }),
             Refusal::BalanceIs(kept) => Ok(Refusal::BalanceIs(*kept)),
+            Refusal::ExternalIs { external, kept } => copy_external_is(alloc, external, kept),
             Refusal::Keeper => Ok(Refusal::Keeper),
             Refusal::Memory => Ok(Refusal::Memory),
         }
@@ -407,7 +416,16 @@ fn copy_no_room(alloc: Global, low: Option<&Text>, high: Option<&Text>) -> Resul
     Ok(Refusal::NoRoom { low, high })
 }
 
-fn text_if_any(alloc: Global, text: Option<&Text>) -> Result<Option<Text>, Memory>
+fn copy_external_is(alloc: Global, external: &Text, kept: &Text) -> Result<Refusal, Memory>
+    ensures { IfOk result (λ r. r ≡ refusals.ExternalIs external.now kept.now) }
+{
+    let external = external.copy(alloc)?;
+    let kept = kept.copy(alloc)?;
+    Ok(Refusal::ExternalIs { external, kept })
+}
+
+/// A copy of a text, where there is one.
+pub(crate) fn text_if_any(alloc: Global, text: Option<&Text>) -> Result<Option<Text>, Memory>
     ensures { IfOk result (λ copy. copy ≡ option_map (λ t. t.now) text.entry) }
 {
     match text {

@@ -1,11 +1,12 @@
 // The text of a reply: compact JSON, the members of each object in byte order of their names.
 ghost use Rattle.std.specs.Prelude.{◌≡◌, IfOk, OnOk};
 ghost use Rattle.tracker_calls.specs.Written.{after};
-ghost use Rattle.tracker_calls.specs.Reply.{reply_text, reply_data, answer_data, create_data, edit_data, tick_data, search_data, refusal_data, form_data, unknown_data, forbidden_data, index_data, permission_name, unfit_data, query_data, sprint_is_data, limit_data, earlier_data, no_room_data, balance_text, balance_is_data, number_data, thing_name, limit_name, limit_number};
+ghost use Rattle.tracker_calls.specs.Reply.{reply_text, reply_data, answer_data, create_data, edit_data, tick_data, search_data, refusal_data, form_data, unknown_data, forbidden_data, index_data, permission_name, unfit_data, query_data, sprint_is_data, limit_data, earlier_data, no_room_data, balance_text, balance_is_data, external_is_data, number_data, thing_name, limit_name, limit_number};
 
 use crate::filters_json::{
     write_board, write_board_number, write_filter_number, write_save_filter,
 };
+use crate::groups_json::write_set_group;
 use crate::history_json::write_history;
 use crate::json_text::JsonText;
 use crate::ranks_json::{
@@ -86,6 +87,7 @@ fn write_answer(alloc: Global, out: &mut JsonText, answer: &Answer) -> Result<()
         Answer::DropBoard { board } => write_board_number(out, *board),
         Answer::Board { columns, total } => write_board(out, columns.as_slice(), *total),
         Answer::MakeSprint { sprint } => write_make_sprint(out, *sprint),
+        Answer::SetGroup { group, members } => write_set_group(out, group, *members),
         Answer::SprintPhase { sprint, state } => write_sprint_phase(out, *sprint, *state),
         Answer::Burndown {
             left,
@@ -154,6 +156,7 @@ fn write_refusal(alloc: Global, out: &mut JsonText, refusal: &Refusal) -> Result
         Refusal::Limit { limit } => write_limit(out, *limit),
         Refusal::Earlier { kept } => write_earlier(out, *kept),
         Refusal::BalanceIs(balance) => write_balance_is(alloc, out, *balance),
+        Refusal::ExternalIs { external, kept } => write_external_is(out, external, kept),
         Refusal::Keeper => write_number(out, 14),
         Refusal::Memory => write_number(out, 15),
     }
@@ -297,6 +300,16 @@ fn balance_text(alloc: Global, balance: BalanceKept) -> Result<Text, Memory>
     }
 }
 
+fn write_external_is(out: &mut JsonText, external: &Text, kept: &Text) -> Result<(), Memory>
+    ensures { OnOk result (out.new ≡ after (external_is_data external.now kept.now) out.old) }
+{
+    out.begin_object()?;
+    out.text_member("external", external.as_str())?;
+    out.text_member("kept", kept.as_str())?;
+    out.number_member("no", 13)?;
+    out.end_object()
+}
+
 // The refusals that have a number alone.
 fn write_number(out: &mut JsonText, number: u64) -> Result<(), Memory>
     ensures { OnOk result (out.new ≡ after (number_data number) out.old) }
@@ -320,6 +333,7 @@ impl Thing {
             Thing::Field => "field",
             Thing::Filter => "filter",
             Thing::Board => "board",
+            Thing::Group => "group",
         }
     }
 }
