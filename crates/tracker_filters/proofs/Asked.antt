@@ -7,7 +7,7 @@ use Rattle.std.proofs.lemmas.List.Folds.{list_any_at, list_any_more}
 use Rattle.jql_bound.specs.declared.cond.Cond.{Cond}
 use Rattle.jql_bound.specs.declared.leaf.Leaf.{Leaf}
 use Rattle.jql_bound.specs.declared.past.PastLeaf.{PastLeaf}
-use Rattle.jql_bound.specs.Condition.{Condition, Conditions, now, past, all_of, any_of, view, views}
+use Rattle.jql_bound.specs.Condition.{Conditions, now, past, all_of, any_of, view, views}
 use Rattle.tracker_filters.specs.Members.{operator_asks, past_asks, condition_asks, one_asks}
 
 pub all_asks : (cs : Conditions) → one_asks cs ≡ condition_asks (all_of cs)

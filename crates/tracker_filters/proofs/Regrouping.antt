@@ -1,5 +1,5 @@
 -- Cells of the filters that ask for members, settled one filter after the other.
-use Rattle.std.proofs.Common.{◌⊎◌, ◌≡◌, ◌≢◌, ℕ, ◌+◌, ◌*◌, ◌<◌, ◌≤◌, Bool, true, false, Some, List, length, take, slice_get, get_or, if◌then◌else◌, refl, sym, ◌∙◌, ap, subst, inl, inr, arith}
+use Rattle.std.proofs.Common.{◌⊎◌, ◌≡◌, ℕ, ◌+◌, ◌*◌, ◌<◌, ◌≤◌, Bool, true, false, Some, List, length, take, slice_get, get_or, if◌then◌else◌, refl, sym, ◌∙◌, ap, subst, inl, inr, arith}
 use Rattle.std.specs.Bool.{MatchBool}
 use Rattle.std.proofs.lemmas.Bool.{cases_lt, cases_eq, false≢true}
 use Rattle.std.proofs.lemmas.List.Sums.{sum_by_more, sum_by-le}
@@ -13,7 +13,7 @@ use Rattle.rising_numbers.specs.ByNumber.{RiseFrom, by_number}
 use Rattle.rising_numbers.proofs.Placed.{found_at, rising_between}
 use Rattle.tracker_filters.specs.Saved.{number, condition_of}
 use Rattle.tracker_filters.specs.Watched.{CellIsRight, AreWatched}
-use Rattle.tracker_filters.specs.Members.{DifferInMembers, query_asks, asks_members, cost_of, members_cost, SettlesRow, SettlesMembers}
+use Rattle.tracker_filters.specs.Members.{DifferInMembers, query_asks, asks_members, asking_cost, members_cost, SettlesRow, SettlesMembers}
 use Rattle.tracker_filters.proofs.Shapes.{cells_same}
 use Rattle.tracker_filters.proofs.Unasked.{right_unasked}
 
@@ -116,14 +116,14 @@ module _ (around : Surroundings) (moment : ℕ) (fs : List Filter) (hs : List Hi
 -- ---- what that costs
 
 -- what the filters up to the next one cost
-pub members_cost_more : (issues count : ℕ) (f : Filter) (fs : List Filter) → slice_get fs count ≡ Some f → members_cost (take (count + 1) fs) issues ≡ members_cost (take count fs) issues + cost_of issues f
+pub members_cost_more : (issues count : ℕ) (f : Filter) (fs : List Filter) → slice_get fs count ≡ Some f → members_cost (take (count + 1) fs) issues ≡ members_cost (take count fs) issues + asking_cost issues f
 members_cost_more issues count f fs at =
-    sum_by_more (cost_of issues) fs count f (slice_get_within fs count f at)
-    ∙ ap (λ (x : Filter). members_cost (take count fs) issues + cost_of issues x) (get_or_from_slice_get fs count f f at)
+    sum_by_more (asking_cost issues) fs count f (slice_get_within fs count f at)
+    ∙ ap (λ (x : Filter). members_cost (take count fs) issues + asking_cost issues x) (get_or_from_slice_get fs count f f at)
 
 -- at most each filter is asked of each issue
 pub members_cost_most : (fs : List Filter) (n : ℕ) → members_cost fs n ≤ length fs * n
-members_cost_most fs n = sum_by-le (cost_of n) n fs (λ k d lt. most (asks_members (get_or fs k d)))
+members_cost_most fs n = sum_by-le (asking_cost n) n fs (λ k d lt. most (asks_members (get_or fs k d)))
   where
     most : (b : Bool) → (if b then n else 0) ≤ n
     most true = omega arith

@@ -78,11 +78,11 @@ unfoldable pub asks_members : Filter → Bool
 asks_members f = query_asks (condition_of f)
 
 -- a filter that asks for members is asked of so many issues, and another one of none
-abbrev pub cost_of : ℕ → Filter → ℕ
-cost_of issues f = if asks_members f then issues else 0
+abbrev pub asking_cost : ℕ → Filter → ℕ
+asking_cost issues f = if asks_members f then issues else 0
 
 abbrev pub members_cost : List Filter → ℕ → ℕ
-members_cost filters issues = sum_by (cost_of issues) filters
+members_cost filters issues = sum_by (asking_cost issues) filters
 
 -- one filter's cells are right, and no other filter's cell changes
 pub record SettlesRow (around : Surroundings) (moment : ℕ) (f : Filter) (hs : List History) (old new : Views) : Type 0 where

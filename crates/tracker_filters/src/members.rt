@@ -5,7 +5,7 @@ ghost use Rattle.filter_views.specs.Cell.{filters as numbers_in, is_there};
 ghost use Rattle.rising_numbers.specs.ByNumber.{RiseFrom};
 ghost use Rattle.tracker_filters.specs.Saved.{number};
 ghost use Rattle.tracker_filters.specs.Watched.{histories_of};
-ghost use Rattle.tracker_filters.specs.Members.{asks_members, cost_of, members_cost, SettlesRow, SettlesMembers};
+ghost use Rattle.tracker_filters.specs.Members.{asks_members, asking_cost, members_cost, SettlesRow, SettlesMembers};
 
 use crate::asking::asks_members;
 use crate::filter::Filter;
@@ -56,7 +56,7 @@ fn settle_if_asking<L: Ledger>(
         (SettlesRow (surroundings_of context.now) at filter.now
         (histories_of issues.now) views.old views.new)
         (views.new ≡ views.old) }
-    ensures steps { steps.new ≡ steps.old + cost_of (length issues.now) filter.now }
+    ensures steps { steps.new ≡ steps.old + asking_cost (length issues.now) filter.now }
 {
     if asks_members(filter) {
         settle_row(views, filter, issues, context, at, steps);
