@@ -126,7 +126,7 @@ pub record IsAcceptedCall (c : Call) (m : Machine) (line : List ℕ) : Type 0 wh
 
 -- a create, a move, and what rebalances: no other call may change the order of ranks or their balance
 abbrev pub changes_ranks : Call → Bool
-changes_ranks (call.Create project issue_type summary set) = true
+changes_ranks (call.Create project issue_type summary set external) = true
 changes_ranks (call.MoveBefore issue other) = true
 changes_ranks (call.MoveAfter issue other) = true
 changes_ranks c = rebalances c
