@@ -46,7 +46,7 @@ use Rattle.tracker_machine.proofs.Totals.{history_bytes-more, bytes_kept-push, b
 use Rattle.tracker_machine.proofs.Chronicle.{chronicle_next, chronicle_later, chronicle_nil, change_pushed, change_added, groups_more, groups_kept-push, groups_kept-set}
 use Rattle.tracker_machine.proofs.Saved.{no_filters, filter_saved, filter_dropped, board_made, board_dropped}
 use Rattle.tracker_machine.proofs.SprintRules.{no_sprints, sprints_later, sprints_push, sprint_made, sprint_turned, sprints_grown}
-use Rattle.tracker_machine.proofs.ExternalRows.{no_externals, externals_more}
+use Rattle.tracker_machine.proofs.Externals.{no_externals, externals_more}
 use Rattle.tracker_machine.proofs.Regrouped.{names_regrouped, saved_regrouped, keyed_regrouped, have_users_set}
 use Rattle.tracker_machine.proofs.Settled.{at_place, from_found, all_settled_later, settled_new, settled_added, settled_at}
 
