@@ -6,9 +6,10 @@ pub mod Fits
 pub mod Changes
 pub mod Issues
 pub mod Ranks
+pub mod Told
+pub mod Externals
 pub mod Parts
 pub mod Making
 pub mod Steps
 pub mod Walk
 pub mod Loaded
-pub mod WorkedRows
