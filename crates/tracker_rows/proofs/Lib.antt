@@ -13,3 +13,4 @@ pub mod Making
 pub mod Steps
 pub mod Walk
 pub mod Loaded
+pub mod WorkedRows
