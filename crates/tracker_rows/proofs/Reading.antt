@@ -1,11 +1,10 @@
 -- A row is the row of one part, and so rows lead to one thing.
-use Rattle.std.proofs.Common.{◌≡◌, ℕ, ◌-◌, true, List, [], ◌∷◌, ◌++◌, length, map, Result, Ok, Err, refl, sym, ap, ◌∙◌, subst}
+use Rattle.std.proofs.Common.{◌≡◌, ℕ, ◌-◌, true, List, [], ◌∷◌, ◌++◌, length, Result, Ok, Err, refl, sym, ap, ◌∙◌, subst}
 use Rattle.field_values.specs.declared.numbers.GroupNo.{GroupNo}
 use Rattle.field_values.specs.declared.numbers.UserNo.{UserNo}
 use Rattle.field_values.specs.Parts.{Parts}
 use Rattle.field_values.specs.GroupMembers.{is_user_list, with_members}
 use Rattle.field_values.proofs.Members.{same_names}
-use Rattle.field_forms.specs.Known.{Names}
 use Rattle.setup_drafts.specs.declared.fault.SetupFault.{SetupFault}
 use Rattle.setup_reading.specs.Reading.{setup_in}
 use Rattle.fields.specs.Sound.{IsSound}

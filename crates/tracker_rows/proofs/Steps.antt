@@ -15,7 +15,6 @@ use Rattle.field_values.specs.declared.numbers.UserNo.{UserNo}
 use Rattle.field_values.specs.declared.value.Value.{Value}
 use Rattle.field_values.specs.declared.parts.Group.{Group as UserGroup}
 use Rattle.field_values.specs.GroupMembers.{with_members}
-use Rattle.field_values.specs.Parts.{Parts}
 use Rattle.field_values.proofs.Members.{same_length}
 use Rattle.fields.specs.SetupParts.{names_in}
 use Rattle.external_ids.specs.declared.external_id.ExternalId.{ExternalId}

@@ -1,24 +1,19 @@
 -- Worked rows: what loads, and which row is the first bad one.
-use Rattle.std.proofs.Common.{◌≡◌, ◌≢◌, ℕ, ◌+◌, ◌<◌, ◌≤◌, ◌⊎◌, inl, inr, nat_lt, true, List, [], ◌∷◌, length, None, codes, Ok, pos, refl, sym, ap, ◌∙◌, subst, arith}
+use Rattle.std.proofs.Common.{◌≡◌, ◌≢◌, ℕ, ◌+◌, ◌<◌, ◌≤◌, ◌⊎◌, inl, inr, nat_lt, true, List, [], ◌∷◌, length, None, codes, Ok, pos, refl, sym, ap, subst, arith}
 use Rattle.std.specs.Option.{option_or}
 use Rattle.std.proofs.lemmas.Bool.Decides.{nat_tests}
 use Rattle.std.proofs.lemmas.List.Elements.{All-nil, All-cons}
 use Rattle.std.specs.Fmt.{digits}
 use Rattle.serde_json.proofs.OnLiterals.{serde_json_on_literals}
-use Rattle.field_values.specs.declared.numbers.GroupNo.{GroupNo}
-use Rattle.field_values.specs.declared.numbers.IssueNo.{IssueNo}
 use Rattle.field_values.specs.declared.numbers.UserNo.{UserNo}
 use Rattle.field_values.specs.declared.parts.Group.{Group as UserGroup}
 use Rattle.field_values.specs.declared.parts.Project.{Project}
 use Rattle.field_values.specs.declared.status.Status.{Status}
-use Rattle.field_values.specs.declared.value.Value.{Value}
-use Rattle.field_values.specs.declared.value.Value.TheVariants as value
 use Rattle.field_values.specs.declared.words.Category.TheVariants.{ToDo}
 use Rattle.field_values.specs.declared.words.Weekday.TheVariants.{Monday}
 use Rattle.field_values.specs.Parts.{Parts}
 use Rattle.fields.specs.SetupParts.{names_in}
 use Rattle.setup_reading.specs.Reading.{setup_in}
-use Rattle.change_history.specs.declared.change.Change.{Change}
 use Rattle.external_ids.specs.Ids.{external_named}
 use Rattle.rank_balancer.specs.declared.balance.Balance.TheVariants.{Idle}
 use Rattle.tracker_keeper.specs.declared.row.Row.{Row}
@@ -26,7 +21,7 @@ use Rattle.tracker_keeper.specs.declared.part.Part.{Part}
 use Rattle.tracker_keeper.specs.declared.part.Part.TheVariants as part
 use Rattle.tracker_keeper.specs.declared.part.Format.{Format}
 use Rattle.tracker_keeper.specs.declared.part.Format.TheVariants.{First, Second}
-use Rattle.tracker_keeper.specs.Bodies.{body_text, present_data, issue_data, members_data}
+use Rattle.tracker_keeper.specs.Bodies.{body_text, present_data, members_data}
 use Rattle.tracker_keeper.specs.Kept.{IsPart, IsRowOf}
 use Rattle.tracker_keeper.specs.Parts.{part_kind, part_number}
 use Rattle.tracker_keeper.specs.Rows.{IsBelow}
