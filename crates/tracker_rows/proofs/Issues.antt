@@ -25,16 +25,16 @@ use Rattle.tracker_machine.specs.Machine.{Machine}
 use Rattle.tracker_machine.specs.Known.{project_keys, issues_of}
 use Rattle.tracker_machine.specs.Checks.{entries_kept, bytes_kept}
 use Rattle.tracker_machine.specs.Chronicle.{HasEntry, IsChronicle, groups_kept}
-use Rattle.tracker_machine.specs.Effect.{longer, grown, regrouped, with_group_members}
+use Rattle.tracker_machine.specs.Effect.{longer, grown, with_group_members}
 use Rattle.tracker_machine.specs.Tracker.{IsSettled, RunsFrom, RisesAbove, IsNextKey, AreKeyed}
 use Rattle.tracker_machine.proofs.Totals.{history_bytes-more, bytes_kept-push, bytes_kept-set, entries_kept-push, entries_kept-set}
 use Rattle.tracker_machine.proofs.Chronicle.{groups_more, groups_kept-push, groups_kept-set}
 use Rattle.tracker_machine.proofs.Settled.{settled_new, settled_added, settled_later, settled_at}
 use Rattle.tracker_machine.proofs.Tracker.{runs_on, stays}
+use Rattle.tracker_machine.proofs.Regrouped.{names_regrouped, keyed_regrouped}
 use Rattle.tracker_rows.specs.Listed.{OpenInRows, ChangeInRows}
 use Rattle.tracker_rows.specs.Gathered.{opened}
 use Rattle.tracker_rows.specs.Rules.{MayBeIssue, MayBeGroup, MayBeGroupOf}
-use Rattle.tracker_rows.proofs.Reading.{names_regrouped}
 use Rattle.tracker_rows.proofs.Fits.{opening_fit, entries_fit, entries_small, user_of}
 use Rattle.tracker_rows.proofs.Changes.{chronicle_with, creation_more, group_more, last_of_issue, last_less}
 
@@ -209,11 +209,6 @@ group_read rows m changes issue g are may form named later =
     (group_set rows m changes (issue.0 - 1) may.history issue.0 g may.there are may.group form named later)
 
 -- ---- other members of a group
-
-keyed_regrouped : (setup : Parts) (group : GroupNo) (members : List UserNo) (before hs : List History) → AreKeyed setup before hs
-    → AreKeyed (regrouped setup group members) before hs
-keyed_regrouped setup group members before [] keyed = tt
-keyed_regrouped setup group members before (h ∷ hs) keyed = (keyed.0, keyed_regrouped setup group members (before ++ h ∷ []) hs keyed.1)
 
 pub issues_regrouped : (rows : List Row) (m : Machine) (changes : ℕ) (group : GroupNo) (members : List UserNo) → HasIssues rows m m.histories changes
     → HasIssues rows (with_group_members m group members) m.histories changes

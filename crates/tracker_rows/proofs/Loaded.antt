@@ -1,24 +1,20 @@
 -- What rows load is a tracker, and its rows are those.
 use Rattle.std.proofs.Common.{◌≡◌, ℕ, ◌+◌, ◌≤◌, ◌==◌, ◌&&◌, ◌||◌, inl, inr, nat_lt, Bool, true, false, List, [], ◌∷◌, ◌++◌, map, Option, Some, None, option_map, Ok, length, refl, sym, ap, ◌∙◌, subst, arith, append-nil}
 use Rattle.std.specs.Prelude.{if◌then◌else◌, cond}
-use Rattle.std.specs.List.{list_all}
 use Rattle.std.specs.Option.{option_or}
-use Rattle.std.proofs.lemmas.Bool.{cases_Bool, and_parts, le-leb, true≢false}
+use Rattle.std.proofs.lemmas.Bool.{cases_Bool, le-leb, true≢false}
 use Rattle.std.proofs.lemmas.Bool.Decides.{nat_tests}
-use Rattle.std.proofs.lemmas.List.{length-map}
 use Rattle.std.proofs.lemmas.List.Sums.{sum_by-cons}
-use Rattle.std.proofs.lemmas.List.Elements.{All-nil, All-cons, All-weaker}
+use Rattle.std.proofs.lemmas.List.Elements.{All-nil, All-weaker}
 use Rattle.std.proofs.lemmas.Option.{none-some}
 use mathlib.Core.Path.{fun_ext}
 use Rattle.field_values.specs.declared.numbers.FieldNo.{FieldNo}
 use Rattle.field_values.specs.declared.value.Value.{Value}
 use Rattle.field_values.specs.declared.value.Value.TheVariants as value
-use Rattle.field_values.specs.declared.parts.Group.{Group as UserGroup}
-use Rattle.field_values.specs.GroupMembers.{is_user_list}
 use Rattle.field_values.specs.Parts.{Parts}
 use Rattle.field_values.specs.Years.{last_second}
 use Rattle.field_forms.specs.Known.{Names}
-use Rattle.fields.specs.Sound.{has_members_in, IsSound}
+use Rattle.fields.specs.Sound.{IsSound}
 use Rattle.fields.specs.SetupParts.{names_in}
 use Rattle.setup_reading.specs.Reading.{setup_in}
 use Rattle.change_history.specs.declared.change.Change.{Change}
@@ -37,11 +33,12 @@ use Rattle.tracker_keeper.specs.Forms.{is_balance}
 use Rattle.tracker_keeper.specs.Kept.{IsSetupText, IsPart, IsRowOf}
 use Rattle.tracker_keeper.specs.Rows.{Rows, IsListing, with_ops}
 use Rattle.tracker_machine.specs.Machine.{Machine}
-use Rattle.tracker_machine.specs.Kept.{Kind, part_in, part_at, rows_of, setup_part, put_part, members_from, migrating_ops}
+use Rattle.tracker_machine.specs.Kept.{Kind, part_in, part_at, rows_of, setup_part, put_part, migrating_parts, migrating_ops}
 use Rattle.tracker_machine.specs.SprintRules.{IsSprint, is_of_sprints, OpensInSprints, BringsSprints, IsInSprints}
-use Rattle.tracker_machine.specs.Tracker.{IsSettled, IsExternalOf, HaveUsers, IsTracker}
+use Rattle.tracker_machine.specs.Tracker.{IsSettled, IsExternalOf, IsTracker}
 use Rattle.tracker_machine.proofs.Chronicle.{chronicle_nil}
 use Rattle.tracker_machine.proofs.Puts.{texts, parts_put}
+use Rattle.tracker_machine.proofs.Regrouped.{users_of_sound, groups_of_sound}
 use Rattle.tracker_machine.proofs.Saved.{no_filters}
 use Rattle.tracker_machine.proofs.SprintRules.{found_is_there}
 use Rattle.tracker_machine.proofs.SprintRows.{no_sprint_numbered}
@@ -357,8 +354,8 @@ tracker_of rows format told m kind number whole sound is =
       ranked = making.ranked;
       keys = making.issues.keys;
       externals = making.externals;
-      members = all_listed m.setup.group sound.members;
-      few_groups = omega (arith, sound.groups.few, length-map m.setup.group (λ (g : UserGroup). g.name));
+      members = users_of_sound m.setup sound;
+      few_groups = groups_of_sound m.setup sound;
       numbered = omega (arith, making.counted, making.issues.counted);
       rising = making.issues.rising;
       chronicle = making.issues.chronicle;
@@ -371,12 +368,6 @@ tracker_of rows format told m kind number whole sound is =
       };
       saved = making.saved;
     }
-  where
-    all_listed : (groups : List UserGroup) → list_all (has_members_in (length m.setup.users)) groups ≡ true → HaveUsers (length m.setup.users) groups
-    all_listed [] all = All-nil (λ g. is_user_list (length m.setup.users) g.members ≡ true)
-    all_listed (g ∷ gs) all =
-        let parts = and_parts (has_members_in (length m.setup.users) g) (list_all (has_members_in (length m.setup.users)) gs) all in
-        All-cons (λ g. is_user_list (length m.setup.users) g.members ≡ true) g gs parts.0 (all_listed gs parts.1)
 
 pub loaded_are_trackers : LoadedAreTrackers
 loaded_are_trackers format rows m loads =
@@ -411,8 +402,7 @@ pub migrated_rows_are_theirs : MigratedRowsAreTheirs
 unfolding migrating_ops
 migrated_rows_are_theirs rows kept m loads listing =
     let names : Names = names_in m.setup in
-    let lacking : List Part = present_in Second m ∷ members_from 1 m.setup.group in
-    ap (with_ops (map (put_part names) lacking)) (first_rows rows kept m loads listing)
-    ∙ parts_put names lacking (told_at First 0 m)
+    ap (with_ops (map (put_part names) (migrating_parts m))) (first_rows rows kept m loads listing)
+    ∙ parts_put names (migrating_parts m) (told_at First 0 m)
     ∙ ap (texts names) (migrated m)
     ∙ sym (rows_are m)

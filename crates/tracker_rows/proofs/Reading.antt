@@ -10,13 +10,6 @@ use Rattle.setup_reading.specs.Reading.{setup_in}
 use Rattle.fields.specs.Sound.{IsSound}
 use Rattle.fields.specs.SetupParts.{names_in}
 use Rattle.fields.proofs.Sound.{sound_setup, still_sound}
-use Rattle.jql_syntax.specs.Either.{QueryOrFault, text_is, text_has}
-use Rattle.jql_syntax.specs.Fault.{number_of_kind as number_of_text_fault}
-use Rattle.jql_syntax.proofs.Total.{text_decided}
-use Rattle.jql_grammar.specs.Binding.{bound_in}
-use Rattle.jql_grammar.specs.Scope.{Scope}
-use Rattle.tracker_calls.specs.declared.reply.Refusal.{Refusal}
-use Rattle.tracker_calls.specs.declared.reply.Refusal.TheVariants as refusal
 use Rattle.tracker_keeper.specs.declared.row.Row.{Row}
 use Rattle.tracker_keeper.specs.declared.part.Format.{Format}
 use Rattle.tracker_keeper.specs.declared.part.Format.TheVariants.{First, Second}
@@ -28,7 +21,7 @@ use Rattle.tracker_keeper.proofs.RowsBack.{tells_its_part}
 use Rattle.tracker_machine.specs.Machine.{Machine}
 use Rattle.tracker_machine.specs.Effect.{regrouped}
 use Rattle.tracker_machine.specs.Members.{IsSetupOf}
-use Rattle.tracker_machine.specs.Query.{Query, bound_or_fault, asked}
+use Rattle.tracker_machine.proofs.Regrouped.{names_regrouped}
 use Rattle.tracker_rows.specs.Gathered.{Gathered, joined, with_part, with_setup}
 use Rattle.tracker_rows.specs.Gathered.Gathered.{Nothing, HasSetup, Stands}
 use Rattle.tracker_rows.specs.Rules.{MayJoin, MayFollow}
@@ -74,22 +67,6 @@ held_regrouped format text setup group members second listed held = record {
     differ is = cc
 
 -- names don't depend on members
-pub names_regrouped : (setup : Parts) (group : GroupNo) (members : List UserNo) → names_in (regrouped setup group members) ≡ names_in setup
-names_regrouped setup group members =
-    ap (λ (groups : List (List ℕ)). record (names_in setup) { groups = groups }) (same_names setup.group (group.0 - 1) members)
-
--- nor does what a text asks for
-pub asked_regrouped : (setup : Parts) (group : GroupNo) (members : List UserNo) (user : ℕ) (text : List ℕ)
-    → asked (regrouped setup group members) user text ≡ asked setup user text
-unfolding asked
-asked_regrouped setup group members user text =
-    ap (λ (groups : List (List ℕ)). asked_with (record { names = record (names_in setup) { groups = groups }; projects = setup.project; statuses = setup.status; caller = record { 0 = user } }) (text_decided text))
-    (same_names setup.group (group.0 - 1) members)
-  where
-    asked_with : Scope → QueryOrFault text → Result Query Refusal
-    asked_with scope (text_is q keys is) = bound_or_fault (bound_in scope q keys)
-    asked_with scope (text_has place kind is) = Err (refusal.Query (number_of_text_fault kind) place)
-
 pub names_stay : (m : Machine) (p : Part) → names_in (joined m p).setup ≡ names_in m.setup
 unfolding joined
 names_stay m (part.Setup text) = refl

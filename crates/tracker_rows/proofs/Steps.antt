@@ -37,11 +37,12 @@ use Rattle.tracker_keeper.specs.Kept.{IsPart}
 use Rattle.tracker_machine.specs.Machine.{Machine}
 use Rattle.tracker_machine.specs.Chronicle.{HasEntry}
 use Rattle.tracker_machine.specs.Known.{project_keys}
-use Rattle.tracker_machine.specs.Effect.{longer, grown, regrouped, with_external, with_new_rank, with_filter, with_board, with_group_members}
-use Rattle.tracker_machine.specs.Saved.{SavedFilter, board_number, IsFilter, AreSaved, MaySave, MayMake}
+use Rattle.tracker_machine.specs.Effect.{longer, grown, with_external, with_new_rank, with_filter, with_board, with_group_members}
+use Rattle.tracker_machine.specs.Saved.{SavedFilter, board_number, MaySave, MayMake}
 use Rattle.tracker_machine.specs.SprintRules.{IsSprint}
 use Rattle.tracker_machine.proofs.Keepable.{number_at}
 use Rattle.tracker_machine.proofs.Puts as puts
+use Rattle.tracker_machine.proofs.Regrouped.{saved_regrouped}
 use Rattle.tracker_machine.proofs.Saved.{all_put, filter_saved, board_made}
 use Rattle.tracker_rows.specs.Listed.{OpenInRows, ChangeInRows, HasSprintsOf}
 use Rattle.tracker_rows.specs.Gathered.{opened, joined, told_with, due}
@@ -49,7 +50,6 @@ use Rattle.tracker_rows.specs.Gathered.Gathered.{Stands}
 use Rattle.tracker_rows.specs.Rules.{MayBeIssue, MayBeGroupOf, MayBeRank, MayBeExternal, MayBeSprint, MayBeFilter, MayBeBoard, MayJoin}
 use Rattle.tracker_rows.proofs.Told.{told_at}
 use Rattle.tracker_rows.proofs.Externals.{externals_more, external_read}
-use Rattle.tracker_rows.proofs.Reading.{asked_regrouped}
 use Rattle.tracker_rows.proofs.Fits.{user_of}
 use Rattle.tracker_rows.proofs.Issues.{IsLater, issue_read, group_read, may_add, issues_regrouped}
 use Rattle.tracker_rows.proofs.Ranks.{length-ranked, rank_read}
@@ -320,23 +320,6 @@ module _ (rows : List Row) (format : Format) (told : ℕ) (m : Machine) (changes
 
   -- ---- the members of a group
 
-  saved_regrouped : (group : GroupNo) (members : List UserNo) → AreSaved (regrouped m.setup group members) m.filters m.boards
-  saved_regrouped group members = record {
-    rising = is.saved.rising;
-    names = is.saved.names;
-    few = is.saved.few;
-    each = All-weaker (IsFilter m.setup) (IsFilter (regrouped m.setup group members)) (λ f own. record {
-          small = own.small;
-          owned = own.owned;
-          named = own.named;
-          query = own.query;
-          asks = asked_regrouped m.setup group members f.owner.0 f.text ∙ own.asks;
-        }) m.filters is.saved.each;
-    rising_boards = is.saved.rising_boards;
-    few_boards = is.saved.few_boards;
-    each_board = is.saved.each_board;
-  }
-
   group_there : (group : GroupNo) (members : List UserNo) → IsMembersPart m.setup.users (map (λ g. g.name) m.setup.group) group.0 members
       → group.0 ≤ length m.setup.group
   group_there group members form = omega (arith, form.there, length-map m.setup.group (λ (g : UserGroup). g.name))
@@ -367,7 +350,7 @@ module _ (rows : List Row) (format : Format) (told : ℕ) (m : Machine) (changes
         last_external = now.last_external;
         few_sprints = is.few_sprints;
         sprints = is.sprints;
-        saved = saved_regrouped group members;
+        saved = saved_regrouped m.setup group members m.filters m.boards is.saved;
         boards = now.boards;
         few_told = omega (arith, same, there, next);
         last_told = λ some. inr (refl, omega (arith, next));
