@@ -230,6 +230,10 @@ opening_parts m = setup_part m ∷ present_part m ∷ all_members m
 unfoldable pub opening_ops : Machine → List RowOp
 opening_ops m = put_parts m.setup (opening_parts m)
 
--- the operations that make rows of the second format of a tracker's rows of the first one, in which no row tells members
+-- what a tracker's rows of the first format lack: its format, and who is in its groups
+abbrev pub migrating_parts : Machine → List Part
+migrating_parts m = present_part m ∷ all_members m
+
+-- the operations that make rows of the second format of them
 unfoldable pub migrating_ops : Machine → List RowOp
-migrating_ops m = put_parts m.setup (present_part m ∷ all_members m)
+migrating_ops m = put_parts m.setup (migrating_parts m)

@@ -1,5 +1,5 @@
 -- What is proved of the abstract tracker.
-use Rattle.std.specs.Prelude.{◌≡◌, ℕ, ◌<◌, ◌^◌, List, false, length, slice_get, None, Some}
+use Rattle.std.specs.Prelude.{◌≡◌, ℕ, ◌<◌, ◌≤◌, ◌^◌, List, false, length, slice_get, None, Some}
 use Rattle.std.specs.List.{All, list_any}
 use Rattle.field_values.specs.Parts.{Parts}
 use Rattle.field_forms.specs.Values.{is_before}
@@ -10,7 +10,7 @@ use Rattle.tracker_keeper.specs.Kept.{IsSetupText, IsPart, IsPartAt}
 use Rattle.tracker_machine.specs.Machine.{Machine, opening}
 use Rattle.tracker_machine.specs.Tracker.{IsTracker, HaveUsers}
 use Rattle.tracker_machine.specs.Effect.{Effect, applied, IsAllowed}
-use Rattle.tracker_machine.specs.Kept.{part_at, rows_of, parts_of, ops_of, opening_parts, opening_ops}
+use Rattle.tracker_machine.specs.Kept.{part_at, rows_of, parts_of, ops_of, opening_parts, opening_ops, migrating_parts, migrating_ops}
 use Rattle.tracker_machine.specs.Checks.{first_with}
 
 -- what holds of every tracker holds after each effect that it may have
@@ -36,7 +36,10 @@ abbrev pub OperationsAreSmall : Type 0
 OperationsAreSmall = (effect : Effect) (m : Machine) → IsAllowed effect m → IsTracker m → AreSmallOps (ops_of effect m)
 
 abbrev pub OpeningIsSmall : Type 0
-OpeningIsSmall = (m : Machine) → AreSmallOps (opening_ops m)
+OpeningIsSmall = (m : Machine) → length m.setup.group ≤ 100 → AreSmallOps (opening_ops m)
+
+abbrev pub MigrationsAreSmall : Type 0
+MigrationsAreSmall = (m : Machine) → IsTracker m → AreSmallOps (migrating_ops m)
 
 -- each part of a tracker is one that may be kept, of the kind and the number that it is kept under
 abbrev pub PartsMayBeKept : Type 0
@@ -51,6 +54,10 @@ abbrev pub OpeningMayBeKept : Type 0
 OpeningMayBeKept =
     (text : List ℕ) (setup : Parts) → IsSetupText text → HaveUsers (length setup.users) setup.group
     → All (IsPart setup) (opening_parts (opening text setup))
+
+-- and each that a tracker's rows of the first format lack
+abbrev pub MigrationMayBeKept : Type 0
+MigrationMayBeKept = (m : Machine) → IsTracker m → All (IsPart m.setup) (migrating_parts m)
 
 -- ---- names
 
