@@ -1,5 +1,5 @@
 -- The issue of an external id that is found.
-use Rattle.std.proofs.Common.{◌≡◌, ℕ, ◌≤◌, List, Option, Some, None, option_map, refl, sym, ap, subst, arith}
+use Rattle.std.proofs.Common.{◌≡◌, ℕ, ◌≤◌, List, Option, Some, None, option_map, refl, ap, arith}
 use Rattle.std.proofs.lemmas.Option.{same_Some, none-some}
 use Rattle.field_values.specs.declared.numbers.IssueNo.{IssueNo}
 use Rattle.external_ids.specs.declared.external_id.ExternalId.{ExternalId}

@@ -1,4 +1,4 @@
-use Rattle.std.proofs.Common.{◌≡◌, ◌+◌, ◌∷◌, ◌++◌, [], List, ap, ◌∙◌, arith}
+use Rattle.std.proofs.Common.{◌∷◌, ◌++◌, [], List, ap, ◌∙◌, arith}
 use Rattle.field_values.specs.declared.numbers.UserNo.{UserNo}
 use Rattle.fields.specs.SetupParts.{parts}
 use Rattle.tracker_keeper.specs.declared.row.RowOp.{RowOp}

@@ -1,4 +1,4 @@
-use Rattle.std.proofs.Common.{◌≡◌, ◌<◌, ◌-◌, length, sym, subst, ◌∙◌, arith}
+use Rattle.std.proofs.Common.{◌<◌, ◌-◌, length, sym, subst, ◌∙◌, arith}
 use Rattle.tracker_state.specs.State.{Held}
 use Rattle.tracker_state.specs.contracts.state.State.{the_view}
 use Rattle.tracker_state.proofs.Called.{called_is_there}

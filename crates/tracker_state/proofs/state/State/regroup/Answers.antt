@@ -2,7 +2,7 @@ use Rattle.std.proofs.Common.{◌≡◌, ap, sym, subst, ◌∙◌, []}
 use Rattle.field_values.specs.Parts.{Parts}
 use Rattle.jql_meaning.specs.Surroundings.{Surroundings, surroundings_of}
 use Rattle.tracker_machine.specs.Machine.{Machine}
-use Rattle.tracker_machine.specs.Effect.{applied, IsAllowed, MayHave, regrouped, with_group_members}
+use Rattle.tracker_machine.specs.Effect.{IsAllowed, MayHave, regrouped, with_group_members}
 use Rattle.tracker_machine.specs.Search.{surroundings_in}
 use Rattle.tracker_state.specs.State.{Held, IsState, machine_of, saved_filters}
 use Rattle.tracker_state.specs.contracts.state.State.{the_view}
