@@ -30,8 +30,8 @@ use order_calls::turn_sprint::{close_sprint, start_sprint};
 use std::alloc::Global;
 use std::sync::ledger::Ledger;
 use tracker_calls::{
-    Call, GivenField, MOST_ENTRIES, MOST_FROM, MOST_LISTED, MOST_MEMBERS, Part, Refusal, Thing, UserName,
-    has_twins, is_external,
+    Call, GivenField, MOST_ENTRIES, MOST_FROM, MOST_LISTED, MOST_MEMBERS, Part, Refusal, Thing,
+    UserName, has_twins, is_external,
 };
 use tracker_state::{Prepared, State, malformed, unknown};
 
