@@ -7,6 +7,7 @@ use Rattle.std.proofs.lemmas.List.{length-append, length-set}
 use Rattle.std.proofs.lemmas.List.Sums.{sum_by_push}
 use Rattle.std.proofs.lemmas.List.Elements.{All-push, All-set}
 use Rattle.std.proofs.lemmas.Option.{slice_get_within, get_or_from_slice_get}
+use Rattle.field_values.specs.declared.numbers.GroupNo.{GroupNo}
 use Rattle.field_values.specs.declared.numbers.IssueNo.{IssueNo}
 use Rattle.field_values.specs.declared.numbers.UserNo.{UserNo}
 use Rattle.field_values.specs.Parts.{Parts}
@@ -24,12 +25,13 @@ use Rattle.tracker_machine.specs.Machine.{Machine}
 use Rattle.tracker_machine.specs.Known.{project_keys, issues_of}
 use Rattle.tracker_machine.specs.Checks.{entries_kept, bytes_kept}
 use Rattle.tracker_machine.specs.Chronicle.{HasEntry, IsChronicle, groups_kept}
-use Rattle.tracker_machine.specs.Effect.{longer, grown}
+use Rattle.tracker_machine.specs.Effect.{longer, grown, with_group_members}
 use Rattle.tracker_machine.specs.Tracker.{IsSettled, RunsFrom, RisesAbove, IsNextKey, AreKeyed}
 use Rattle.tracker_machine.proofs.Totals.{history_bytes-more, bytes_kept-push, bytes_kept-set, entries_kept-push, entries_kept-set}
 use Rattle.tracker_machine.proofs.Chronicle.{groups_more, groups_kept-push, groups_kept-set}
 use Rattle.tracker_machine.proofs.Settled.{settled_new, settled_added, settled_later, settled_at}
 use Rattle.tracker_machine.proofs.Tracker.{runs_on, stays}
+use Rattle.tracker_machine.proofs.Regrouped.{names_regrouped, keyed_regrouped}
 use Rattle.tracker_rows.specs.Listed.{OpenInRows, ChangeInRows}
 use Rattle.tracker_rows.specs.Gathered.{opened}
 use Rattle.tracker_rows.specs.Rules.{MayBeIssue, MayBeGroup, MayBeGroupOf}
@@ -205,3 +207,20 @@ pub group_read : (rows : List Row) (m : Machine) (changes : ℕ) (issue : IssueN
 group_read rows m changes issue g are may form named later =
     subst (λ o. HasIssues rows m (option_map_or (λ h. slice_set m.histories (issue.0 - 1) (longer h g.entries)) o m.histories) (changes + 1)) (sym may.there)
     (group_set rows m changes (issue.0 - 1) may.history issue.0 g may.there are may.group form named later)
+
+-- ---- other members of a group
+
+pub issues_regrouped : (rows : List Row) (m : Machine) (changes : ℕ) (group : GroupNo) (members : List UserNo) → HasIssues rows m m.histories changes
+    → HasIssues rows (with_group_members m group members) m.histories changes
+issues_regrouped rows m changes group members are = record {
+  few = are.few;
+  few_entries = are.few_entries;
+  few_bytes = are.few_bytes;
+  numbers = are.numbers;
+  keys = keyed_regrouped m.setup group members [] m.histories are.keys;
+  rising = are.rising;
+  chronicle = are.chronicle;
+  settled = subst (λ names. All (IsSettled names m.moment m.change) m.histories) (sym (names_regrouped m.setup group members)) are.settled;
+  sprints = are.sprints;
+  counted = are.counted;
+}

@@ -6,6 +6,8 @@ pub mod Fits
 pub mod Changes
 pub mod Issues
 pub mod Ranks
+pub mod Told
+pub mod Externals
 pub mod Parts
 pub mod Making
 pub mod Steps

@@ -1,6 +1,8 @@
 -- What holds of a tracker in the making, as rows are read one after the other.
-use Rattle.std.proofs.Common.{◌≡◌, ◌≢◌, ℕ, ◌+◌, ◌<◌, ◌≤◌, ◌==◌, ◌⊎◌, inl, inr, nat_lt, true, List, [], ◌∷◌, ◌++◌, length, slice_get, set, Some, None, IfSome, refl, sym, ap, ◌∙◌, subst, arith, zero, suc, eqb-true}
+use Rattle.std.proofs.Common.{◌≡◌, ◌≢◌, ℕ, ◌+◌, ◌<◌, ◌≤◌, ◌==◌, ◌⊎◌, inl, inr, nat_lt, Bool, true, false, List, [], ◌∷◌, ◌++◌, length, slice_get, set, Option, Some, None, IfSome, refl, sym, ap, ◌∙◌, subst, arith, zero, suc, eqb-true}
+use Rattle.std.specs.Prelude.{if◌then◌else◌}
 use Rattle.std.specs.List.{All}
+use Rattle.std.specs.Option.{option_or}
 use Rattle.std.proofs.lemmas.Bool.{cases_lt, cases_Bool}
 use Rattle.std.proofs.lemmas.Bool.Decides.{nat_tests}
 use Rattle.std.proofs.lemmas.Option.{none-some, same_Some}
@@ -12,13 +14,16 @@ use Rattle.change_history.specs.History.{History}
 use Rattle.board.specs.declared.board.Board.{Board}
 use Rattle.tracker_ranks.specs.Ranked.{IsRanked}
 use Rattle.tracker_keeper.specs.declared.row.Row.{Row}
+use Rattle.tracker_keeper.specs.declared.part.Format.{Format}
+use Rattle.tracker_keeper.specs.declared.part.Format.TheVariants.{First, Second}
 use Rattle.tracker_machine.specs.Machine.{Machine}
 use Rattle.tracker_machine.specs.Chronicle.{HasEntry}
 use Rattle.tracker_machine.specs.Effect.{longer}
 use Rattle.tracker_machine.specs.Saved.{board_number, AreSaved}
 use Rattle.tracker_machine.specs.SprintRules.{IsSprint}
+use Rattle.tracker_machine.specs.Tracker.{AreExternals}
 use Rattle.tracker_rows.specs.Listed.{changes_in}
-use Rattle.tracker_rows.specs.Gathered.{rank_due, due}
+use Rattle.tracker_rows.specs.Gathered.{rank_due, members_due, due}
 use Rattle.tracker_rows.specs.Gathered.Gathered.{Stands}
 use Rattle.tracker_rows.proofs.Issues.{HasIssues}
 
@@ -47,25 +52,34 @@ less_of_kind kind number k n n' (inr is) (inr same) = omega (arith, is.1, same.1
 
 -- ---- what holds
 
--- of what is read of these rows up to this kind and number, among which so many changes are
-pub record IsInMaking (rows : List Row) (m : Machine) (changes kind number : ℕ) : Type 0 where
+-- of what is read of these rows, which are of this format, up to this kind and number: so many changes are among them, and so many
+-- groups have told their members
+pub record IsInMaking (rows : List Row) (format : Format) (told : ℕ) (m : Machine) (changes kind number : ℕ) : Type 0 where
   pub counted : m.change ≤ changes_in rows
   pub timely : m.moment ≤ last_second
   pub issues : HasIssues rows m m.histories changes
   pub ranked : IsRanked m.order m.balance
+  pub few_ranks : length m.order ≤ length m.histories
   pub last_rank : 0 < length m.order → IsUpTo 5 (length m.order) kind number
   pub groups : (place : ℕ) (h : History) (n a : ℕ) → slice_get m.histories place ≡ Some h → HasEntry h.entries n a → IsUpTo 4 n kind number
+  pub externals : AreExternals (length m.histories) m.externals
+  pub last_external : All (λ e. IsUpTo 6 e.no.0 kind number) m.externals
   pub few_sprints : length m.sprints ≤ 1_000
   pub sprints : All (IsSprint m.moment m.change) m.sprints
   pub saved : AreSaved m.setup m.filters m.boards
   pub boards : (n : ℕ) → by_number board_number n m.boards ≢ None → IsUpTo 9 n kind number
+  pub few_told : told ≤ length m.setup.group
+  pub last_told : 0 < told → IsUpTo 10 told kind number
+  pub first : format ≡ First → told ≡ 0
 
 -- ---- a rank
 
 -- it is that of the next issue
-pub next_rank : (m : Machine) (issue kind number : ℕ) → 1 ≤ issue → issue ≤ length m.histories → (0 < length m.order → IsUpTo 5 (length m.order) kind number)
-    → IsBefore kind number 5 issue → IfSome (due (Stands m)) (λ wanted. ¬ IsBefore wanted.0 wanted.1 5 issue) → issue ≡ length m.order + 1
-next_rank m issue kind number positive there last ahead timely = by (cases_lt (length m.order) (length m.histories)) (cases_lt 0 (length m.order)) (cases_lt (length m.order + 1) issue)
+pub next_rank : (format : Format) (told : ℕ) (m : Machine) (issue kind number : ℕ) → 1 ≤ issue → issue ≤ length m.histories
+    → (0 < length m.order → IsUpTo 5 (length m.order) kind number) → IsBefore kind number 5 issue
+    → IfSome (due (Stands format told m)) (λ wanted. ¬ IsBefore wanted.0 wanted.1 5 issue) → issue ≡ length m.order + 1
+next_rank format told m issue kind number positive there last ahead timely =
+    by (cases_lt (length m.order) (length m.histories)) (cases_lt 0 (length m.order)) (cases_lt (length m.order + 1) issue)
   where
     behind : (0 < length m.order) ⊎ (length m.order ≤ 0) → length m.order < issue
     behind (inl some) = less_of_kind 5 (length m.order) kind number issue (last some) ahead
@@ -75,7 +89,7 @@ next_rank m issue kind number positive there last ahead timely = by (cases_lt (l
     not_ahead less more =
         let is : nat_lt (length m.order) (length m.histories) ≡ true = grind (arith, nat_tests, less) in
         let late : ¬ IsBefore 5 (length m.order + 1) 5 issue =
-        subst (λ b. IfSome (rank_due b (length m.order)) (λ wanted. ¬ IsBefore wanted.0 wanted.1 5 issue)) is timely in
+        subst (λ b. IfSome (option_or (rank_due b (length m.order)) (members_due format told m.setup.group)) (λ wanted. ¬ IsBefore wanted.0 wanted.1 5 issue)) is timely in
         late (inr (refl, more))
 
     by : (length m.order < length m.histories) ⊎ (length m.histories ≤ length m.order) → (0 < length m.order) ⊎ (length m.order ≤ 0)
@@ -83,6 +97,41 @@ next_rank m issue kind number positive there last ahead timely = by (cases_lt (l
     by (inl less) some (inl more) = absurd (not_ahead less more)
     by (inl less) some (inr le) = let above = behind some in omega (arith, above, le)
     by (inr none) some more = let above = behind some in absurd (omega (arith, above, there, none))
+
+-- ---- the members of a group
+
+-- those of the next group, where one is left
+abbrev pub next_due : ℕ → Bool → Option (ℕ × ℕ)
+next_due told left = if left then Some (10, told + 1) else None
+
+-- it is the next group
+pub next_members : (told : ℕ) (m : Machine) (group kind number : ℕ) → 1 ≤ group → group ≤ length m.setup.group
+    → (0 < told → IsUpTo 10 told kind number) → IsBefore kind number 10 group
+    → IfSome (due (Stands Second told m)) (λ wanted. ¬ IsBefore wanted.0 wanted.1 10 group) → group ≡ told + 1
+next_members told m group kind number positive there last ahead timely =
+    by (cases_lt (length m.order) (length m.histories)) (cases_lt told (length m.setup.group)) (cases_lt 0 told) (cases_lt (told + 1) group)
+  where
+    behind : (0 < told) ⊎ (told ≤ 0) → told < group
+    behind (inl some) = less_of_kind 10 told kind number group (last some) ahead
+    behind (inr none) = omega (arith, none, positive)
+
+    by : (length m.order < length m.histories) ⊎ (length m.histories ≤ length m.order) → (told < length m.setup.group) ⊎ (length m.setup.group ≤ told)
+        → (0 < told) ⊎ (told ≤ 0) → (told + 1 < group) ⊎ (group ≤ told + 1) → group ≡ told + 1
+    by ranks (inr all) some more = let above = behind some in absurd (omega (arith, above, there, all))
+    by ranks (inl left) some (inr le) = let above = behind some in omega (arith, above, le)
+    by (inl less) (inl left) some (inl more) =
+        let is : nat_lt (length m.order) (length m.histories) ≡ true = grind (arith, nat_tests, less) in
+        let late : ¬ IsBefore 5 (length m.order + 1) 10 group =
+        subst (λ b. IfSome (option_or (rank_due b (length m.order)) (members_due Second told m.setup.group)) (λ wanted. ¬ IsBefore wanted.0 wanted.1 10 group)) is timely in
+        absurd (late (inl (omega arith)))
+    by (inr whole) (inl left) some (inl more) =
+        let is : nat_lt (length m.order) (length m.histories) ≡ false = grind (arith, nat_tests, whole) in
+        let fewer : nat_lt told (length m.setup.group) ≡ true = grind (arith, nat_tests, left) in
+        let wanted : IfSome (members_due Second told m.setup.group) (λ wanted. ¬ IsBefore wanted.0 wanted.1 10 group) =
+        subst (λ b. IfSome (option_or (rank_due b (length m.order)) (members_due Second told m.setup.group)) (λ wanted. ¬ IsBefore wanted.0 wanted.1 10 group)) is timely in
+        let late : ¬ IsBefore 10 (told + 1) 10 group =
+        subst (λ b. IfSome (next_due told b) (λ wanted. ¬ IsBefore wanted.0 wanted.1 10 group)) fewer wanted in
+        absurd (late (inr (refl, more)))
 
 -- ---- groups
 

@@ -1,18 +1,19 @@
 -- Rows load one tracker or have one first bad row, never both.
-use Rattle.std.proofs.Common.{◌≡◌, ℕ, List, [], ◌∷◌, ◌++◌, ◌⊎◌, inl, inr, length, nat_lt, true, false, Bool, Option, Some, IfSome, refl, sym, ap, ◌∙◌, subst, arith}
+use Rattle.std.proofs.Common.{◌≡◌, ℕ, List, [], ◌∷◌, ◌++◌, ◌⊎◌, inl, inr, Option, Some, None, IfSome, refl, sym, ap, ◌∙◌, subst}
 use Rattle.std.specs.Prelude.{unwrap_or}
-use Rattle.std.proofs.lemmas.Bool.Decides.{nat_tests}
 use Rattle.std.proofs.lemmas.List.Elements.{All-head}
 use Rattle.std.proofs.lemmas.Option.{none-some}
 use Rattle.tracker_keeper.specs.declared.row.Row.{Row}
+use Rattle.tracker_keeper.specs.declared.part.Format.{Format}
+use Rattle.tracker_keeper.specs.declared.part.Format.TheVariants.{First}
 use Rattle.tracker_keeper.specs.declared.part.Part.{Part}
 use Rattle.tracker_machine.specs.Machine.{Machine}
 use Rattle.tracker_rows.specs.Listed.{IsAhead}
-use Rattle.tracker_rows.specs.Gathered.{Gathered, with_part, rank_due, due}
+use Rattle.tracker_rows.specs.Gathered.{Gathered, with_part, due}
 use Rattle.tracker_rows.specs.Gathered.Gathered.{Nothing, HasSetup, Stands}
-use Rattle.tracker_rows.specs.Loading.{IsInTime, IsGood, AreRead, IsMissing, IsBad, IsBadNext, IsFirstBad}
-use Rattle.tracker_rows.specs.Laws.{GoodRowsLeadOn, RowsLoadOne, IsSameRow, FirstBadIsOne, LoadedHaveNoBad, LoadedSetupsAreTheirTexts}
-use Rattle.tracker_rows.proofs.Reading.{HasItsSetup, one_part, setup_kept, read_one, read_on, setup_read}
+use Rattle.tracker_rows.specs.Loading.{IsInTime, IsGood, AreRead, Loads, IsMissing, IsBad, IsBadNext, IsFirstBad}
+use Rattle.tracker_rows.specs.Laws.{GoodRowsLeadOn, RowsLoadOne, IsSameRow, FirstBadIsOne, LoadedHaveNoBad, LoadedSetupsAreTheirTexts, FirstRowsHaveTheirMembers}
+use Rattle.tracker_rows.proofs.Reading.{IsHeld, HasItsSetup, one_part, setup_kept, read_one, read_on, setup_read}
 
 -- ---- one row more
 
@@ -31,13 +32,28 @@ good_rows_lead_on rows front mid row p = read_pushed rows Nothing front mid row 
 abbrev machine_or : Machine → Gathered → Machine
 machine_or m Nothing = m
 machine_or m (HasSetup text setup) = m
-machine_or m (Stands n) = n
+machine_or m (Stands format told n) = n
+
+abbrev format_or : Format → Gathered → Format
+format_or format Nothing = format
+format_or format (HasSetup text setup) = format
+format_or format (Stands other told n) = other
 
 pub rows_load_one : RowsLoadOne
-rows_load_one rows one other a b = ap (machine_or one) (read_one rows Nothing rows (Stands one) (Stands other) tt a.read b.read)
+rows_load_one format other_format rows one other a b =
+    let same = read_one rows Nothing rows (Stands format a.told one) (Stands other_format b.told other) tt a.read b.read in
+    (ap (machine_or one) same, ap (format_or format) same)
+
+-- ---- its setup
+
+held : (format : Format) (rows : List Row) (m : Machine) → Loads format rows m → IsHeld format m.text m.setup
+held format rows m loads = setup_read rows Nothing rows (Stands format loads.told m) tt loads.read
 
 pub loaded_setups : LoadedSetupsAreTheirTexts
-loaded_setups rows m loads = setup_read rows Nothing rows (Stands m) tt loads.read
+loaded_setups format rows m loads = (held format rows m loads).of_text
+
+pub first_rows_have_members : FirstRowsHaveTheirMembers
+first_rows_have_members rows m loads = (held First rows m loads).first refl
 
 -- ---- one first bad row
 
@@ -100,7 +116,7 @@ one_from rows g (row ∷ more) kind number other_kind other_number own (inr (inr
 one_from rows g (row ∷ more) kind number other_kind other_number own (inr (inr one)) (inr (inl other)) = absurd (other.bad one.1.0 one.1.1)
 one_from rows g (row ∷ more) kind number other_kind other_number own (inr (inr one)) (inr (inr other)) =
     let same : other.1.0 ≡ one.1.0 = one_part rows g row other.1.0 one.1.0 own other.1.1 one.1.1 in
-    one_from rows (with_part g one.1.0) more kind number other_kind other_number (setup_kept rows g one.1.0 own one.1.1.follows) one.1.2
+    one_from rows (with_part g one.1.0) more kind number other_kind other_number (setup_kept rows g row one.1.0 own one.1.1) one.1.2
     (subst (λ p. IsFirstFrom rows (with_part g p) more other_kind other_number) same other.1.2)
 
 pub first_bad_is_one : FirstBadIsOne
@@ -109,25 +125,18 @@ first_bad_is_one rows kind number other_kind other_number one other =
 
 -- ---- never both
 
--- nothing is missing from a tracker of which each issue has its rank
-none_due : (m : Machine) (kind number : ℕ) → length m.order ≡ length m.histories → due (Stands m) ≡ Some (kind, number) → ⊥
-none_due m kind number whole wanted = by (nat_lt (length m.order) (length m.histories)) refl wanted
-  where
-    by : (b : Bool) → nat_lt (length m.order) (length m.histories) ≡ b → rank_due b (length m.order) ≡ Some (kind, number) → ⊥
-    by true less is = grind (arith, nat_tests, less, whole)
-    by false less is = none-some (kind, number) is
-
 -- what is read to its end has no bad row
-never_both : (rows : List Row) (g : Gathered) (left : List Row) (m : Machine) (kind number : ℕ) → length m.order ≡ length m.histories
-    → AreRead rows g left (Stands m) → IsMissing g left kind number ⊎ IsBadNext rows g left kind number → ⊥
-never_both rows g [] m kind number whole read (inl missing) =
-    none_due m kind number whole (subst (λ h. due h ≡ Some (kind, number)) (sym read) missing.due_is)
-never_both rows g [] m kind number whole read (inr bad) = bad
-never_both rows g (row ∷ more) m kind number whole read (inl missing) = not_missing g row more kind number read.0 missing
-never_both rows g (row ∷ more) m kind number whole read (inr bad) = bad.bad read.1.0 read.1.1
+never_both : (rows : List Row) (g : Gathered) (left : List Row) (after : Gathered) (kind number : ℕ) → due after ≡ None
+    → AreRead rows g left after → IsMissing g left kind number ⊎ IsBadNext rows g left kind number → ⊥
+never_both rows g [] after kind number whole read (inl missing) =
+    none-some (kind, number) (sym whole ∙ subst (λ h. due h ≡ Some (kind, number)) (sym read) missing.due_is)
+never_both rows g [] after kind number whole read (inr bad) = bad
+never_both rows g (row ∷ more) after kind number whole read (inl missing) = not_missing g row more kind number read.0 missing
+never_both rows g (row ∷ more) after kind number whole read (inr bad) = bad.bad read.1.0 read.1.1
 
 pub loaded_have_no_bad : LoadedHaveNoBad
-loaded_have_no_bad rows m kind number loads first =
-    never_both rows first.gathered first.left m kind number loads.whole
-    (read_on rows Nothing first.front first.left first.gathered (Stands m) tt first.read (subst (λ list. AreRead rows Nothing list (Stands m)) first.apart loads.read))
+loaded_have_no_bad format rows m kind number loads first =
+    let end : Gathered = Stands format loads.told m in
+    never_both rows first.gathered first.left end kind number loads.whole
+    (read_on rows Nothing first.front first.left first.gathered end tt first.read (subst (λ list. AreRead rows Nothing list end) first.apart loads.read))
     first.next
