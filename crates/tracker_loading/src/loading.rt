@@ -43,11 +43,12 @@ pub fn load(alloc: Global, rows: &[Row]) -> Result<Loaded, LoadFault>
     ensures fault { IfErr result (IsFault rows.now) }
 {
     loaded_rows_are_a_tracker();
+    let read = read_all(alloc, rows)?;
     let Progress {
         format,
         told: _,
         made,
-    } = read_all(alloc, rows)?;
+    } = read;
     match made.assemble(alloc) {
         Ok(state) => Ok(Loaded { format, state }),
         Err(_) => Err(LoadFault::Memory),
