@@ -9,7 +9,6 @@ pub mod Joined
 pub mod Loadable
 pub mod Lookup
 pub mod Made
-pub mod Members
 pub mod Next
 pub mod Opening
 pub mod Order

@@ -1,5 +1,5 @@
 -- The first two rows, and a row whose part doesn't follow.
-use Rattle.std.proofs.Common.{◌≡◌, ℕ, ◌+◌, ◌≤◌, List, drop, Ok, All, refl, sym, ap, ◌∙◌, subst}
+use Rattle.std.proofs.Common.{◌≡◌, ℕ, ◌+◌, ◌≤◌, List, drop, All, refl, sym, ap, ◌∙◌, subst}
 use Rattle.field_values.specs.Parts.{Parts}
 use Rattle.rank_balancer.specs.declared.balance.Balance.{Balance}
 use Rattle.setup_reading.specs.Reading.{setup_in}

@@ -19,7 +19,8 @@ pub(crate) struct Progress {
 impl Making {
     // The kind and the number of the row of the next rank; `None` where each issue has its rank.
     fn rank_due(&self) -> Option<(u8, u64)>
-        ensures { result ≡ rank_due (nat_lt (length self.now.order) (length self.now.histories)) (length self.now.order) }
+        ensures { result ≡ rank_due (nat_lt (length self.now.order) (length self.now.histories))
+            (length self.now.order) }
     {
         let ranked = self.ranks.as_slice().len();
         if ranked < self.issues.len() {

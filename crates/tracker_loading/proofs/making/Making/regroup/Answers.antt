@@ -5,7 +5,7 @@ use Rattle.fields.specs.SetupParts.{parts}
 use Rattle.tracker_machine.specs.Machine.{Machine}
 use Rattle.tracker_loading.specs.Making.{IsMaking}
 use Rattle.tracker_loading.specs.contracts.making.Making.{the_view}
-use Rattle.tracker_loading.proofs.Members.{members_made}
+use Rattle.tracker_loading.proofs.Joined.{members_made}
 use Rattle.tracker_loading.proofs.making.Making.regroup.Goals as goal
 
 pub invariant_of-self : goal.invariant_of-self
