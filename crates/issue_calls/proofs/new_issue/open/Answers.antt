@@ -16,7 +16,7 @@ use Rattle.tracker_state.specs.Rows.{present_op, rank_op}
 use Rattle.wanted_values.proofs.Fitting.{fits_filter}
 use Rattle.wanted_values.proofs.InSprints.{filtered_of_sprints}
 use Rattle.issue_calls.proofs.Means.{issue_ready}
-use Rattle.issue_calls.proofs.create.open.Goals as goal
+use Rattle.issue_calls.proofs.new_issue.open.Goals as goal
 
 pub returns-clause-prepared : goal.returns-clause-prepared
 returns-clause-prepared c =
