@@ -10,7 +10,7 @@ use Rattle.tracker_calls.specs.declared.reply.Refusal.{Refusal}
 use Rattle.tracker_calls.specs.declared.reply.Reply.TheVariants as reply
 use Rattle.tracker_machine.specs.Machine.{Machine}
 use Rattle.tracker_machine.specs.Effect.{Effect, applied}
-use Rattle.tracker_machine.specs.Effect.Effect.{NewMoment, NewIssue, NewGroup, NewRank, NewBalance, NewRanks, NewSprint, NewState, NewFilter, NoFilter, NewBoard, NoBoard}
+use Rattle.tracker_machine.specs.Effect.Effect.{NewMoment, NewIssue, NewGroup, NewRank, NewBalance, NewRanks, NewSprint, NewState, NewFilter, NoFilter, NewBoard, NoBoard, NewMembers}
 use Rattle.tracker_machine.specs.Meaning.{Meaning, unless, reply_to, next_after}
 use Rattle.tracker_machine.specs.Meaning.Meaning.{Refuses, Tells, Finds, Makes}
 use Rattle.tracker_machine.specs.Rank.{with_given}
@@ -38,7 +38,7 @@ module _ (m : Machine) (order : List Pair) (balance : Balance) (same : issues_in
   effect_alike : (a : Answer) (effect : Effect) → IsPlain (Makes a effect) → GoesAlike m order balance (Makes a effect) (Makes a effect)
   unfolding applied
   effect_alike a (NewMoment to) plain = record { replies = refl; next_order = order; next_balance = balance; next = refl; issues = same }
-  effect_alike a (NewIssue h rank) plain = absurd plain
+  effect_alike a (NewIssue h rank external) plain = absurd plain
   effect_alike a (NewGroup place group) plain = record { replies = refl; next_order = order; next_balance = balance; next = refl; issues = same }
   effect_alike a (NewRank issue rank) plain = absurd plain
   effect_alike a (NewBalance other) plain = absurd plain
@@ -49,6 +49,7 @@ module _ (m : Machine) (order : List Pair) (balance : Balance) (same : issues_in
   effect_alike a (NoFilter filter_no) plain = record { replies = refl; next_order = order; next_balance = balance; next = refl; issues = same }
   effect_alike a (NewBoard b) plain = record { replies = refl; next_order = order; next_balance = balance; next = refl; issues = same }
   effect_alike a (NoBoard board_no) plain = record { replies = refl; next_order = order; next_balance = balance; next = refl; issues = same }
+  effect_alike a (NewMembers group members) plain = record { replies = refl; next_order = order; next_balance = balance; next = refl; issues = same }
 
   -- one meaning, whose effect changes no rank
   pub plain_alike : (due : Meaning) → IsPlain due → GoesAlike m order balance due due

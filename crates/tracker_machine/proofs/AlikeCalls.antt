@@ -1,6 +1,6 @@
 -- Each call but those that rebalance goes alike in two trackers that differ in ranks alone.
 use Rattle.std.proofs.Common.{◌≡◌, ℕ, ◌+◌, ◌∷◌, ◌++◌, [], List, Bool, true, false, length, map, Option, Some, None, Result, Ok, Err, bytes_eq, refl, sym, ◌∙◌, ap, ap₂, subst}
-use Rattle.std.specs.Prelude.{if◌then◌else◌}
+use Rattle.std.specs.Prelude.{unwrap_or, if◌then◌else◌}
 use mathlib.Core.Path.{fun_ext}
 use Rattle.std.proofs.lemmas.List.{map-append}
 use Rattle.std.specs.Option.{option_map_or}
@@ -28,6 +28,7 @@ use Rattle.fields.specs.SetupParts.{names_in}
 use Rattle.tracker_calls.specs.declared.call.Call.{Call}
 use Rattle.tracker_calls.specs.declared.call.Call.TheVariants as call
 use Rattle.tracker_calls.specs.declared.call.Part.{Part}
+use Rattle.tracker_calls.specs.declared.given.GivenField.{GivenField}
 use Rattle.tracker_calls.specs.declared.reply.Answer.TheVariants as answer
 use Rattle.tracker_calls.specs.declared.reply.Refusal.{Refusal}
 use Rattle.tracker_calls.specs.declared.reply.Reply.TheVariants as reply
@@ -40,7 +41,7 @@ use Rattle.tracker_machine.specs.Effect.Effect.{NewRank}
 use Rattle.tracker_machine.specs.Meaning.{Meaning, unless, reply_to, next_after}
 use Rattle.tracker_machine.specs.Meaning.Meaning.{Refuses, Tells, Finds, Makes}
 use Rattle.tracker_machine.specs.Rank.{with_given, last_rank, moved_rank, has_rank}
-use Rattle.tracker_machine.specs.Create.{create_refusal, create_wants, created, spelled_key}
+use Rattle.tracker_machine.specs.Create.{create_refusal, issue_called, is_created_as, called_before, new_issue_refusal, create_wants, created, create_or_tell, spelled_key}
 use Rattle.tracker_machine.specs.Wanted.{changes_of}
 use Rattle.tracker_machine.specs.Move.{move_meaning, move_refusal, move_answer, moved_beside, newly_ranked}
 use Rattle.tracker_machine.specs.Ranks.{ranks_answer}
@@ -53,11 +54,11 @@ use Rattle.tracker_machine.specs.Boards.{by_rank, board_issues, board_numbered, 
 use Rattle.tracker_machine.specs.Checks.{caller_refusal}
 use Rattle.tracker_machine.specs.Step.{meaning, meaning_for, form_refusal, user_of}
 use Rattle.tracker_machine.specs.RankLaws.{MovesOneIssue, rebalances, without_ranks}
-use Rattle.tracker_machine.proofs.Plain.{IsPlain, edit_plain, transition_plain, tick_plain, show_plain, history_plain, save_filter_plain, drop_filter_plain, make_board_plain, drop_board_plain, make_sprint_plain, start_sprint_plain, close_sprint_plain, burndown_plain}
+use Rattle.tracker_machine.proofs.Plain.{IsPlain, called_plain, edit_plain, transition_plain, tick_plain, show_plain, history_plain, save_filter_plain, drop_filter_plain, make_board_plain, drop_board_plain, make_sprint_plain, start_sprint_plain, close_sprint_plain, set_group_plain, burndown_plain}
 use Rattle.tracker_machine.proofs.Placed.{apart, are_numbered}
 use Rattle.tracker_machine.proofs.MovedIssue.{moves_are_of_one_issue}
 use Rattle.tracker_machine.proofs.Alike.{reranked, GoesAlike, AreAlike, plain_alike, tells_alike, unless_alike, given_alike}
-use Rattle.tracker_machine.proofs.SameMeaning.{edit_same, transition_same, show_same, history_same, move_refusal_same, save_filter_same, drop_filter_same, make_board_same, drop_board_same, make_sprint_same, start_sprint_same, close_sprint_same, burndown_same}
+use Rattle.tracker_machine.proofs.SameMeaning.{edit_same, transition_same, show_same, history_same, move_refusal_same, save_filter_same, drop_filter_same, make_board_same, drop_board_same, make_sprint_same, start_sprint_same, close_sprint_same, burndown_same, set_group_same}
 
 -- whichever of two meanings it is, the reply is that of either
 ranked_reply : (m : Machine) (name : List ℕ) (issue : IssueNo) (rank : RankParts) → reply_to (newly_ranked m name issue rank) ≡ reply.Ok (move_answer name rank)
@@ -79,10 +80,10 @@ module _ (m : Machine) (order : List Pair) (balance : Balance) (has : HasRanks m
 
   -- ---- a new issue goes last in both
 
-  created_alike : (caller : ℕ) (project : List ℕ) (changes : List Change) (rank another : RankParts)
-      → GoesAlike m order balance (created m caller project changes rank) (created new caller project changes another)
+  created_alike : (caller : ℕ) (project : List ℕ) (external : Option (List ℕ)) (changes : List Change) (rank another : RankParts)
+      → GoesAlike m order balance (created m caller project external changes rank) (created new caller project external changes another)
   unfolding applied
-  created_alike caller project changes rank another =
+  created_alike caller project external changes rank another =
       let no : IssueNo = record { 0 = length m.histories + 1 } in
       record {
         replies = refl;
@@ -92,6 +93,19 @@ module _ (m : Machine) (order : List Pair) (balance : Balance) (has : HasRanks m
         issues = map-append (λ (p : Pair). p.1) m.order ((rank, no) ∷ [])
             ∙ ap (λ (is : List IssueNo). is ++ no ∷ []) same ∙ sym (map-append (λ (p : Pair). p.1) order ((another, no) ∷ []));
       }
+
+  -- one that has the external id already is told, or refuses the call, in both
+  create_alike : (caller : ℕ) (project issue_type summary : List ℕ) (given : List GivenField) (external : Option (List ℕ)) (called : Option History)
+      → Alike (create_or_tell m caller project issue_type summary given external called) (create_or_tell new caller project issue_type summary given external called)
+  create_alike caller project issue_type summary given external None =
+      let changes : List Change = changes_of (names_in m.setup) (create_wants m.setup caller issue_type summary given) in
+      unless_alike m order balance same (new_issue_refusal m caller issue_type summary given)
+      (with_given (last_rank m) (created m caller project external changes)) (with_given (last_rank new) (created new caller project external changes))
+      (given_alike m order balance same (last_rank m) (last_rank new) (created m caller project external changes) (created new caller project external changes)
+      (λ rank another given_one given_two room more. created_alike caller project external changes rank another))
+  create_alike caller project issue_type summary given external (Some h) =
+      let as_this_one : Bool = is_created_as m project issue_type summary h in
+      λ room more. plain_alike m order balance same (called_before as_this_one (unwrap_or external []) h) (called_plain as_this_one (unwrap_or external []) h)
 
   -- ---- a move takes its issue to the same place in both
 
@@ -206,13 +220,12 @@ module _ (m : Machine) (order : List Pair) (balance : Balance) (has : HasRanks m
 
   call_alike : (user : ℕ) (c : Call) → form_refusal c ≡ None → rebalances c ≡ false → Alike (meaning_for m user c) (meaning_for new user c)
   unfolding meaning_for form_refusal
-  call_alike user (call.Create project issue_type summary given) form other =
+  call_alike user (call.Create project issue_type summary given external) form other =
       let key : List ℕ = spelled_key m project in
-      let changes : List Change = changes_of (names_in m.setup) (create_wants m.setup user issue_type summary given) in
-      unless_alike m order balance same (create_refusal m user project issue_type summary given)
-      (with_given (last_rank m) (created m user key changes)) (with_given (last_rank new) (created new user key changes))
-      (given_alike m order balance same (last_rank m) (last_rank new) (created m user key changes) (created new user key changes)
-      (λ rank another given_one given_two room more. created_alike user key changes rank another))
+      let called : Option History = issue_called m external in
+      unless_alike m order balance same (create_refusal m user project given)
+      (create_or_tell m user key issue_type summary given external called) (create_or_tell new user key issue_type summary given external called)
+      (create_alike user key issue_type summary given external called)
   call_alike user (call.Edit issue given) form other = same_alike _ _ (edit_same m order balance user issue given) (edit_plain m user issue given)
   call_alike user (call.Transition issue transition given) form other =
       same_alike _ _ (transition_same m order balance user issue transition given) (transition_plain m user issue transition given)
@@ -237,6 +250,7 @@ module _ (m : Machine) (order : List Pair) (balance : Balance) (has : HasRanks m
   call_alike user (call.MakeSprint name) form other = same_alike _ _ (make_sprint_same m order balance user name) (make_sprint_plain m user name)
   call_alike user (call.StartSprint sprint) form other = same_alike _ _ (start_sprint_same m order balance user sprint) (start_sprint_plain m user sprint)
   call_alike user (call.CloseSprint sprint) form other = same_alike _ _ (close_sprint_same m order balance user sprint) (close_sprint_plain m user sprint)
+  call_alike user (call.SetGroup group members) form other = same_alike _ _ (set_group_same m order balance user group members) (set_group_plain m user group members)
   call_alike user (call.Burndown sprint part) form other = same_alike _ _ (burndown_same m order balance user sprint part) (burndown_plain m user sprint part)
 
   pub meaning_alike : (caller : List ℕ) (c : Call) → rebalances c ≡ false → Alike (meaning m caller c) (meaning new caller c)

@@ -5,17 +5,25 @@ use Rattle.std.specs.List.{All, list_all}
 use Rattle.std.specs.Option.{option_or, option_map_or}
 use Rattle.std.proofs.lemmas.Bool.{eqb-true, cases_Bool, and_parts}
 use Rattle.std.proofs.lemmas.List.{length-append, length-map}
-use Rattle.std.proofs.lemmas.List.Elements.{All-nil, All-cons}
+use Rattle.std.proofs.lemmas.List.Elements.{All-nil, All-cons, All-head, All-tail}
 use Rattle.std.proofs.lemmas.List.Sums.{sum_by-cons}
 use Rattle.std.proofs.lemmas.Option.{same_Some, none-some}
 use Rattle.rising_numbers.specs.ByNumber.{by_number}
 use Rattle.rising_numbers.proofs.ByNumber.{above}
 use Rattle.field_values.specs.declared.numbers.FieldNo.{FieldNo}
+use Rattle.field_values.specs.declared.numbers.GroupNo.{GroupNo}
+use Rattle.field_values.specs.declared.numbers.IssueNo.{IssueNo}
 use Rattle.field_values.specs.declared.numbers.SprintNo.{SprintNo}
 use Rattle.field_values.specs.declared.numbers.UserNo.{UserNo}
 use Rattle.field_values.specs.declared.value.Value.{Value}
 use Rattle.field_values.specs.declared.value.Value.TheVariants as value
+use Rattle.field_values.specs.declared.parts.Group.{Group as UserGroup}
+use Rattle.field_values.specs.GroupMembers.{is_user_list}
 use Rattle.field_values.specs.Parts.{Parts}
+use Rattle.external_ids.specs.declared.external_id.ExternalId.{ExternalId}
+use Rattle.external_ids.specs.Ids.{external_number}
+use Rattle.rank_strings.specs.Rank.{RankParts}
+use Rattle.jql_meaning.specs.Surroundings.{numbered}
 use Rattle.field_forms.specs.declared.form.Form.{Form}
 use Rattle.field_forms.specs.Known.{Names, form_of, choices_of, fits, fits_form}
 use Rattle.fields.specs.SetupParts.{names_in}
@@ -29,6 +37,7 @@ use Rattle.sprints.specs.declared.state.SprintState.{SprintState}
 use Rattle.sprints.specs.declared.state.SprintState.TheVariants.{Future, Active, Closed}
 use Rattle.sprints.specs.Sprint.{IsThere, future, sprint_of}
 use Rattle.board.specs.declared.board.Board.{Board}
+use Rattle.tracker_ranks.specs.Ranked.{IsNext}
 use Rattle.tracker_ranks.proofs.Keeping.{new_issues_go_last}
 use Rattle.tracker_keeper.specs.declared.part.Part.{Part}
 use Rattle.tracker_keeper.specs.Forms.{IsNumber, is_small, is_filled, may_hold, are_among, are_opening, IsIssueKey, IsGroupEntry, IsStamp, HasStamps}
@@ -37,19 +46,20 @@ use Rattle.tracker_machine.specs.Machine.{Machine, opening}
 use Rattle.jql_meaning.specs.Comparison.{project_of}
 use Rattle.tracker_machine.specs.Known.{project_keys, issues_of}
 use Rattle.tracker_machine.specs.Chronicle.{HasEntry}
-use Rattle.tracker_machine.specs.Tracker.{Holds, AllEntriesHold, AllEntriesFit, AllSmall, AreByUsers, IsSettled, RunsFrom, IsNextKey, AreKeyed, IsTracker, MayOpen, MayGroup}
+use Rattle.tracker_machine.specs.Tracker.{Holds, AllEntriesHold, AllEntriesFit, AllSmall, AreByUsers, IsSettled, RunsFrom, IsNextKey, AreKeyed, IsExternalOf, HaveUsers, IsTracker, MayOpen, MayGroup}
 use Rattle.tracker_machine.specs.SprintRules.{IsTimely, IsSprint}
 use Rattle.tracker_machine.specs.Saved.{SavedFilter, filter_number, board_number, IsFilter, IsBoard}
-use Rattle.tracker_machine.specs.Effect.{Effect, applied, IsAllowed, with_issue, longer, with_group, with_new_rank, with_balance, with_moves, with_sprint, with_state}
-use Rattle.tracker_machine.specs.Effect.Effect.{NewMoment, NewIssue, NewGroup, NewRank, NewBalance, NewRanks, NewSprint, NewState, NewFilter, NoFilter, NewBoard, NoBoard}
-use Rattle.tracker_machine.specs.Kept.{Kind, lone, part_in, kinds, sprint_part, filter_part, board_part, setup_part, present_part, issue_part, group_part, rank_part, issue_numbered, entries_of_change, group_of, issue_group, group_numbered, sprint_numbered, part_at, group_parts, rank_parts, state_parts, parts_of, opening_parts}
+use Rattle.tracker_machine.specs.Effect.{Effect, applied, IsAllowed, MayName, with_issue, longer, with_group, with_new_rank, with_balance, with_moves, with_sprint, with_state}
+use Rattle.tracker_machine.specs.Effect.Effect.{NewMoment, NewIssue, NewGroup, NewRank, NewBalance, NewRanks, NewSprint, NewState, NewFilter, NoFilter, NewBoard, NoBoard, NewMembers}
+use Rattle.tracker_machine.specs.Kept.{Kind, lone, part_in, kinds, sprint_part, filter_part, board_part, external_part, members_part, members_numbered, external_parts, members_from, all_members, setup_part, present_part, issue_part, group_part, rank_part, issue_numbered, entries_of_change, group_of, issue_group, group_numbered, sprint_numbered, part_at, group_parts, rank_parts, state_parts, parts_of, opening_parts, migrating_parts}
 use Rattle.tracker_machine.proofs.Chronicle.{few_groups}
 use Rattle.tracker_machine.proofs.Puts.{saved_kinds, planned_kinds, other_kinds}
 use Rattle.tracker_machine.proofs.Saved.{all_found, found_number, found_there}
 use Rattle.tracker_machine.proofs.SprintRules.{sprint_there, found_is_there, turned_there, sprint_is}
 use Rattle.tracker_machine.proofs.SprintRows.{last_sprint, sprint_put}
 use Rattle.tracker_machine.proofs.Settled.{at_place, from_found, settled_at}
-use Rattle.tracker_machine.proofs.Tracker.{tracker_opening, tracker_applied}
+use Rattle.tracker_machine.proofs.MemberRows.{group_numbered_there, group_has_users}
+use Rattle.tracker_machine.proofs.Tracker.{tracker_applied}
 use Rattle.tracker_machine.proofs.Kept.{issue_found, group_found, next_is_none}
 use Rattle.tracker_machine.proofs.Ranks.{moves_are_numbered, balance_may_be_kept}
 use Rattle.tracker_machine.proofs.KeepableRanks.{number_kept, rank_part_kept, new_rank_kept, ranks_kept}
@@ -439,11 +449,55 @@ found_kept setup k n p (x ∷ xs) are is = by (k == x.kind) refl is (found_kept 
     by true same found rest = subst (λ i. IsPartAt setup i n p) (sym (eqb-true k x.kind same)) (are.0 found)
     by false other found rest = rest found
 
+-- ---- external ids and members
+
+external_kept : (m : Machine) (e : ExternalId) → IsTracker m → 1 ≤ e.no.0 → IsExternalOf (length m.histories) e → IsPart m.setup (external_part e)
+unfolding IsPart
+external_kept m e is positive own = record { numbered = (positive, omega (arith, own.there, is.few_issues)); formed = own.formed }
+
+external_part_kept : (m : Machine) (n : ℕ) (p : Part) → IsTracker m → option_map external_part (by_number external_number n m.externals) ≡ Some p → IsPartAt m.setup 6 n p
+external_part_kept m n p is p_is = by_found (by_number external_number n m.externals) refl p_is where
+  by_found : (o : Option ExternalId) → by_number external_number n m.externals ≡ o → option_map external_part o ≡ Some p → IsPartAt m.setup 6 n p
+  by_found None found more = absurd (none-some p more)
+  by_found (Some e) found more =
+      let number = found_number external_number n e m.externals found in
+      let low = above external_number 1 n e m.externals is.externals.rising found in
+      let own = all_found external_number (IsExternalOf (length m.histories)) n e m.externals found is.externals.each in
+      let kept = external_kept m e is (omega (arith, low, number)) own in
+      subst (IsPartAt m.setup 6 n) (same_Some (external_part e) p more) (record { is_part = kept; kind_is = refl; number_is = number })
+
+members_kept : (setup : Parts) (group : GroupNo) (members : List UserNo) → 1 ≤ group.0 → group.0 ≤ length setup.group
+    → is_user_list (length setup.users) members ≡ true → IsPart setup (members_part group members)
+unfolding IsPart
+members_kept setup group members positive there listed =
+    record { from_one = positive; there = omega (arith, there, length-map setup.group (λ g. g.name)); listed = listed }
+
+members_part_kept : (setup : Parts) (n : ℕ) (p : Part) → HaveUsers (length setup.users) setup.group → members_numbered setup.group n ≡ Some p → IsPartAt setup 10 n p
+members_part_kept setup n p users p_is = by_found (numbered setup.group n) refl p_is where
+  by_found : (o : Option UserGroup) → numbered setup.group n ≡ o → option_map (λ g. members_part (record { 0 = n }) g.members) o ≡ Some p → IsPartAt setup 10 n p
+  by_found None found more = absurd (none-some p more)
+  by_found (Some g) found more =
+      let there = group_numbered_there setup.group n g found in
+      let listed = group_has_users (length setup.users) setup.group n g users found in
+      let kept = members_kept setup (record { 0 = n }) g.members there.0 there.1 listed in
+      subst (IsPartAt setup 10 n) (same_Some (members_part (record { 0 = n }) g.members) p more) (record { is_part = kept; kind_is = refl; number_is = refl })
+
+-- the members of all groups, from a number on
+all_members_kept : (setup : Parts) (first : ℕ) (groups : List UserGroup) → 1 ≤ first → first + length groups ≤ length setup.group + 1
+    → HaveUsers (length setup.users) groups → All (IsPart setup) (members_from first groups)
+all_members_kept setup first [] positive few users = All-nil (IsPart setup)
+all_members_kept setup first (g ∷ gs) positive few users =
+    let holds : UserGroup → Type 0 = λ x. is_user_list (length setup.users) x.members ≡ true in
+    All-cons (IsPart setup) (members_part (record { 0 = first }) g.members) (members_from (first + 1) gs)
+    (members_kept setup (record { 0 = first }) g.members positive (omega (arith, few)) (All-head holds g gs users))
+    (all_members_kept setup (first + 1) gs (omega (arith, positive)) (omega (arith, few)) (All-tail holds g gs users))
+
 pub part_kept : (m : Machine) (k n : ℕ) (p : Part) → IsSetupText m.text → IsTracker m → part_at m k n ≡ Some p → IsPartAt m.setup k n p
 unfolding part_at
 part_kept m k n p read is p_is =
-    let saved : AreKept m.setup n p (saved_kinds m) = (filter_part_kept m n p is, (board_part_kept m n p is, tt)) in
-    let planned : AreKept m.setup n p (planned_kinds m) = (sprint_part_kept m n p is, saved) in
+    let saved : AreKept m.setup n p (saved_kinds m) =
+    (filter_part_kept m n p is, (board_part_kept m n p is, (members_part_kept m.setup n p is.members, tt))) in
+    let planned : AreKept m.setup n p (planned_kinds m) = (external_part_kept m n p is, (sprint_part_kept m n p is, saved)) in
     let others : AreKept m.setup n p (other_kinds m) = (issue_part_kept m n p is, (group_part_kept m n p is, (rank_part_kept m n p is, planned))) in
     found_kept m.setup k n p (kinds m)
     (lone_kept m.setup 1 n (setup_part m) p (setup_kept m read), (lone_kept m.setup 2 n (present_part m) p (present_kept m is), others)) p_is
@@ -479,20 +533,35 @@ group_kept_at m place g h is next may at =
     subst (λ o. AllKept m.setup (present_part (with_group m place g) ∷ option_map_or (λ i. group_part i g ∷ []) o [])) (sym at)
     (two_parts m.setup (present_part (with_group m place g)) (group_part h g) present.is_part kept.is_part)
 
+-- an issue that comes, maybe with an external id
+external_parts_kept : (setup : Parts) (issue : IssueNo) (ids : List ExternalId) (external : Option (List ℕ)) → IsNumber issue.0 → MayName ids external
+    → AllKept setup (external_parts issue external)
+unfolding IsPart
+external_parts_kept setup issue ids None number may = All-nil (IsPart setup)
+external_parts_kept setup issue ids (Some id) number may =
+    one_part setup (external_part (record { no = issue; id = id })) (record { numbered = number; formed = may.0 })
+
+issue_parts_kept : (m : Machine) (h : History) (rank : RankParts) (external : Option (List ℕ)) → IsTracker m → IsTracker (with_issue m h rank external)
+    → MayOpen m h → IsNext m.order m.balance h.no rank → MayName m.externals external
+    → AllKept m.setup (present_part (with_issue m h rank external) ∷ issue_part h ∷ rank_part h.no rank ∷ external_parts h.no external)
+issue_parts_kept m h rank external is next may given named =
+    let new : Machine = with_issue m h rank external in
+    let now = present_kept new next in
+    let own = issue_part_kept new h.no.0 (issue_part h) next (issue_comes m h is may) in
+    let there = new_issues_go_last m.order m.balance h.no rank is.ranked given in
+    let number : IsNumber h.no.0 = (omega (arith, may.no), omega (arith, may.no, may.few)) in
+    let last = new_rank_kept m new h.no rank next (sym there.there) number in
+    All-cons (IsPart m.setup) (present_part new) (issue_part h ∷ rank_part h.no rank ∷ external_parts h.no external) now.is_part
+    (All-cons (IsPart m.setup) (issue_part h) (rank_part h.no rank ∷ external_parts h.no external) own.is_part
+    (All-cons (IsPart m.setup) (rank_part h.no rank) (external_parts h.no external) last
+    (external_parts_kept m.setup h.no m.externals external number named)))
+
 pub parts_kept : (e : Effect) (m : Machine) → IsAllowed e m → IsTracker m → All (IsPart m.setup) (parts_of e m)
 unfolding applied IsAllowed parts_of
 parts_kept (NewMoment to) m may is =
     let now = present_kept (record m { moment = to }) (tracker_applied (NewMoment to) m may is) in
     one_part m.setup (present_part (record m { moment = to })) now.is_part
-parts_kept (NewIssue h rank) m may is =
-    let next : IsTracker (with_issue m h rank) = tracker_applied (NewIssue h rank) m may is in
-    let now = present_kept (with_issue m h rank) next in
-    let own = issue_part_kept (with_issue m h rank) h.no.0 (issue_part h) next (issue_comes m h is may.0) in
-    let there = new_issues_go_last m.order m.balance h.no rank is.ranked may.1 in
-    let number : IsNumber h.no.0 = (omega (arith, may.0.no), omega (arith, may.0.no, may.0.few)) in
-    let last = new_rank_kept m (with_issue m h rank) h.no rank next (sym there.there) number in
-    All-cons (IsPart m.setup) (present_part (with_issue m h rank)) (issue_part h ∷ rank_part h.no rank ∷ []) now.is_part
-    (two_parts m.setup (issue_part h) (rank_part h.no rank) own.is_part last)
+parts_kept (NewIssue h rank external) m may is = issue_parts_kept m h rank external is (tracker_applied (NewIssue h rank external) m may is) may.0 may.1 may.2
 parts_kept (NewGroup place g) m may is =
     let found = at_place m.histories place may.there in
     group_kept_at m place g found.0 is (tracker_applied (NewGroup place g) m may is) may found.1
@@ -518,9 +587,23 @@ parts_kept (NewFilter f) m may is = one_part m.setup (filter_part f) (filter_kep
 parts_kept (NoFilter filter_no) m may is = All-nil (IsPart m.setup)
 parts_kept (NewBoard b) m may is = one_part m.setup (board_part b) (board_kept m b is may.positive may.board)
 parts_kept (NoBoard board_no) m may is = All-nil (IsPart m.setup)
+parts_kept (NewMembers group members) m may is =
+    one_part m.setup (members_part group members) (members_kept m.setup group members may.from_one may.there may.listed)
 
-pub opening_kept : (text : List ℕ) (setup : Parts) → IsSetupText text → All (IsPart setup) (opening_parts (opening text setup))
-opening_kept text setup read =
+-- where a new tracker stands
+opening_present_kept : (text : List ℕ) (setup : Parts) → IsPart setup (present_part (opening text setup))
+unfolding IsPart
+opening_present_kept text setup = record { balanced = refl; stamped = record { timely = omega arith; counted = omega arith } }
+
+pub opening_kept : (text : List ℕ) (setup : Parts) → IsSetupText text → HaveUsers (length setup.users) setup.group → All (IsPart setup) (opening_parts (opening text setup))
+opening_kept text setup read users =
     let first = setup_kept (opening text setup) read in
-    let now = present_kept (opening text setup) (tracker_opening text setup 0 (omega arith)) in
-    two_parts setup (setup_part (opening text setup)) (present_part (opening text setup)) first.is_part now.is_part
+    All-cons (IsPart setup) (setup_part (opening text setup)) (migrating_parts (opening text setup)) first.is_part
+    (All-cons (IsPart setup) (present_part (opening text setup)) (all_members (opening text setup)) (opening_present_kept text setup)
+    (all_members_kept setup 1 setup.group (omega arith) (omega arith) users))
+
+-- what rows of the first format lack
+pub migrating_kept : (m : Machine) → IsTracker m → All (IsPart m.setup) (migrating_parts m)
+migrating_kept m is =
+    All-cons (IsPart m.setup) (present_part m) (all_members m) (present_kept m is).is_part
+    (all_members_kept m.setup 1 m.setup.group (omega arith) (omega arith) is.members)

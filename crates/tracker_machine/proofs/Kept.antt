@@ -11,10 +11,16 @@ use Rattle.rising_numbers.specs.ByNumber.{by_number, put_by_number, without_numb
 use Rattle.field_values.specs.declared.numbers.BoardNo.{BoardNo}
 use Rattle.field_values.specs.declared.numbers.FieldNo.{FieldNo}
 use Rattle.field_values.specs.declared.numbers.FilterNo.{FilterNo}
+use Rattle.field_values.specs.declared.numbers.GroupNo.{GroupNo}
+use Rattle.field_values.specs.declared.numbers.IssueNo.{IssueNo}
 use Rattle.field_values.specs.declared.numbers.SprintNo.{SprintNo}
 use Rattle.field_values.specs.declared.numbers.UserNo.{UserNo}
 use Rattle.field_values.specs.declared.value.Value.{Value}
+use Rattle.field_values.specs.declared.parts.Group.{Group as UserGroup}
+use Rattle.field_values.specs.GroupMembers.{with_members}
 use Rattle.field_values.specs.Parts.{Parts}
+use Rattle.external_ids.specs.declared.external_id.ExternalId.{ExternalId}
+use Rattle.external_ids.specs.Ids.{external_number}
 use Rattle.fields.specs.SetupParts.{names_in}
 use Rattle.change_history.specs.declared.entry.Entry.{Entry}
 use Rattle.change_history.specs.declared.entry.Group.{Group}
@@ -28,6 +34,7 @@ use Rattle.rank_strings.specs.Rank.{RankParts}
 use Rattle.rank_balancer.specs.Step.{Move}
 use Rattle.tracker_ranks.specs.Ranked.{IsNext, with_last}
 use Rattle.tracker_keeper.specs.declared.part.Part.{Part}
+use Rattle.tracker_keeper.specs.Parts.{part_number}
 use Rattle.tracker_keeper.specs.declared.row.RowOp.{RowOp}
 use Rattle.tracker_keeper.specs.declared.row.RowOp.TheVariants.{Drop}
 use Rattle.tracker_keeper.specs.Rows.{no_rows, with_ops, number_of}
@@ -36,10 +43,12 @@ use Rattle.tracker_machine.specs.Chronicle.{HasEntry}
 use Rattle.tracker_machine.specs.Tracker.{RunsFrom, IsTracker, MayOpen, MayGroup}
 use Rattle.tracker_machine.specs.Saved.{SavedFilter, filter_number, board_number, is_board_of, IsFilter, IsBoard}
 use Rattle.tracker_machine.specs.SprintRules.{with_future}
-use Rattle.tracker_machine.specs.Effect.{Effect, applied, IsAllowed, with_issue, longer, with_group, with_state, without_filter, without_board}
-use Rattle.tracker_machine.specs.Effect.Effect.{NewMoment, NewIssue, NewGroup, NewRank, NewBalance, NewRanks, NewSprint, NewState, NewFilter, NoFilter, NewBoard, NoBoard}
-use Rattle.tracker_machine.specs.Kept.{Kind, kind_of, lone, part_in, sprint_part, filter_part, board_part, board_drops, drops_of, setup_part, present_part, issue_part, group_part, rank_part, issue_numbered, entries_of_change, group_of, issue_group, group_numbered, rank_numbered, sprint_numbered, part_at, rows_of, put_parts, group_parts, rank_parts, state_parts, parts_of, ops_of, opening_parts, opening_ops}
-use Rattle.tracker_machine.proofs.Puts.{with_at, with_parts, texts, parts_put, part_dropped, part_set, lone_new, lone_kind, issue_kind, group_kind, rank_kind, sprint_kind, filter_kind, board_kind, ranked_kinds, kinds_before, saved_kinds, planned_kinds, other_kinds, present_set}
+use Rattle.tracker_machine.specs.Effect.{Effect, applied, IsAllowed, with_issue, longer, with_group, with_state, without_filter, without_board, with_group_members, MayHave}
+use Rattle.tracker_machine.specs.Effect.Effect.{NewMoment, NewIssue, NewGroup, NewRank, NewBalance, NewRanks, NewSprint, NewState, NewFilter, NoFilter, NewBoard, NoBoard, NewMembers}
+use Rattle.tracker_machine.specs.Kept.{Kind, kind_of, lone, part_in, sprint_part, filter_part, board_part, external_part, members_part, members_numbered, external_parts, members_from, board_drops, drops_of, setup_part, present_part, issue_part, group_part, rank_part, issue_numbered, entries_of_change, group_of, issue_group, group_numbered, rank_numbered, sprint_numbered, part_at, rows_of, put_parts, group_parts, rank_parts, state_parts, parts_of, ops_of, all_members, opening_parts, opening_ops, migrating_parts, migrating_ops}
+use Rattle.tracker_machine.proofs.Puts.{with_at, with_part, with_parts, texts, parts_put, part_dropped, part_set, lone_new, lone_kind, issue_kind, group_kind, rank_kind, external_kind, sprint_kind, filter_kind, board_kind, members_kind, issue_kinds, ranked_kinds, kinds_before, saved_kinds, later_kinds, planned_kinds, other_kinds, present_set}
+use Rattle.tracker_machine.proofs.MemberRows.{members_changed, members_put, over_none}
+use Rattle.tracker_machine.proofs.Regrouped.{names_regrouped}
 use Rattle.tracker_machine.proofs.Ranks.{IsNumbered, moves_are_numbered}
 use Rattle.tracker_machine.proofs.RankRows.{rank_added, rank_applied, balance_applied, moves_applied}
 use Rattle.tracker_machine.proofs.Saved.{all_found, all_filter, found_there}
@@ -184,13 +193,13 @@ group_applied m place g h is may at k n =
     (group_numbered m.histories) (group_numbered later) (Some (group_part h g)) k n refl (groups_found m.histories place h g n at (next_is_none m g.change is may.change) added)
     ∙ ap (λ (o : Option Part). if (4 == k) && (g.change == n) then Some (group_part h g) else o) (present_set setup (present_part m) now (other_kinds m) k n)))
 
--- the parts after a new issue
+-- the parts after a new issue without an external id
 issue_applied : (m : Machine) (h : History) (rank : RankParts) → IsTracker m → MayOpen m h → IsNext m.order m.balance h.no rank → (k n : ℕ)
-    → part_at (with_issue m h rank) k n ≡ with_parts (present_part (with_issue m h rank) ∷ issue_part h ∷ rank_part h.no rank ∷ []) (part_at m) k n
+    → part_at (with_issue m h rank None) k n ≡ with_parts (present_part (with_issue m h rank None) ∷ issue_part h ∷ rank_part h.no rank ∷ []) (part_at m) k n
 unfolding part_at
 issue_applied m h rank is may next k n =
     let setup : Part = setup_part m in
-    let now : Part = present_part (with_issue m h rank) in
+    let now : Part = present_part (with_issue m h rank None) in
     let later : List History = m.histories ++ h ∷ [] in
     part_set (lone_kind 1 setup ∷ lone_kind 2 now ∷ issue_kind later ∷ group_kind later ∷ []) (planned_kinds m) 5 h.no.0
     (rank_numbered m.order) (rank_numbered (with_last m.order h.no rank)) (Some (rank_part h.no rank)) k n refl (rank_added m.order m.balance h.no rank n is.ranked next)
@@ -202,6 +211,39 @@ issue_applied m h rank is may next k n =
     (ap (λ (o : Option Part). part_in (lone_kind 1 setup ∷ lone_kind 2 now ∷ issue_kind m.histories ∷ kind_of 4 (λ i. o) ∷ rank_kind m.order ∷ planned_kinds m) k n)
     (no_group_more m.histories h n may.entries)
     ∙ present_set setup (present_part m) now (other_kinds m) k n))
+
+-- external ids' parts
+abbrev external_ids_parts : List ExternalId → ℕ → Option Part
+external_ids_parts ids n = option_map external_part (by_number external_number n ids)
+
+-- an external id is put behind all else of its issue
+external_applied : (m : Machine) (h : History) (rank : RankParts) (id : List ℕ) (k n : ℕ)
+    → part_at (with_issue m h rank (Some id)) k n ≡ with_part (external_part (record { no = h.no; id = id })) (part_at (with_issue m h rank None)) k n
+unfolding part_at
+external_applied m h rank id k n =
+    let e : ExternalId = record { no = h.no; id = id } in
+    part_set (issue_kinds (with_issue m h rank None)) (later_kinds m) 6 h.no.0
+    (external_ids_parts m.externals) (external_ids_parts (put_by_number external_number e m.externals)) (Some (external_part e)) k n refl
+    (part_put external_number external_part e m.externals n)
+
+-- the parts after a new issue
+issue_comes : (m : Machine) (h : History) (rank : RankParts) (external : Option (List ℕ)) → IsTracker m → MayOpen m h → IsNext m.order m.balance h.no rank → (k n : ℕ)
+    → part_at (with_issue m h rank external) k n
+    ≡ with_parts (present_part (with_issue m h rank external) ∷ issue_part h ∷ rank_part h.no rank ∷ external_parts h.no external) (part_at m) k n
+issue_comes m h rank None is may next k n = issue_applied m h rank is may next k n
+issue_comes m h rank (Some id) is may next k n =
+    let e : Part = external_part (record { no = h.no; id = id }) in
+    external_applied m h rank id k n
+    ∙ ap (λ (parts : ℕ → ℕ → Option Part). with_part e parts k n) (fun_ext (λ i. fun_ext (λ j. issue_applied m h rank is may next i j)))
+
+-- the parts after a group gets other members
+members_applied : (m : Machine) (group : GroupNo) (members : List UserNo) → MayHave m.setup group members → (k n : ℕ)
+    → part_at (with_group_members m group members) k n ≡ with_part (members_part group members) (part_at m) k n
+unfolding part_at
+members_applied m group members may k n =
+    part_set (kinds_before m ++ filter_kind m.filters ∷ board_kind m.boards ∷ []) [] 10 group.0
+    (members_numbered m.setup.group) (members_numbered (with_members m.setup.group (group.0 - 1) members)) (Some (members_part group members)) k n refl
+    (members_changed m.setup.group group members n may.from_one may.there)
 
 -- the parts after a sprint that is there comes to another state
 state_applied : (m : Machine) (sprint : SprintNo) (state : SprintState) (s : Sprint) → IsThere m.sprints sprint.0 → sprint_of m.sprints sprint.0 ≡ Some s → (k n : ℕ)
@@ -230,7 +272,7 @@ PutsParts _ = Unit {0}
 parts_applied : (e : Effect) (m : Machine) → IsAllowed e m → IsTracker m → PutsParts e → (k n : ℕ) → part_at (applied e m) k n ≡ with_parts (parts_of e m) (part_at m) k n
 unfolding applied IsAllowed part_at parts_of
 parts_applied (NewMoment to) m may is puts k n = present_set (setup_part m) (present_part m) (present_part (record m { moment = to })) (other_kinds m) k n
-parts_applied (NewIssue h rank) m may is puts k n = issue_applied m h rank is may.0 may.1 k n
+parts_applied (NewIssue h rank external) m may is puts k n = issue_comes m h rank external is may.0 may.1 k n
 parts_applied (NewGroup place g) m may is puts k n =
     let found = at_place m.histories place may.there in group_applied m place g found.0 is may found.1 k n
 parts_applied (NewRank issue rank) m may is puts k n = rank_applied m issue rank k n
@@ -243,34 +285,37 @@ parts_applied (NewSprint name) m may is puts k n =
 parts_applied (NewState sprint state) m may is puts k n =
     let found = sprint_there m.sprints sprint.0 may.there in state_applied m sprint state found.0 may.there found.2 k n
 parts_applied (NewFilter f) m may is puts k n =
-    part_set (kinds_before m) (board_kind m.boards ∷ []) 8 f.no.0 (filter_parts m.filters) (filter_parts (put_by_number filter_number f m.filters)) (Some (filter_part f)) k n refl
+    part_set (kinds_before m) (board_kind m.boards ∷ members_kind m.setup.group ∷ []) 8 f.no.0 (filter_parts m.filters) (filter_parts (put_by_number filter_number f m.filters)) (Some (filter_part f)) k n refl
     (part_put filter_number filter_part f m.filters n)
 parts_applied (NewBoard b) m may is puts k n =
-    part_set (kinds_before m ++ filter_kind m.filters ∷ []) [] 9 b.no.0 (board_parts m.boards) (board_parts (put_by_number board_number b m.boards)) (Some (board_part b)) k n refl
+    part_set (kinds_before m ++ filter_kind m.filters ∷ []) (members_kind m.setup.group ∷ []) 9 b.no.0 (board_parts m.boards) (board_parts (put_by_number board_number b m.boards)) (Some (board_part b)) k n refl
     (part_put board_number board_part b m.boards n)
 parts_applied (NoFilter filter_no) m may is puts k n = absurd puts
 parts_applied (NoBoard board_no) m may is puts k n = absurd puts
+parts_applied (NewMembers group members) m may is puts k n = members_applied m group members may k n
 
-setup_stays : (e : Effect) (m : Machine) → (applied e m).setup ≡ m.setup
+-- who is in a group isn't among the names
+names_stay : (e : Effect) (m : Machine) → names_in (applied e m).setup ≡ names_in m.setup
 unfolding applied
-setup_stays (NewMoment to) m = refl
-setup_stays (NewIssue h rank) m = refl
-setup_stays (NewGroup place g) m = refl
-setup_stays (NewRank issue rank) m = refl
-setup_stays (NewBalance balance) m = refl
-setup_stays (NewRanks moves) m = refl
-setup_stays (NewSprint name) m = refl
-setup_stays (NewState sprint state) m = refl
-setup_stays (NewFilter f) m = refl
-setup_stays (NoFilter filter_no) m = refl
-setup_stays (NewBoard b) m = refl
-setup_stays (NoBoard board_no) m = refl
+names_stay (NewMoment to) m = refl
+names_stay (NewIssue h rank external) m = refl
+names_stay (NewGroup place g) m = refl
+names_stay (NewRank issue rank) m = refl
+names_stay (NewBalance balance) m = refl
+names_stay (NewRanks moves) m = refl
+names_stay (NewSprint name) m = refl
+names_stay (NewState sprint state) m = refl
+names_stay (NewFilter f) m = refl
+names_stay (NoFilter filter_no) m = refl
+names_stay (NewBoard b) m = refl
+names_stay (NoBoard board_no) m = refl
+names_stay (NewMembers group members) m = names_regrouped m.setup group members
 
 -- the rows after it are those before it, with what it puts
 rows_put : (e : Effect) (m : Machine) → IsAllowed e m → IsTracker m → PutsParts e → rows_of (applied e m) ≡ with_ops (put_parts m.setup (parts_of e m)) (rows_of m)
 unfolding rows_of
 rows_put e m may is puts =
-    ap (λ setup. texts (names_in setup) (part_at (applied e m))) (setup_stays e m)
+    ap (λ names. texts names (part_at (applied e m))) (names_stay e m)
     ∙ (ap (texts (names_in m.setup)) (fun_ext (λ k. fun_ext (λ n. parts_applied e m may is puts k n)))
     ∙ sym (parts_put (names_in m.setup) (parts_of e m) (part_at m)))
 
@@ -279,16 +324,16 @@ abbrev kinds_without : Machine → FilterNo → List Kind
 kinds_without m filter_no = kinds_before m ++ filter_kind (without_number filter_number filter_no.0 m.filters) ∷ []
 
 filter_gone : (m : Machine) (filter_no : FilterNo) → IsTracker m → (k n : ℕ)
-    → part_in (kinds_without m filter_no ++ board_kind m.boards ∷ []) k n ≡ with_at 8 filter_no.0 None (part_at m) k n
+    → part_in (kinds_without m filter_no ++ board_kind m.boards ∷ members_kind m.setup.group ∷ []) k n ≡ with_at 8 filter_no.0 None (part_at m) k n
 unfolding part_at
 filter_gone m filter_no is k n =
-    part_set (kinds_before m) (board_kind m.boards ∷ []) 8 filter_no.0 (filter_parts m.filters) (filter_parts (without_number filter_number filter_no.0 m.filters)) None k n refl
+    part_set (kinds_before m) (board_kind m.boards ∷ members_kind m.setup.group ∷ []) 8 filter_no.0 (filter_parts m.filters) (filter_parts (without_number filter_number filter_no.0 m.filters)) None k n refl
     (part_without filter_number filter_part 1 filter_no.0 m.filters n is.saved.rising)
 
 board_gone : (m : Machine) (board_no : BoardNo) → IsTracker m → (k n : ℕ) → part_at (without_board m board_no) k n ≡ with_at 9 board_no.0 None (part_at m) k n
 unfolding part_at
 board_gone m board_no is k n =
-    part_set (kinds_before m ++ filter_kind m.filters ∷ []) [] 9 board_no.0 (board_parts m.boards) (board_parts (without_number board_number board_no.0 m.boards)) None k n refl
+    part_set (kinds_before m ++ filter_kind m.filters ∷ []) (members_kind m.setup.group ∷ []) 9 board_no.0 (board_parts m.boards) (board_parts (without_number board_number board_no.0 m.boards)) None k n refl
     (part_without board_number board_part 1 board_no.0 m.boards n is.saved.rising_boards)
 
 -- a filter's row is dropped, and then those of its boards
@@ -297,9 +342,10 @@ unfolding rows_of part_at
 filter_rows m filter_no is =
     let names : Names = names_in m.setup in
     let before : List Kind = kinds_without m filter_no in
+    let after : List Kind = members_kind m.setup.group ∷ [] in
     let gone : List Board = filter (is_board_of filter_no) m.boards in
-    ap (λ (parts : ℕ → Option Part). texts names (part_in (before ++ kind_of 9 parts ∷ []))) (sym (fun_ext (λ n. others_left filter_no m.boards n is.saved.rising_boards)))
-    ∙ (sym (boards_dropped names before [] gone (board_parts m.boards) refl)
+    ap (λ (parts : ℕ → Option Part). texts names (part_in (before ++ kind_of 9 parts ∷ after))) (sym (fun_ext (λ n. others_left filter_no m.boards n is.saved.rising_boards)))
+    ∙ (sym (boards_dropped names before after gone (board_parts m.boards) refl)
     ∙ ap (with_ops (board_drops filter_no m.boards))
     (ap (texts names) (fun_ext (λ k. fun_ext (λ n. filter_gone m filter_no is k n))) ∙ sym (part_dropped names 8 filter_no.0 (part_at m))))
 
@@ -312,7 +358,7 @@ board_rows m board_no is =
 pub rows_applied : (e : Effect) (m : Machine) → IsAllowed e m → IsTracker m → rows_of (applied e m) ≡ with_ops (ops_of e m) (rows_of m)
 unfolding ops_of drops_of applied
 rows_applied (NewMoment to) m may is = rows_put (NewMoment to) m may is tt
-rows_applied (NewIssue h rank) m may is = rows_put (NewIssue h rank) m may is tt
+rows_applied (NewIssue h rank external) m may is = rows_put (NewIssue h rank external) m may is tt
 rows_applied (NewGroup place g) m may is = rows_put (NewGroup place g) m may is tt
 rows_applied (NewRank issue rank) m may is = rows_put (NewRank issue rank) m may is tt
 rows_applied (NewBalance balance) m may is = rows_put (NewBalance balance) m may is tt
@@ -323,6 +369,7 @@ rows_applied (NewFilter f) m may is = rows_put (NewFilter f) m may is tt
 rows_applied (NoFilter filter_no) m may is = filter_rows m filter_no is
 rows_applied (NewBoard b) m may is = rows_put (NewBoard b) m may is tt
 rows_applied (NoBoard board_no) m may is = board_rows m board_no is
+rows_applied (NewMembers group members) m may is = rows_put (NewMembers group members) m may is tt
 
 -- ---- a new tracker
 
@@ -341,26 +388,39 @@ none_in (x ∷ xs) k n empty = by (k == x.kind) (none_in xs k n empty.1)
 abbrev no_parts : ℕ → Option Part
 no_parts n = None
 
--- the parts of a new tracker are its setup and where it stands
-opening_are : (text : List ℕ) (setup : Parts) (k n : ℕ)
-    → part_at (opening text setup) k n ≡ with_parts (opening_parts (opening text setup)) (λ i j. None) k n
-unfolding part_at
-opening_are text setup k n =
-    let first : Part = setup_part (opening text setup) in
-    let now : Part = present_part (opening text setup) in
-    let others : List Kind = issue_kind [] ∷ group_kind [] ∷ rank_kind [] ∷ sprint_kind [] ∷ filter_kind [] ∷ board_kind [] ∷ [] in
+-- the kinds of a new tracker before members
+abbrev opening_kinds : Part → Part → List Kind
+opening_kinds first now =
+    lone_kind 1 first ∷ lone_kind 2 now ∷ issue_kind [] ∷ group_kind [] ∷ rank_kind [] ∷ external_kind [] ∷ sprint_kind [] ∷ filter_kind [] ∷ board_kind [] ∷ []
+
+-- the parts of a new tracker without members are its setup and where it stands
+standing_are : (first now : Part) (k n : ℕ)
+    → part_in (opening_kinds first now ++ kind_of 10 no_parts ∷ []) k n ≡ with_at 2 0 (Some now) (with_at 1 0 (Some first) (λ i j. None)) k n
+standing_are first now k n =
+    let others : List Kind =
+    issue_kind [] ∷ group_kind [] ∷ rank_kind [] ∷ external_kind [] ∷ sprint_kind [] ∷ filter_kind [] ∷ board_kind [] ∷ kind_of 10 no_parts ∷ [] in
     part_set (lone_kind 1 first ∷ []) others 2 0 no_parts (lone now) (Some now) k n refl (lone_new now n)
     ∙ ap (λ (o : Option Part). if (2 == k) && (0 == n) then Some now else o)
     (part_set [] (kind_of 2 no_parts ∷ others) 1 0 no_parts (lone first) (Some first) k n refl (lone_new first n)
     ∙ ap (λ (o : Option Part). if (1 == k) && (0 == n) then Some first else o)
-    (none_in (kind_of 1 no_parts ∷ kind_of 2 no_parts ∷ others) k n (refl, (refl, (refl, (refl, (refl, (no_sprint_numbered n, (refl, (refl, tt))))))))))
+    (none_in (kind_of 1 no_parts ∷ kind_of 2 no_parts ∷ others) k n (refl, (refl, (refl, (refl, (refl, (refl, (no_sprint_numbered n, (refl, (refl, (refl, tt))))))))))))
 
--- the rows of a new tracker are its setup's and its moment's
+-- with its members they are all
+opening_are : (text : List ℕ) (setup : Parts) → part_at (opening text setup) ≡ with_parts (opening_parts (opening text setup)) (λ i j. None)
+unfolding part_at
+opening_are text setup =
+    let first : Part = setup_part (opening text setup) in
+    let now : Part = present_part (opening text setup) in
+    ap (λ (parts : ℕ → Option Part). part_in (opening_kinds first now ++ kind_of 10 parts ∷ [])) (sym (fun_ext (λ n. over_none setup.group no_parts n refl)))
+    ∙ (sym (members_put (opening_kinds first now) [] 1 setup.group no_parts refl)
+    ∙ ap (with_parts (members_from 1 setup.group)) (fun_ext (λ k. fun_ext (λ n. standing_are first now k n))))
+
+-- the rows of a new tracker are its setup's, its moment's and its groups'
 pub rows_opening : (text : List ℕ) (setup : Parts) → with_ops (opening_ops (opening text setup)) no_rows ≡ rows_of (opening text setup)
 unfolding rows_of opening_ops
 rows_opening text setup =
     parts_put (names_in setup) (opening_parts (opening text setup)) (λ k n. None)
-    ∙ sym (ap (texts (names_in setup)) (fun_ext (λ k. fun_ext (λ n. opening_are text setup k n))))
+    ∙ sym (ap (texts (names_in setup)) (opening_are text setup))
 
 -- ---- numbers of rows
 
@@ -373,14 +433,28 @@ one_op op small = All-cons IsSmallOp op [] small (All-nil IsSmallOp)
 two_ops : (op other : RowOp) → IsSmallOp op → IsSmallOp other → All IsSmallOp (op ∷ other ∷ [])
 two_ops op other small smaller = All-cons IsSmallOp op (other ∷ []) small (one_op other smaller)
 
-three_ops : (op other more : RowOp) → IsSmallOp op → IsSmallOp other → IsSmallOp more → All IsSmallOp (op ∷ other ∷ more ∷ [])
-three_ops op other more small smaller smallest = All-cons IsSmallOp op (other ∷ more ∷ []) small (two_ops other more smaller smallest)
+-- one part more is put
+part_op : (setup : Parts) (p : Part) (ps : List Part) → part_number p < 2 ^ 63 → All IsSmallOp (put_parts setup ps) → All IsSmallOp (put_parts setup (p ∷ ps))
+part_op setup p ps small others = All-cons IsSmallOp _ _ small others
 
 group_ops : (m : Machine) (place : ℕ) (g : Group) (h : History) → IsTracker m → g.change ≡ m.change + 1 → slice_get m.histories place ≡ Some h
     → All IsSmallOp (put_parts m.setup (present_part (with_group m place g) ∷ group_parts m.histories place g))
 group_ops m place g h is next at =
     subst (λ o. All IsSmallOp (put_parts m.setup (present_part (with_group m place g) ∷ option_map_or (λ i. group_part i g ∷ []) o []))) (sym at)
     (two_ops _ _ (omega arith) (omega (arith, next, is.numbered, is.few_issues, few_groups m.histories, is.few_entries)))
+
+-- a new issue, maybe with an external id
+external_op : (setup : Parts) (issue : IssueNo) (external : Option (List ℕ)) → issue.0 < 2 ^ 63 → All IsSmallOp (put_parts setup (external_parts issue external))
+external_op setup issue None small = All-nil IsSmallOp
+external_op setup issue (Some id) small = one_op _ small
+
+issue_ops : (m : Machine) (h : History) (rank : RankParts) (external : Option (List ℕ)) → MayOpen m h
+    → All IsSmallOp (put_parts m.setup (present_part (with_issue m h rank external) ∷ issue_part h ∷ rank_part h.no rank ∷ external_parts h.no external))
+issue_ops m h rank external may =
+    let number : h.no.0 < 2 ^ 63 = omega (arith, may.no, may.few) in
+    part_op m.setup (present_part (with_issue m h rank external)) (issue_part h ∷ rank_part h.no rank ∷ external_parts h.no external) (omega arith)
+    (part_op m.setup (issue_part h) (rank_part h.no rank ∷ external_parts h.no external) number
+    (part_op m.setup (rank_part h.no rank) (external_parts h.no external) number (external_op m.setup h.no external number)))
 
 -- the ranks that moves give
 rank_ops : (setup : Parts) (count : ℕ) (moves : List Move) → count ≤ 50_000 → All (IsNumbered count) moves → All IsSmallOp (put_parts setup (rank_parts moves))
@@ -415,8 +489,7 @@ board_drops_small fs (b ∷ bs) all =
 pub ops_small : (e : Effect) (m : Machine) → IsAllowed e m → IsTracker m → All (λ op. number_of op < 2 ^ 63) (ops_of e m)
 unfolding ops_of parts_of drops_of IsAllowed
 ops_small (NewMoment to) m may is = one_op _ (omega arith)
-ops_small (NewIssue h rank) m may is =
-    three_ops _ _ _ (omega arith) (omega (arith, may.0.no, may.0.few)) (omega (arith, may.0.no, may.0.few))
+ops_small (NewIssue h rank external) m may is = issue_ops m h rank external may.0
 ops_small (NewGroup place g) m may is = let found = at_place m.histories place may.there in group_ops m place g found.0 is may.change found.1
 ops_small (NewRank issue rank) m may is = one_op _ (omega (arith, may.named.issue, is.each, is.few_issues))
 ops_small (NewBalance balance) m may is = one_op _ (omega arith)
@@ -436,7 +509,20 @@ ops_small (NewBoard b) m may is = one_op _ (omega (arith, may.board.small))
 ops_small (NoBoard board_no) m may is =
     let found = board_there m board_no may in
     one_op _ (omega (arith, found.1, (all_found board_number (IsBoard m.filters) board_no.0 found.0 m.boards found.2 is.saved.each_board).small))
+ops_small (NewMembers group members) m may is = one_op _ (omega (arith, may.there, is.few_groups))
 
-pub opening_small : (m : Machine) → All (λ op. number_of op < 2 ^ 63) (opening_ops m)
+-- so are those of a new tracker
+members_small : (setup : Parts) (first : ℕ) (groups : List UserGroup) → first + length groups ≤ 101 → All IsSmallOp (put_parts setup (members_from first groups))
+members_small setup first [] few = All-nil IsSmallOp
+members_small setup first (g ∷ gs) few = All-cons IsSmallOp _ _ (omega (arith, few)) (members_small setup (first + 1) gs (omega (arith, few)))
+
+pub opening_small : (m : Machine) → length m.setup.group ≤ 100 → All (λ op. number_of op < 2 ^ 63) (opening_ops m)
 unfolding opening_ops
-opening_small m = two_ops _ _ (omega arith) (omega arith)
+opening_small m few =
+    part_op m.setup (setup_part m) (migrating_parts m) (omega arith)
+    (part_op m.setup (present_part m) (all_members m) (omega arith) (members_small m.setup 1 m.setup.group (omega (arith, few))))
+
+-- and those that make rows of the second format
+pub migrating_small : (m : Machine) → IsTracker m → All (λ op. number_of op < 2 ^ 63) (migrating_ops m)
+unfolding migrating_ops
+migrating_small m is = part_op m.setup (present_part m) (all_members m) (omega arith) (members_small m.setup 1 m.setup.group (omega (arith, is.few_groups)))

@@ -3,10 +3,13 @@ pub mod Totals
 pub mod Settled
 pub mod Saved
 pub mod SprintRules
+pub mod Regrouped
+pub mod Externals
 pub mod Tracker
 pub mod Ranks
 pub mod Puts
 pub mod RankRows
+pub mod MemberRows
 pub mod SavedRows
 pub mod SprintRows
 pub mod Kept
@@ -18,6 +21,8 @@ pub mod WorkedRows
 pub mod WorkedFilters
 pub mod WorkedSprints
 pub mod WorkedRanks
+pub mod WorkedMembers
+pub mod WorkedExternals
 pub mod Replies
 pub mod Runs
 pub mod Naming

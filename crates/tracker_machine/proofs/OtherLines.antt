@@ -7,19 +7,19 @@ use Rattle.tracker_calls.specs.declared.reply.Refusal.{Refusal}
 use Rattle.tracker_calls.specs.Asked.{line_of}
 use Rattle.tracker_machine.specs.Machine.{Machine}
 use Rattle.tracker_machine.specs.Effect.{Effect, applied}
-use Rattle.tracker_machine.specs.Effect.Effect.{NewMoment, NewIssue, NewGroup, NewRank, NewBalance, NewRanks, NewSprint, NewState, NewFilter, NoFilter, NewBoard, NoBoard}
+use Rattle.tracker_machine.specs.Effect.Effect.{NewMoment, NewIssue, NewGroup, NewRank, NewBalance, NewRanks, NewSprint, NewState, NewFilter, NoFilter, NewBoard, NoBoard, NewMembers}
 use Rattle.tracker_machine.specs.Meaning.{Meaning, unless, reply_to, next_after}
 use Rattle.tracker_machine.specs.Meaning.Meaning.{Refuses, Tells, Finds, Makes}
 use Rattle.tracker_machine.specs.Checks.{caller_refusal}
 use Rattle.tracker_machine.specs.Step.{meaning, meaning_for, form_refusal, user_of, reply_of, next_of}
 use Rattle.tracker_machine.specs.Run.{asked_reply, asked_next}
 use Rattle.tracker_machine.specs.RankLaws.{IsAccepted, changes_ranks, asks_to_change_ranks, LeavesRanks, OthersLeaveRanks}
-use Rattle.tracker_machine.proofs.Plain.{IsPlain, unless_plain, edit_plain, transition_plain, tick_plain, show_plain, history_plain, search_plain, ranks_plain, save_filter_plain, drop_filter_plain, filter_plain, make_board_plain, drop_board_plain, board_plain, make_sprint_plain, start_sprint_plain, close_sprint_plain, burndown_plain}
+use Rattle.tracker_machine.proofs.Plain.{IsPlain, unless_plain, edit_plain, transition_plain, tick_plain, show_plain, history_plain, search_plain, ranks_plain, save_filter_plain, drop_filter_plain, filter_plain, make_board_plain, drop_board_plain, board_plain, make_sprint_plain, start_sprint_plain, close_sprint_plain, set_group_plain, burndown_plain}
 
 effect_leaves : (a : Answer) (effect : Effect) (m : Machine) → IsPlain (Makes a effect) → LeavesRanks m (applied effect m)
 unfolding applied
 effect_leaves a (NewMoment to) m plain = record { order = refl; balance = refl }
-effect_leaves a (NewIssue h rank) m plain = absurd plain
+effect_leaves a (NewIssue h rank external) m plain = absurd plain
 effect_leaves a (NewGroup place group) m plain = record { order = refl; balance = refl }
 effect_leaves a (NewRank issue rank) m plain = absurd plain
 effect_leaves a (NewBalance balance) m plain = absurd plain
@@ -30,6 +30,7 @@ effect_leaves a (NewFilter f) m plain = record { order = refl; balance = refl }
 effect_leaves a (NoFilter filter_no) m plain = record { order = refl; balance = refl }
 effect_leaves a (NewBoard b) m plain = record { order = refl; balance = refl }
 effect_leaves a (NoBoard board_no) m plain = record { order = refl; balance = refl }
+effect_leaves a (NewMembers group members) m plain = record { order = refl; balance = refl }
 
 -- what a call means leaves the ranks where it is refused, and where its effect changes none
 meant_leaves : (due : Meaning) (m : Machine) → (IsAccepted (reply_to due) → IsPlain due) → LeavesRanks m (next_after due m)
@@ -40,7 +41,7 @@ meant_leaves (Makes a effect) m plain = effect_leaves a effect m (plain tt)
 
 call_plain : (m : Machine) (user : ℕ) (c : Call) → changes_ranks c ≡ false → IsPlain (meaning_for m user c)
 unfolding meaning_for
-call_plain m user (call.Create project issue_type summary given) other = absurd (cc)
+call_plain m user (call.Create project issue_type summary given external) other = absurd (cc)
 call_plain m user (call.Edit issue given) other = edit_plain m user issue given
 call_plain m user (call.Transition issue transition given) other = transition_plain m user issue transition given
 call_plain m user (call.Tick to) other = tick_plain m to
@@ -62,6 +63,7 @@ call_plain m user (call.Board board_no part) other = board_plain m user board_no
 call_plain m user (call.MakeSprint name) other = make_sprint_plain m user name
 call_plain m user (call.StartSprint sprint) other = start_sprint_plain m user sprint
 call_plain m user (call.CloseSprint sprint) other = close_sprint_plain m user sprint
+call_plain m user (call.SetGroup group members) other = set_group_plain m user group members
 call_plain m user (call.Burndown sprint part) other = burndown_plain m user sprint part
 
 meaning_plain : (m : Machine) (user : List ℕ) (c : Call) → changes_ranks c ≡ false → IsPlain (meaning m user c)

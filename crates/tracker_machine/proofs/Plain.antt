@@ -20,12 +20,14 @@ use Rattle.tracker_calls.specs.declared.reply.Answer.{Answer}
 use Rattle.tracker_calls.specs.declared.reply.Answer.TheVariants as answer
 use Rattle.tracker_calls.specs.declared.reply.Refusal.{Refusal}
 use Rattle.tracker_machine.specs.Machine.{Machine}
-use Rattle.tracker_machine.specs.Known.{place_of_issue, history_named}
+use Rattle.tracker_machine.specs.Known.{place_of_issue, history_named, known_place}
 use Rattle.tracker_machine.specs.Tracker.{RunsFrom, HasRanks}
 use Rattle.tracker_machine.specs.Effect.{Effect, applied, longer, with_group}
-use Rattle.tracker_machine.specs.Effect.Effect.{NewMoment, NewIssue, NewGroup, NewRank, NewBalance, NewRanks, NewSprint, NewState, NewFilter, NoFilter, NewBoard, NoBoard}
+use Rattle.tracker_machine.specs.Effect.Effect.{NewMoment, NewIssue, NewGroup, NewRank, NewBalance, NewRanks, NewSprint, NewState, NewFilter, NoFilter, NewBoard, NoBoard, NewMembers}
 use Rattle.tracker_machine.specs.Meaning.{Meaning, unless, next_after}
 use Rattle.tracker_machine.specs.Meaning.Meaning.{Refuses, Tells, Finds, Makes}
+use Rattle.tracker_machine.specs.Create.{called_before}
+use Rattle.tracker_machine.specs.Members.{group_names, users_named, set_group_refusal, regroups, set_group_meaning}
 use Rattle.tracker_machine.specs.Group.{grouped, grouped_at}
 use Rattle.tracker_machine.specs.Edit.{edit_meaning, edit_refusal, edit_answer, edit_news}
 use Rattle.tracker_machine.specs.Transition.{transition_meaning, transition_refusal, transition_answer, transition_news, transition_named}
@@ -46,7 +48,7 @@ use Rattle.tracker_machine.proofs.Tracker.{stays}
 
 abbrev IsPlainEffect : Effect → Type 0
 IsPlainEffect (NewMoment to) = Unit {0}
-IsPlainEffect (NewIssue h rank) = ⊥
+IsPlainEffect (NewIssue h rank external) = ⊥
 IsPlainEffect (NewGroup place group) = Unit {0}
 IsPlainEffect (NewRank issue rank) = ⊥
 IsPlainEffect (NewBalance balance) = ⊥
@@ -57,6 +59,7 @@ IsPlainEffect (NewFilter f) = Unit {0}
 IsPlainEffect (NoFilter filter_no) = Unit {0}
 IsPlainEffect (NewBoard b) = Unit {0}
 IsPlainEffect (NoBoard board_no) = Unit {0}
+IsPlainEffect (NewMembers group members) = Unit {0}
 
 abbrev pub IsPlain : Meaning → Type 0
 IsPlain (Refuses r) = Unit {0}
@@ -69,6 +72,11 @@ unless_plain None due plain = plain
 unless_plain (Some r) due plain = tt
 
 -- ---- calls
+
+-- an issue that was created before
+pub called_plain : (same : Bool) (external : List ℕ) (h : History) → IsPlain (called_before same external h)
+called_plain true external h = tt
+called_plain false external h = tt
 
 grouped_plain : (to_answer : Option ℕ → Answer) (m : Machine) (caller place : ℕ) (h : History) (changes : List Change) → IsPlain (grouped to_answer m caller place h changes)
 grouped_plain to_answer m caller place h [] = tt
@@ -178,6 +186,12 @@ close_sprint_plain m caller sprint =
     let next : Option SprintState = after_close kept m.moment m.change in
     unless_plain (plan_sprint_refusal m caller sprint) (turned sprint kept next) (turned_plain sprint kept next)
 
+pub set_group_plain : (m : Machine) (caller : ℕ) (group : List ℕ) (names : List (List ℕ)) → IsPlain (set_group_meaning m caller group names)
+unfolding set_group_meaning
+set_group_plain m caller group names =
+    unless_plain (set_group_refusal m caller group names)
+    (regroups m.setup (known_place group (group_names m.setup)) (users_named m.setup names)) tt
+
 pub burndown_plain : (m : Machine) (caller : ℕ) (sprint : SprintNo) (part : Part) → IsPlain (burndown_meaning m caller sprint part)
 burndown_plain m caller sprint part = unless_plain (plan_sprint_refusal m caller sprint) (Tells (burndown_answer m sprint part)) tt
 
@@ -198,7 +212,7 @@ group_keeps m place group has = by (slice_get m.histories place) refl
 effect_keeps : (effect : Effect) (m : Machine) → IsPlainEffect effect → HasRanks m → HasRanks (applied effect m)
 unfolding applied
 effect_keeps (NewMoment to) m plain has = record { numbers = has.numbers; each = has.each; ranked = has.ranked }
-effect_keeps (NewIssue h rank) m plain has = absurd plain
+effect_keeps (NewIssue h rank external) m plain has = absurd plain
 effect_keeps (NewGroup place group) m plain has = group_keeps m place group has
 effect_keeps (NewRank issue rank) m plain has = absurd plain
 effect_keeps (NewBalance balance) m plain has = absurd plain
@@ -209,6 +223,7 @@ effect_keeps (NewFilter f) m plain has = record { numbers = has.numbers; each = 
 effect_keeps (NoFilter filter_no) m plain has = record { numbers = has.numbers; each = has.each; ranked = has.ranked }
 effect_keeps (NewBoard b) m plain has = record { numbers = has.numbers; each = has.each; ranked = has.ranked }
 effect_keeps (NoBoard board_no) m plain has = record { numbers = has.numbers; each = has.each; ranked = has.ranked }
+effect_keeps (NewMembers group members) m plain has = record { numbers = has.numbers; each = has.each; ranked = has.ranked }
 
 pub plain_keeps : (due : Meaning) (m : Machine) → IsPlain due → HasRanks m → HasRanks (next_after due m)
 plain_keeps (Refuses r) m plain has = has

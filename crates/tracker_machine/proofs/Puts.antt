@@ -5,7 +5,10 @@ use Rattle.std.proofs.lemmas.Bool.{eqb-true, cases_Bool, true≢false}
 use mathlib.Core.Path.{fun_ext}
 use Rattle.rising_numbers.specs.ByNumber.{by_number}
 use Rattle.field_forms.specs.Known.{Names}
+use Rattle.field_values.specs.declared.parts.Group.{Group as UserGroup}
 use Rattle.change_history.specs.History.{History}
+use Rattle.external_ids.specs.declared.external_id.ExternalId.{ExternalId}
+use Rattle.external_ids.specs.Ids.{external_number}
 use Rattle.board.specs.Order.{Pair}
 use Rattle.board.specs.declared.board.Board.{Board}
 use Rattle.sprints.specs.declared.sprint.Sprint.{Sprint}
@@ -16,7 +19,7 @@ use Rattle.tracker_keeper.specs.Bodies.{body_text}
 use Rattle.tracker_keeper.specs.Rows.{Rows, with_op, with_ops}
 use Rattle.tracker_machine.specs.Machine.{Machine}
 use Rattle.tracker_machine.specs.Saved.{SavedFilter, filter_number, board_number}
-use Rattle.tracker_machine.specs.Kept.{Kind, kind_of, lone, part_in, put_part, setup_part, present_part, issue_part, issue_numbered, group_numbered, rank_numbered, sprint_numbered, filter_part, board_part}
+use Rattle.tracker_machine.specs.Kept.{Kind, kind_of, lone, part_in, put_part, setup_part, present_part, issue_part, issue_numbered, group_numbered, rank_numbered, sprint_numbered, filter_part, board_part, external_part, members_numbered}
 
 -- ---- parts that are put
 
@@ -107,6 +110,9 @@ group_kind histories = kind_of 4 (group_numbered histories)
 abbrev pub rank_kind : List Pair → Kind
 rank_kind order = kind_of 5 (rank_numbered order)
 
+abbrev pub external_kind : List ExternalId → Kind
+external_kind ids = kind_of 6 (λ n. option_map external_part (by_number external_number n ids))
+
 abbrev pub sprint_kind : List Sprint → Kind
 sprint_kind sprints = kind_of 7 (sprint_numbered sprints)
 
@@ -116,20 +122,30 @@ filter_kind filters = kind_of 8 (λ n. option_map filter_part (by_number filter_
 abbrev pub board_kind : List Board → Kind
 board_kind boards = kind_of 9 (λ n. option_map board_part (by_number board_number n boards))
 
+abbrev pub members_kind : List UserGroup → Kind
+members_kind groups = kind_of 10 (members_numbered groups)
+
+-- those before external ids
+abbrev pub issue_kinds : Machine → List Kind
+issue_kinds m = lone_kind 1 (setup_part m) ∷ lone_kind 2 (present_part m) ∷ issue_kind m.histories ∷ group_kind m.histories ∷ rank_kind m.order ∷ []
+
 -- those before sprints
 abbrev pub ranked_kinds : Machine → List Kind
-ranked_kinds m = lone_kind 1 (setup_part m) ∷ lone_kind 2 (present_part m) ∷ issue_kind m.histories ∷ group_kind m.histories ∷ rank_kind m.order ∷ []
+ranked_kinds m = issue_kinds m ++ external_kind m.externals ∷ []
 
--- those before filters and boards, and these
+-- those before filters and boards, and these with what stands behind them
 abbrev pub kinds_before : Machine → List Kind
 kinds_before m = ranked_kinds m ++ sprint_kind m.sprints ∷ []
 
 abbrev pub saved_kinds : Machine → List Kind
-saved_kinds m = filter_kind m.filters ∷ board_kind m.boards ∷ []
+saved_kinds m = filter_kind m.filters ∷ board_kind m.boards ∷ members_kind m.setup.group ∷ []
 
--- those behind ranks
+-- those behind external ids, and those behind ranks
+abbrev pub later_kinds : Machine → List Kind
+later_kinds m = sprint_kind m.sprints ∷ saved_kinds m
+
 abbrev pub planned_kinds : Machine → List Kind
-planned_kinds m = sprint_kind m.sprints ∷ saved_kinds m
+planned_kinds m = external_kind m.externals ∷ later_kinds m
 
 -- those behind setup and present
 abbrev pub other_kinds : Machine → List Kind

@@ -64,7 +64,7 @@ stepped_reranks m (Moving from to) count is has = by (planned m.order from to co
 
 call_reranks : (m : Machine) (user : ℕ) (c : Call) → HasRanks m → rebalances c ≡ true → Reranks m (next_after (meaning_for m user c) m)
 unfolding meaning_for
-call_reranks m user (call.Create project issue_type summary given) has is = absurd (cc)
+call_reranks m user (call.Create project issue_type summary given external) has is = absurd (cc)
 call_reranks m user (call.Edit issue given) has is = absurd (cc)
 call_reranks m user (call.Transition issue transition given) has is = absurd (cc)
 call_reranks m user (call.Tick to) has is = absurd (cc)
@@ -86,6 +86,7 @@ call_reranks m user (call.Board board_no part) has is = absurd (cc)
 call_reranks m user (call.MakeSprint name) has is = absurd (cc)
 call_reranks m user (call.StartSprint sprint) has is = absurd (cc)
 call_reranks m user (call.CloseSprint sprint) has is = absurd (cc)
+call_reranks m user (call.SetGroup group members) has is = absurd (cc)
 call_reranks m user (call.Burndown sprint part) has is = absurd (cc)
 
 asked_reranks : (m : Machine) (asked : Result (List ℕ × Call) Refusal) → HasRanks m → asks_to_rebalance asked ≡ true → Reranks m (asked_next m asked)

@@ -51,6 +51,7 @@ unmarked old new line user c (refusal.SprintIs p) asked due same = refused old n
 unmarked old new line user c (refusal.Limit l) asked due same = refused old new line user c (refusal.Limit l) asked due same
 unmarked old new line user c (refusal.Earlier k) asked due same = refused old new line user c (refusal.Earlier k) asked due same
 unmarked old new line user c (refusal.BalanceIs balance) asked due same = refused old new line user c (refusal.BalanceIs balance) asked due same
+unmarked old new line user c (refusal.ExternalIs external kept) asked due same = refused old new line user c (refusal.ExternalIs external kept) asked due same
 
 performed : (old new : Machine) (line user : List ℕ) (c : Call) (r : Reply) → line_of line ≡ Ok (user, c) → Performs (meaning old user c) old r new → RepliesTo old line r new
 performed old new line user c (reply.Ok a) asked step = answered old new line user c (meaning old user c) a asked refl step.0 step.1

@@ -1,6 +1,6 @@
 -- After any lines each issue has one rank, which no other one has.
 use Rattle.std.proofs.Common.{◌≡◌, ℕ, ◌+◌, Bool, true, false, List, [], ◌∷◌, length, Option, Some, None, Result, Ok, Err, bytes_eq, refl, sym, ◌∙◌, subst, arith}
-use Rattle.std.specs.Prelude.{if◌then◌else◌}
+use Rattle.std.specs.Prelude.{unwrap_or, if◌then◌else◌}
 use Rattle.std.proofs.lemmas.List.{length-append}
 use Rattle.field_values.specs.declared.numbers.IssueNo.{IssueNo}
 use Rattle.change_history.specs.declared.change.Change.{Change}
@@ -22,6 +22,7 @@ use Rattle.tracker_ranks.proofs.Keeping.{no_issue_is_ranked, numbers_are_ranked,
 use Rattle.fields.specs.SetupParts.{names_in}
 use Rattle.tracker_calls.specs.declared.call.Call.{Call}
 use Rattle.tracker_calls.specs.declared.call.Call.TheVariants as call
+use Rattle.tracker_calls.specs.declared.given.GivenField.{GivenField}
 use Rattle.tracker_calls.specs.declared.reply.Refusal.{Refusal}
 use Rattle.tracker_calls.specs.Asked.{line_of}
 use Rattle.tracker_machine.specs.Machine.{Machine}
@@ -32,7 +33,7 @@ use Rattle.tracker_machine.specs.Effect.Effect.{NewRank}
 use Rattle.tracker_machine.specs.Meaning.{Meaning, unless, next_after}
 use Rattle.tracker_machine.specs.Meaning.Meaning.{Tells, Makes}
 use Rattle.tracker_machine.specs.Rank.{with_given, last_rank, moved_rank, has_rank}
-use Rattle.tracker_machine.specs.Create.{create_refusal, create_wants, created, spelled_key}
+use Rattle.tracker_machine.specs.Create.{create_refusal, issue_called, is_created_as, called_before, new_issue_refusal, create_wants, created, create_or_tell, spelled_key}
 use Rattle.tracker_machine.specs.Wanted.{changes_of}
 use Rattle.tracker_machine.specs.Move.{move_meaning, move_refusal, move_answer, moved_beside, newly_ranked}
 use Rattle.tracker_machine.specs.Rebalance.{started, stepped, with_planned}
@@ -41,7 +42,7 @@ use Rattle.tracker_machine.specs.Checks.{caller_refusal}
 use Rattle.tracker_machine.specs.Run.{Mark, plain, memory, keeper, asked_next, marked_next}
 use Rattle.tracker_machine.specs.RankLaws.{TrackersHaveRanks, NewTrackersHaveRanks, RunsKeepRanks}
 use Rattle.tracker_machine.proofs.Tracker.{runs_on}
-use Rattle.tracker_machine.proofs.Plain.{plain_keeps, edit_plain, transition_plain, tick_plain, show_plain, history_plain, search_plain, ranks_plain, save_filter_plain, drop_filter_plain, filter_plain, make_board_plain, drop_board_plain, board_plain, make_sprint_plain, start_sprint_plain, close_sprint_plain, burndown_plain}
+use Rattle.tracker_machine.proofs.Plain.{plain_keeps, called_plain, edit_plain, transition_plain, tick_plain, show_plain, history_plain, search_plain, ranks_plain, save_filter_plain, drop_filter_plain, filter_plain, make_board_plain, drop_board_plain, board_plain, make_sprint_plain, start_sprint_plain, close_sprint_plain, set_group_plain, burndown_plain}
 use Rattle.tracker_machine.proofs.Placed.{apart, are_numbered}
 
 -- each issue has its rank after what a call means
@@ -64,17 +65,30 @@ given_keeps m (Err sides) due has keeps = has
 
 -- ---- a new issue
 
-issue_keeps : (m : Machine) (h : History) (rank : RankParts) → HasRanks m → h.no.0 ≡ length m.histories + 1 → last_rank m ≡ Ok rank → HasRanks (with_issue m h rank)
-issue_keeps m h rank has number given = record {
+issue_keeps : (m : Machine) (h : History) (rank : RankParts) (external : Option (List ℕ)) → HasRanks m → h.no.0 ≡ length m.histories + 1 → last_rank m ≡ Ok rank
+    → HasRanks (with_issue m h rank external)
+issue_keeps m h rank external has number given = record {
   numbers = runs_on 1 m.histories h has.numbers (omega (arith, number));
   each = omega (arith, length-append m.order ((rank, h.no) ∷ []), length-append m.histories (h ∷ []), has.each);
   ranked = (new_issues_go_last m.order m.balance h.no rank has.ranked (record { number = omega (arith, number, has.each); given = given })).ranked;
 }
 
-created_keeps : (m : Machine) (caller : ℕ) (project : List ℕ) (changes : List Change) → HasRanks m → Keeps m (with_given (last_rank m) (created m caller project changes))
+created_keeps : (m : Machine) (caller : ℕ) (project : List ℕ) (external : Option (List ℕ)) (changes : List Change) → HasRanks m
+    → Keeps m (with_given (last_rank m) (created m caller project external changes))
 unfolding applied
-created_keeps m caller project changes has =
-    given_keeps m (last_rank m) (created m caller project changes) has (λ rank given. issue_keeps m _ rank has refl given)
+created_keeps m caller project external changes has =
+    given_keeps m (last_rank m) (created m caller project external changes) has (λ rank given. issue_keeps m _ rank external has refl given)
+
+-- an issue that has the external id already is told, or refuses the call
+create_keeps : (m : Machine) (caller : ℕ) (project issue_type summary : List ℕ) (given : List GivenField) (external : Option (List ℕ)) (called : Option History) → HasRanks m
+    → Keeps m (create_or_tell m caller project issue_type summary given external called)
+create_keeps m caller project issue_type summary given external None has =
+    let changes : List Change = changes_of (names_in m.setup) (create_wants m.setup caller issue_type summary given) in
+    unless_keeps m (new_issue_refusal m caller issue_type summary given) (with_given (last_rank m) (created m caller project external changes)) has
+    (created_keeps m caller project external changes has)
+create_keeps m caller project issue_type summary given external (Some h) has =
+    let same : Bool = is_created_as m project issue_type summary h in
+    plain_keeps (called_before same (unwrap_or external []) h) m (called_plain same (unwrap_or external []) h) has
 
 -- ---- a move
 
@@ -141,10 +155,9 @@ stepped_keeps m (Moving from to) count is has = by (planned m.order from to coun
 
 call_keeps : (m : Machine) (user : ℕ) (c : Call) → HasRanks m → form_refusal c ≡ None → Keeps m (meaning_for m user c)
 unfolding meaning_for form_refusal
-call_keeps m user (call.Create project issue_type summary given) has form =
-    let changes : List Change = changes_of (names_in m.setup) (create_wants m.setup user issue_type summary given) in
-    unless_keeps m (create_refusal m user project issue_type summary given) (with_given (last_rank m) (created m user (spelled_key m project) changes)) has
-    (created_keeps m user (spelled_key m project) changes has)
+call_keeps m user (call.Create project issue_type summary given external) has form =
+    unless_keeps m (create_refusal m user project given) (create_or_tell m user (spelled_key m project) issue_type summary given external (issue_called m external)) has
+    (create_keeps m user (spelled_key m project) issue_type summary given external (issue_called m external) has)
 call_keeps m user (call.Edit issue given) has form = plain_keeps _ m (edit_plain m user issue given) has
 call_keeps m user (call.Transition issue transition given) has form = plain_keeps _ m (transition_plain m user issue transition given) has
 call_keeps m user (call.Tick to) has form = plain_keeps _ m (tick_plain m to) has
@@ -166,6 +179,7 @@ call_keeps m user (call.Board board_no part) has form = plain_keeps _ m (board_p
 call_keeps m user (call.MakeSprint name) has form = plain_keeps _ m (make_sprint_plain m user name) has
 call_keeps m user (call.StartSprint sprint) has form = plain_keeps _ m (start_sprint_plain m user sprint) has
 call_keeps m user (call.CloseSprint sprint) has form = plain_keeps _ m (close_sprint_plain m user sprint) has
+call_keeps m user (call.SetGroup group members) has form = plain_keeps _ m (set_group_plain m user group members) has
 call_keeps m user (call.Burndown sprint part) has form = plain_keeps _ m (burndown_plain m user sprint part) has
 
 pub next_keeps : (m : Machine) (caller : List ℕ) (c : Call) → HasRanks m → HasRanks (next_of m caller c)

@@ -29,6 +29,7 @@ use Rattle.tracker_machine.specs.Search.{found}
 use Rattle.tracker_machine.specs.Meaning.{unless}
 use Rattle.tracker_machine.specs.Filters.{filters_refusal, saved, save_filter_meaning, owner_refusal, drop_filter_meaning, filter_numbered}
 use Rattle.tracker_machine.specs.Boards.{make_board_meaning, drop_board_meaning}
+use Rattle.tracker_machine.specs.Members.{set_group_meaning}
 use Rattle.tracker_machine.specs.Sprints.{make_sprint_meaning, start_sprint_meaning, close_sprint_meaning, burndown_answer, burndown_meaning}
 use Rattle.tracker_machine.proofs.Alike.{reranked}
 
@@ -157,3 +158,9 @@ module _ (m : Machine) (order : List Pair) (balance : Balance) where
   pub burndown_same : (caller : ℕ) (sprint : SprintNo) (part : Part) → burndown_meaning new caller sprint part ≡ burndown_meaning m caller sprint part
   unfolding burndown_answer
   burndown_same caller sprint part = refl
+
+  -- ---- groups
+
+  pub set_group_same : (caller : ℕ) (group : List ℕ) (names : List (List ℕ)) → set_group_meaning new caller group names ≡ set_group_meaning m caller group names
+  unfolding set_group_meaning
+  set_group_same caller group names = refl

@@ -7,7 +7,9 @@ use Rattle.std.proofs.lemmas.List.{map-append, map-set, length-map}
 use Rattle.std.proofs.lemmas.Option.{slice_get_within, get_or_from_slice_get}
 use Rattle.field_values.specs.declared.field.Field.{Field}
 use Rattle.field_values.specs.declared.numbers.FieldNo.{FieldNo}
+use Rattle.field_values.specs.declared.numbers.GroupNo.{GroupNo}
 use Rattle.field_values.specs.declared.numbers.SprintNo.{SprintNo}
+use Rattle.field_values.specs.declared.numbers.UserNo.{UserNo}
 use Rattle.field_values.specs.declared.numbers.TheConstants.FieldNo as number
 use Rattle.field_values.specs.declared.value.Value.TheVariants as value
 use Rattle.field_values.specs.declared.words.FieldKind.{FieldKind}
@@ -32,7 +34,7 @@ use Rattle.tracker_work.specs.Seen.{with_sprint as with_sprint_seen, with_state 
 use Rattle.tracker_machine.specs.Machine.{Machine}
 use Rattle.tracker_machine.specs.SprintRules.{phase_of, with_future, in_state, is_in_sprint, is_sprint, IsInSprints}
 use Rattle.tracker_machine.specs.Tracker.{Holds, IsTracker}
-use Rattle.tracker_machine.specs.Effect.{with_issue, with_group, grown, with_sprint, with_state}
+use Rattle.tracker_machine.specs.Effect.{with_issue, with_group_members, with_group, grown, with_sprint, with_state}
 use Rattle.tracker_machine.specs.Search.{surroundings_in}
 use Rattle.tracker_machine.specs.Sprints.{next_sprint, work_of}
 use Rattle.tracker_machine.proofs.Settled.{settled_at}
@@ -157,8 +159,11 @@ work_of_state m sprint state = by (sprint_of m.sprints sprint.0)
 pub work_of_sprint : (m : Machine) (name : List ℕ) → with_sprint_seen (work_of m) name ≡ work_of (with_sprint m name)
 work_of_sprint m name = refl
 
-pub work_of_issue : (m : Machine) (h : History) (rank : RankParts) → with_histories (work_of m) (m.histories ++ h ∷ []) ≡ work_of (with_issue m h rank)
-work_of_issue m h rank = refl
+pub work_of_issue : (m : Machine) (h : History) (rank : RankParts) (external : Option (List ℕ)) → with_histories (work_of m) (m.histories ++ h ∷ []) ≡ work_of (with_issue m h rank external)
+work_of_issue m h rank external = refl
+
+pub work_of_members : (m : Machine) (group : GroupNo) (members : List UserNo) → work_of m ≡ work_of (with_group_members m group members)
+work_of_members m group members = refl
 
 pub work_of_group : (m : Machine) (place : ℕ) (group : Group) → with_histories (work_of m) (grown m.histories place group.entries) ≡ work_of (with_group m place group)
 work_of_group m place group = refl

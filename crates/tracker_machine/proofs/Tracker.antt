@@ -1,6 +1,7 @@
 -- What holds of every tracker holds after each change.
 use Rattle.std.proofs.Common.{◌≡◌, ℕ, zero, suc, ◌+◌, ◌<◌, ◌≤◌, List, [], ◌∷◌, ◌++◌, length, slice_get, set, map, bytes_eq, Option, Some, None, refl, sym, ap, ◌∙◌, subst, arith, inl}
-use Rattle.std.specs.Prelude.{if◌then◌else◌, sum_by}
+use Rattle.std.specs.Prelude.{◌-◌, if◌then◌else◌, sum_by}
+use Rattle.std.specs.List.{All}
 use Rattle.std.specs.Option.{option_map_or}
 use Rattle.std.proofs.lemmas.List.{length-append, length-set}
 use Rattle.std.proofs.lemmas.List.Sums.{sum_by_push}
@@ -8,9 +9,12 @@ use Rattle.std.proofs.lemmas.List.Elements.{All-push, All-set}
 use Rattle.std.proofs.lemmas.Option.{get_or_from_slice_get}
 use Rattle.std.proofs.Math.Seq.{map-set_same}
 use Rattle.rising_numbers.specs.ByNumber.{put_by_number, without_number}
+use Rattle.field_values.specs.declared.numbers.GroupNo.{GroupNo}
 use Rattle.field_values.specs.declared.numbers.UserNo.{UserNo}
 use Rattle.field_values.specs.Parts.{Parts}
 use Rattle.field_values.specs.Years.{last_second}
+use Rattle.field_values.proofs.Members.{same_length}
+use Rattle.field_forms.specs.Known.{Names}
 use Rattle.change_history.specs.declared.entry.Entry.{Entry}
 use Rattle.change_history.specs.declared.entry.Group.{Group}
 use Rattle.change_history.specs.History.{History, MayAdd}
@@ -31,17 +35,19 @@ use Rattle.tracker_machine.specs.Machine.{Machine}
 use Rattle.sprints.specs.declared.sprint.Sprint.{Sprint}
 use Rattle.tracker_machine.specs.SprintRules.{with_future, in_state, BringsSprints, AreSprints}
 use Rattle.tracker_machine.specs.Saved.{SavedFilter, filter_number, board_number, without_boards_of, AreSaved}
-use Rattle.tracker_machine.specs.Effect.{Effect, applied, IsAllowed, with_issue, longer, with_group, with_new_rank, with_balance, with_moves}
-use Rattle.tracker_machine.specs.Effect.Effect.{NewMoment, NewIssue, NewGroup, NewRank, NewBalance, NewRanks, NewSprint, NewState, NewFilter, NoFilter, NewBoard, NoBoard}
+use Rattle.tracker_machine.specs.Effect.{Effect, applied, IsAllowed, with_external, with_issue, longer, with_group, with_new_rank, with_balance, with_moves, with_group_members, MayName, MayHave}
+use Rattle.tracker_machine.specs.Effect.Effect.{NewMoment, NewIssue, NewGroup, NewRank, NewBalance, NewRanks, NewSprint, NewState, NewFilter, NoFilter, NewBoard, NoBoard, NewMembers}
 use Rattle.fields.specs.Naming.{name_at, key_of}
 use Rattle.jql_meaning.specs.Comparison.{project_of}
 use Rattle.tracker_machine.specs.Known.{project_keys, issues_of}
 use Rattle.tracker_machine.specs.Checks.{entries_kept, bytes_kept, entry_bytes}
-use Rattle.tracker_machine.specs.Tracker.{AllEntriesFit, AllSmall, IsSettled, RunsFrom, RisesAbove, IsNextKey, AreKeyed, IsTracker, MayOpen, MayGroup}
+use Rattle.tracker_machine.specs.Tracker.{AllEntriesFit, AllSmall, IsSettled, RunsFrom, RisesAbove, IsNextKey, AreKeyed, AreExternals, HaveUsers, IsTracker, MayOpen, MayGroup}
 use Rattle.tracker_machine.proofs.Totals.{history_bytes-more, bytes_kept-push, bytes_kept-set, entries_kept-push, entries_kept-set}
 use Rattle.tracker_machine.proofs.Chronicle.{chronicle_next, chronicle_later, chronicle_nil, change_pushed, change_added, groups_more, groups_kept-push, groups_kept-set}
 use Rattle.tracker_machine.proofs.Saved.{no_filters, filter_saved, filter_dropped, board_made, board_dropped}
 use Rattle.tracker_machine.proofs.SprintRules.{no_sprints, sprints_later, sprints_push, sprint_made, sprint_turned, sprints_grown}
+use Rattle.tracker_machine.proofs.Externals.{no_externals, externals_more}
+use Rattle.tracker_machine.proofs.Regrouped.{names_regrouped, saved_regrouped, keyed_regrouped, have_users_set}
 use Rattle.tracker_machine.proofs.Settled.{at_place, from_found, all_settled_later, settled_new, settled_added, settled_at}
 
 -- ---- lists with one more
@@ -99,8 +105,9 @@ keyed_set setup before (h ∷ hs) (suc k) old new at same keyed = (keyed.0, keye
 
 -- ---- a new tracker
 
-pub tracker_opening : (text : List ℕ) (setup : Parts) (moment : ℕ) → moment ≤ last_second → IsTracker (record { text = text; setup = setup; moment = moment; change = 0; histories = []; order = []; balance = Idle 0; sprints = []; filters = []; boards = [] })
-tracker_opening text setup moment timely = record {
+pub tracker_opening : (text : List ℕ) (setup : Parts) (moment : ℕ) → moment ≤ last_second → HaveUsers (length setup.users) setup.group → length setup.group ≤ 100
+    → IsTracker (record { text = text; setup = setup; moment = moment; change = 0; histories = []; externals = []; order = []; balance = Idle 0; sprints = []; filters = []; boards = [] })
+tracker_opening text setup moment timely users few = record {
   few_issues = omega arith;
   few_entries = omega arith;
   few_bytes = omega arith;
@@ -109,6 +116,9 @@ tracker_opening text setup moment timely = record {
   each = refl;
   ranked = no_issue_is_ranked 0 (omega arith);
   keys = tt;
+  externals = no_externals 0;
+  members = users;
+  few_groups = few;
   numbered = omega arith;
   rising = tt;
   chronicle = chronicle_nil moment 0;
@@ -129,6 +139,9 @@ tracker_later m now later timely is = record {
   each = is.each;
   ranked = is.ranked;
   keys = is.keys;
+  externals = is.externals;
+  members = is.members;
+  few_groups = is.few_groups;
   numbered = is.numbered;
   rising = is.rising;
   chronicle = chronicle_later m.histories m.moment now m.change later is.chronicle;
@@ -139,9 +152,9 @@ tracker_later m now later timely is = record {
 
 -- ---- an issue
 
-pub tracker_push : (m : Machine) (h : History) (rank : RankParts) → IsTracker m → MayOpen m h → IsNext m.order m.balance h.no rank
-    → IsTracker (with_issue m h rank)
-tracker_push m h rank is may next = record {
+pub tracker_push : (m : Machine) (h : History) (rank : RankParts) (external : Option (List ℕ)) → IsTracker m → MayOpen m h → IsNext m.order m.balance h.no rank
+    → MayName m.externals external → IsTracker (with_issue m h rank external)
+tracker_push m h rank external is may next named = record {
   few_issues = omega (arith, length-append m.histories (h ∷ []), may.few);
   few_entries = omega (arith, entries_kept-push m.histories h, is.few_entries, ap (λ (es : List Entry). length es) may.entries);
   few_bytes = omega (arith, bytes_kept-push m.histories h, may.light);
@@ -150,6 +163,10 @@ tracker_push m h rank is may next = record {
   each = omega (arith, length-append m.order ((rank, h.no) ∷ []), length-append m.histories (h ∷ []), is.each);
   ranked = (new_issues_go_last m.order m.balance h.no rank is.ranked next).ranked;
   keys = keyed_on m.setup [] m.histories h is.keys may.key;
+  externals = subst (λ issues. AreExternals issues (with_external m.externals h.no external)) (sym (length-append m.histories (h ∷ [])))
+      (externals_more (length m.histories) m.externals h.no external is.externals may.no named);
+  members = is.members;
+  few_groups = is.few_groups;
   numbered = omega (arith, groups_kept-push m.histories h, length-append m.histories (h ∷ []), is.numbered);
   rising = rises_on 0 m.histories h is.rising (omega (arith, may.change))
       (λ k g at. omega (arith, may.change, (is.chronicle.known k g.change g.at (g, at, inl (refl, refl))).1));
@@ -183,6 +200,9 @@ tracker_add m k h author es is at may fit small brings user few light =
       each = omega (arith, same, is.each);
       ranked = is.ranked;
       keys = keyed_set m.setup [] m.histories k h new at refl is.keys;
+      externals = subst (λ issues. AreExternals issues m.externals) (sym same) is.externals;
+      members = is.members;
+      few_groups = is.few_groups;
       numbered = omega (arith, same, is.numbered, groups_kept-set m.histories k h new at, groups_more h (m.change + 1) m.moment author es may);
       rising = subst (RisesAbove 0) (sym (stays (λ h. h.change) m.histories k h new at refl)) is.rising;
       chronicle = chronicle_next m.histories (set m.histories k new) m.moment m.change k is.chronicle (change_added m.histories k h m.moment m.change author es at may.group);
@@ -207,6 +227,9 @@ with_order m order balance is same ranked = record {
   each = omega (arith, same, is.each);
   ranked = ranked;
   keys = is.keys;
+  externals = is.externals;
+  members = is.members;
+  few_groups = is.few_groups;
   numbered = is.numbered;
   rising = is.rising;
   chronicle = is.chronicle;
@@ -246,6 +269,9 @@ with_sprints m sprints is are = record {
   each = is.each;
   ranked = is.ranked;
   keys = is.keys;
+  externals = is.externals;
+  members = is.members;
+  few_groups = is.few_groups;
   numbered = is.numbered;
   rising = is.rising;
   chronicle = is.chronicle;
@@ -267,12 +293,39 @@ with_saved m filters boards is saved = record {
   each = is.each;
   ranked = is.ranked;
   keys = is.keys;
+  externals = is.externals;
+  members = is.members;
+  few_groups = is.few_groups;
   numbered = is.numbered;
   rising = is.rising;
   chronicle = is.chronicle;
   settled = is.settled;
   sprints = is.sprints;
   saved = saved;
+}
+
+-- ---- members
+
+pub tracker_regrouped : (m : Machine) (group : GroupNo) (members : List UserNo) → IsTracker m → MayHave m.setup group members
+    → IsTracker (with_group_members m group members)
+tracker_regrouped m group members is may = record {
+  few_issues = is.few_issues;
+  few_entries = is.few_entries;
+  few_bytes = is.few_bytes;
+  timely = is.timely;
+  numbers = is.numbers;
+  each = is.each;
+  ranked = is.ranked;
+  keys = keyed_regrouped m.setup group members [] m.histories is.keys;
+  externals = is.externals;
+  members = have_users_set (length m.setup.users) m.setup.group (group.0 - 1) members may.listed is.members;
+  few_groups = omega (arith, same_length m.setup.group (group.0 - 1) members, is.few_groups);
+  numbered = is.numbered;
+  rising = is.rising;
+  chronicle = is.chronicle;
+  settled = subst (λ (names : Names). All (IsSettled names m.moment m.change) m.histories) (sym (names_regrouped m.setup group members)) is.settled;
+  sprints = is.sprints;
+  saved = saved_regrouped m.setup group members m.filters m.boards is.saved;
 }
 
 -- ---- each effect
@@ -289,7 +342,7 @@ group_applied m place g h is may at =
 pub tracker_applied : (effect : Effect) (m : Machine) → IsAllowed effect m → IsTracker m → IsTracker (applied effect m)
 unfolding applied IsAllowed
 tracker_applied (NewMoment to) m may is = tracker_later m to may.0 may.1 is
-tracker_applied (NewIssue h rank) m may is = tracker_push m h rank is may.0 may.1
+tracker_applied (NewIssue h rank external) m may is = tracker_push m h rank external is may.0 may.1 may.2
 tracker_applied (NewGroup place g) m may is = let found = at_place m.histories place may.there in group_applied m place g found.0 is may found.1
 tracker_applied (NewRank issue rank) m may is = tracker_ranked m issue rank is may
 tracker_applied (NewBalance balance) m may is = tracker_started m balance is may
@@ -307,3 +360,4 @@ tracker_applied (NewBoard b) m may is =
     with_saved m m.filters (put_by_number board_number b m.boards) is (board_made m.setup m.filters m.boards is.saved b may)
 tracker_applied (NoBoard board_no) m may is =
     with_saved m m.filters (without_number board_number board_no.0 m.boards) is (board_dropped m.setup m.filters m.boards is.saved board_no)
+tracker_applied (NewMembers group members) m may is = tracker_regrouped m group members is may

@@ -74,6 +74,7 @@ tracker order balance = record {
   moment = 0;
   change = 3;
   histories = issue 1 (codes "OPS-1") ∷ issue 2 (codes "OPS-2") ∷ issue 3 (codes "OPS-3") ∷ [];
+  externals = [];
   order = order;
   balance = balance;
   sprints = [];

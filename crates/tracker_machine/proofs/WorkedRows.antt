@@ -64,7 +64,7 @@ holding n v = record { field = record { 0 = n }; to = v }
 abbrev changed : ℕ → Value → Value → Entry
 changed n v w = record { change = 3; at = 60; author = user 1; field = record { 0 = n }; from = v; to = w }
 
-abbrev issue : ℕ → List ℕ → ℕ → List Entry → History
+abbrev pub issue : ℕ → List ℕ → ℕ → List Entry → History
 issue n key change entries = record {
   no = record { 0 = n };
   key = key;
@@ -85,7 +85,7 @@ rank bucket front = record { bucket = bucket; front = front; further = [] }
 abbrev first : RankParts
 first = rank 0 (18 ∷ 0 ∷ 0 ∷ 0 ∷ 0 ∷ 0 ∷ [])
 
-abbrev second : RankParts
+abbrev pub second : RankParts
 second = rank 0 (18 ∷ 0 ∷ 0 ∷ 6 ∷ 11 ∷ 20 ∷ [])
 
 abbrev ahead : RankParts
@@ -105,6 +105,7 @@ tracker = record {
   moment = 90;
   change = 3;
   histories = issue 1 (codes "OPS-1") 1 entries ∷ issue 2 (codes "OPS-2") 2 [] ∷ [];
+  externals = [];
   order = (first, numbered 1) ∷ (second, numbered 2) ∷ [];
   balance = Idle 0;
   sprints = [];
@@ -116,7 +117,7 @@ pub row_of_the_setup : rows_of tracker 1 0 ≡ Some (codes "a setup's text")
 unfolding rows_of part_at body_text
 row_of_the_setup = refl
 
-pub row_of_the_moment : rows_of tracker 2 0 ≡ Some (codes "{\"balance\":[0],\"change\":3,\"format\":1,\"moment\":90}")
+pub row_of_the_moment : rows_of tracker 2 0 ≡ Some (codes "{\"balance\":[0],\"change\":3,\"format\":2,\"moment\":90}")
 unfolding rows_of part_at body_text present_data digits serde_json_on_literals
 row_of_the_moment = refl
 
@@ -147,14 +148,14 @@ abbrev group : Group
 group = record { change = 3; at = 60; author = user 1; entries = entries }
 
 pub operations_of_a_group : ops_of (NewGroup 0 group) tracker_before
-    ≡ Put (record { kind = 2; no = 0; body = codes "{\"balance\":[0],\"change\":3,\"format\":1,\"moment\":60}" })
+    ≡ Put (record { kind = 2; no = 0; body = codes "{\"balance\":[0],\"change\":3,\"format\":2,\"moment\":60}" })
     ∷ Put (record { kind = 4; no = 3; body = codes "{\"at\":60,\"author\":\"bo\",\"entries\":[[\"status\",\"Open\",\"Done\"],[\"assignee\",null,\"anna\"]],\"issue\":1}" })
     ∷ []
 unfolding ops_of parts_of body_text present_data group_data choices_of digits serde_json_on_literals
 operations_of_a_group = refl
 
 -- before the second issue
-abbrev tracker_of_one : Machine
+abbrev pub tracker_of_one : Machine
 tracker_of_one = record tracker {
   moment = 0;
   change = 1;
@@ -162,8 +163,8 @@ tracker_of_one = record tracker {
   order = (first, numbered 1) ∷ [];
 }
 
-pub operations_of_an_issue : ops_of (NewIssue (issue 2 (codes "OPS-2") 2 []) second) tracker_of_one
-    ≡ Put (record { kind = 2; no = 0; body = codes "{\"balance\":[0],\"change\":2,\"format\":1,\"moment\":0}" })
+pub operations_of_an_issue : ops_of (NewIssue (issue 2 (codes "OPS-2") 2 []) second None) tracker_of_one
+    ≡ Put (record { kind = 2; no = 0; body = codes "{\"balance\":[0],\"change\":2,\"format\":2,\"moment\":0}" })
     ∷ Put (record { kind = 3; no = 2; body = codes "{\"at\":0,\"author\":\"anna\",\"change\":2,\"fields\":{\"status\":\"Open\",\"summary\":\"Fix login\",\"type\":\"Task\"},\"key\":\"OPS-2\"}" })
     ∷ Put (record { kind = 5; no = 2; body = codes "0|i006bk:" })
     ∷ []
@@ -176,13 +177,13 @@ unfolding ops_of parts_of body_text
 operations_of_a_move = refl
 
 pub operations_of_a_start : ops_of (NewBalance (Moving 0 1)) tracker
-    ≡ Put (record { kind = 2; no = 0; body = codes "{\"balance\":[0,1],\"change\":3,\"format\":1,\"moment\":90}" }) ∷ []
+    ≡ Put (record { kind = 2; no = 0; body = codes "{\"balance\":[0,1],\"change\":3,\"format\":2,\"moment\":90}" }) ∷ []
 unfolding ops_of parts_of body_text present_data digits serde_json_on_literals
 operations_of_a_start = refl
 
 -- the first of two picks: the balance still moves
 pub operations_of_a_step : ops_of (NewRanks ((numbered 2, stepped) ∷ [])) (record tracker { balance = Moving 0 1 })
-    ≡ Put (record { kind = 2; no = 0; body = codes "{\"balance\":[0,1],\"change\":3,\"format\":1,\"moment\":90}" })
+    ≡ Put (record { kind = 2; no = 0; body = codes "{\"balance\":[0,1],\"change\":3,\"format\":2,\"moment\":90}" })
     ∷ Put (record { kind = 5; no = 2; body = codes "1|r00000:" })
     ∷ []
 unfolding ops_of parts_of body_text present_data digits serde_json_on_literals
@@ -190,7 +191,7 @@ operations_of_a_step = refl
 
 pub operations_of_a_new_tracker : opening_ops (opening (codes "a setup's text") setup)
     ≡ Put (record { kind = 1; no = 0; body = codes "a setup's text" })
-    ∷ Put (record { kind = 2; no = 0; body = codes "{\"balance\":[0],\"change\":0,\"format\":1,\"moment\":0}" })
+    ∷ Put (record { kind = 2; no = 0; body = codes "{\"balance\":[0],\"change\":0,\"format\":2,\"moment\":0}" })
     ∷ []
 unfolding opening_ops body_text present_data digits serde_json_on_literals
 operations_of_a_new_tracker = refl

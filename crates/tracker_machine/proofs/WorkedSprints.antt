@@ -129,7 +129,7 @@ comes_in = refl
 abbrev closed : Machine
 closed = after (after active put_in) (close 1)
 
-pub create_is_refused : tells closed (call.Create (codes "OPS") (codes "Task") (codes "Fix login") (with_sprint_of 1)) ≡ reply.Refused (refusal.SprintIs phase.Closed)
+pub create_is_refused : tells closed (call.Create (codes "OPS") (codes "Task") (codes "Fix login") (with_sprint_of 1) None) ≡ reply.Refused (refusal.SprintIs phase.Closed)
 unfolding reply_of next_of meaning meaning_for form_refusal applied field_named project_number field_at_fault fits form_of changes_of net_changes chars
 create_is_refused = refl
 

@@ -1,5 +1,5 @@
 -- What is proved of the abstract tracker.
-use Rattle.std.specs.Prelude.{◌≡◌, ℕ, ◌<◌, ◌^◌, List, false, length, slice_get, None, Some}
+use Rattle.std.specs.Prelude.{◌≡◌, ℕ, ◌<◌, ◌≤◌, ◌^◌, List, false, length, slice_get, None, Some}
 use Rattle.std.specs.List.{All, list_any}
 use Rattle.field_values.specs.Parts.{Parts}
 use Rattle.field_forms.specs.Values.{is_before}
@@ -36,10 +36,10 @@ abbrev pub OperationsAreSmall : Type 0
 OperationsAreSmall = (effect : Effect) (m : Machine) → IsAllowed effect m → IsTracker m → AreSmallOps (ops_of effect m)
 
 abbrev pub OpeningIsSmall : Type 0
-OpeningIsSmall = (m : Machine) → AreSmallOps (opening_ops m)
+OpeningIsSmall = (m : Machine) → length m.setup.group ≤ 100 → AreSmallOps (opening_ops m)
 
 abbrev pub MigrationsAreSmall : Type 0
-MigrationsAreSmall = (m : Machine) → AreSmallOps (migrating_ops m)
+MigrationsAreSmall = (m : Machine) → IsTracker m → AreSmallOps (migrating_ops m)
 
 -- each part of a tracker is one that may be kept, of the kind and the number that it is kept under
 abbrev pub PartsMayBeKept : Type 0

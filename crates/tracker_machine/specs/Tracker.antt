@@ -142,6 +142,7 @@ pub record IsTracker (m : Machine) : Type 0 where
   pub keys : AreKeyed m.setup [] m.histories
   pub externals : AreExternals (length m.histories) m.externals
   pub members : HaveUsers (length m.setup.users) m.setup.group
+  pub few_groups : length m.setup.group ≤ 100
   -- the number of the last change is at most that of the issues and the groups, and the creations are by rising numbers
   pub numbered : m.change ≤ length m.histories + groups_kept m.histories
   pub rising : RisesAbove 0 (map (λ h. h.change) m.histories)

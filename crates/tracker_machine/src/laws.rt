@@ -1,7 +1,7 @@
 ghost use Rattle.std.specs.Prelude.{◌≡◌, codes};
 ghost use Rattle.tracker_calls.specs.Reply.{reply_text};
 ghost use Rattle.tracker_machine.specs.RankLaws.{TrackersHaveRanks, NewTrackersHaveRanks, RunsKeepRanks, MovesAreOfOneIssue, RebalancingShowsInRanksAlone, OthersLeaveRanks, RebalancingsEnd};
-ghost use Rattle.tracker_machine.specs.Laws.{EffectsKeepTrackers, OperationsKeepEffects, OperationsOpenTrackers, OperationsAreSmall, OpeningIsSmall, PartsMayBeKept, EffectsMayBeKept, OpeningMayBeKept, FirstNameIsLeast};
+ghost use Rattle.tracker_machine.specs.Laws.{EffectsKeepTrackers, OperationsKeepEffects, OperationsOpenTrackers, OperationsAreSmall, OpeningIsSmall, MigrationsAreSmall, PartsMayBeKept, EffectsMayBeKept, OpeningMayBeKept, MigrationMayBeKept, FirstNameIsLeast};
 
 use tracker_calls::{Refusal, Reply};
 
@@ -33,18 +33,21 @@ pub fn operations_keep_effects()
 {}
 
 /// The numbers of all rows are below 2^63, which a table of signed numbers can hold.
-#[tactic(auto, using(crate::proofs::Kept::ops_small, crate::proofs::Kept::opening_small))]
+#[tactic(auto, using(crate::proofs::Kept::ops_small, crate::proofs::Kept::opening_small, crate::proofs::Kept::migrating_small))]
 pub fn operations_are_small()
     ensures later { OperationsAreSmall }
     ensures opening { OpeningIsSmall }
+    ensures migration { MigrationsAreSmall }
 {}
 
-/// Each part of a tracker, each part that an effect puts and each part of a new tracker may be kept, so that it has a body.
-#[tactic(auto, using(crate::proofs::Keepable::parts_kept, crate::proofs::Keepable::opening_kept))]
+/// Each part of a tracker, each part that an effect puts, each part of a new tracker and each that rows of the first format lack
+/// may be kept, so that it has a body.
+#[tactic(auto, using(crate::proofs::Keepable::parts_kept, crate::proofs::Keepable::opening_kept, crate::proofs::Keepable::migrating_kept))]
 pub fn parts_may_be_kept()
     ensures all { PartsMayBeKept }
     ensures later { EffectsMayBeKept }
     ensures opening { OpeningMayBeKept }
+    ensures migration { MigrationMayBeKept }
 {}
 
 /// The name in `set` that a call is refused for is the least in byte order of those that are refused.

@@ -1,4 +1,4 @@
-//! What a text asks for.
+// What a text asks for.
 ghost use Rattle.std.specs.Prelude.{◌≡◌, Ok, IfOk, IfErr, option_map};
 ghost use Rattle.fields.specs.SetupParts.{parts};
 ghost use Rattle.jql_syntax.specs.View.{view as tree};

@@ -27,6 +27,7 @@ its_own (reply.Refused (refusal.SprintIs p)) e = absurd (apart 49 57 (lit< tt) (
 its_own (reply.Refused (refusal.Limit l)) e = absurd (apart 108 110 (lit< tt) (ap (λ l. slice_index l 13) e))
 its_own (reply.Refused (refusal.Earlier k)) e = absurd (apart 107 110 (lit< tt) (ap (λ l. slice_index l 13) e))
 its_own (reply.Refused (refusal.BalanceIs balance)) e = absurd (apart 107 110 (lit< tt) (ap (λ l. slice_index l 13) e))
+its_own (reply.Refused (refusal.ExternalIs external kept)) e = absurd (apart 101 110 (lit< tt) (ap (λ l. slice_index l 13) e))
 its_own (reply.Refused refusal.Keeper) e = refl
 its_own (reply.Refused refusal.Memory) e = absurd (apart 52 53 (lit< tt) (sym (ap (λ l. slice_index l 18) e)))
 
