@@ -44,7 +44,7 @@ pub fn create(
     external: Option<&str>,
 ) -> Result<Prepared, Refusal>
     requires caller { caller.0 < length state.old.machine.setup.users }
-    requires external { IfSome external.entry (λ id. is_external id.now ≡ true) }
+    requires external { IfSome external (λ id. is_external id.now ≡ true) }
     ensures same { state.new.machine ≡ state.old.machine }
     ensures table { state.new.watched.views.table ≡ state.old.watched.views.table }
     ensures filters { state.new.watched.filters ≡ state.old.watched.filters }
@@ -78,7 +78,7 @@ fn due(
     external: Option<&str>,
 ) -> Result<Due, Refusal>
     requires setup { set.now.setup ≡ state.now.machine.setup }
-    requires external { IfSome external.entry (λ id. is_external id.now ≡ true) }
+    requires external { IfSome external (λ id. is_external id.now ≡ true) }
     ensures { ComesTo state.now.machine opening.entry.caller.0 (option_copied external.entry)
         (create_meaning state.now.machine opening.entry.caller.0 project.now opening.entry.issue_type.now opening.entry.summary.now
         set.now.set (option_copied external.entry)) result }
@@ -121,7 +121,7 @@ fn due_in(
     requires setup { set.now.setup ≡ state.now.machine.setup }
     requires there { project.0 < length state.now.machine.setup.project }
     requires known { GivesKnownSprint state.now.machine set.now.set }
-    requires external { IfSome external.entry (λ id. is_external id.now ≡ true) }
+    requires external { IfSome external (λ id. is_external id.now ≡ true) }
     ensures { ComesTo state.now.machine opening.entry.caller.0 (option_copied external.entry)
         (create_or_tell state.now.machine opening.entry.caller.0 (key_of_project state.now.machine project)
         opening.entry.issue_type.now opening.entry.summary.now set.now.set (option_copied external.entry)
@@ -138,7 +138,7 @@ fn due_in(
 
 // The place of the issue that has the external id, and that id, where one is given and there is such an issue.
 fn called<'a>(state: &State, external: Option<&'a str>) -> Option<(usize, &'a str)>
-    requires { IfSome external.entry (λ id. is_external id.now ≡ true) }
+    requires { IfSome external (λ id. is_external id.now ≡ true) }
     ensures issue { option_and_then (λ r. slice_get state.now.machine.histories r.0) result
         ≡ issue_called state.now.machine (option_copied external.entry) }
     ensures there { IfSome result (λ r. r.0 < length state.now.machine.histories) }

@@ -45,7 +45,7 @@ pub fn place_last(
 ) -> Result<Prepared, Refusal>
     requires may { MayBegin state.old.machine new }
     requires author { caller.0 < length state.old.machine.setup.users }
-    requires name { MayName state.old.machine.externals (option_copied external.entry) }
+    requires name { MayName state.old.machine.externals (option_copied external) }
     ensures same { state.new.machine ≡ state.old.machine }
     ensures table { state.new.watched.views.table ≡ state.old.watched.views.table }
     ensures filters { state.new.watched.filters ≡ state.old.watched.filters }
@@ -80,7 +80,7 @@ fn open(
     requires given { last_rank state.old.machine ≡ Ok rank }
     requires may { MayBegin state.old.machine values }
     requires author { caller.0 < length state.old.machine.setup.users }
-    requires name { MayName state.old.machine.externals (option_copied external.entry) }
+    requires name { MayName state.old.machine.externals (option_copied external) }
     ensures same { state.new.machine ≡ state.old.machine }
     ensures table { state.new.watched.views.table ≡ state.old.watched.views.table }
     ensures filters { state.new.watched.filters ≡ state.old.watched.filters }
