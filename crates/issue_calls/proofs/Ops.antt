@@ -10,7 +10,6 @@ use Rattle.change_history.specs.declared.change.Change.{Change}
 use Rattle.change_history.specs.declared.entry.Group.{Group}
 use Rattle.change_history.specs.History.{History}
 use Rattle.rank_strings.specs.Rank.{RankParts}
-use Rattle.sprints.specs.declared.sprint.Sprint.{Sprint}
 use Rattle.tracker_keeper.specs.declared.row.RowOp.TheVariants.{Put}
 use Rattle.tracker_keeper.specs.Bodies.{body_text}
 use Rattle.tracker_keeper.specs.Forms.{IsGroupEntry, is_small}

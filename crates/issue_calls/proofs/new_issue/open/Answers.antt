@@ -1,4 +1,4 @@
-use Rattle.std.proofs.Common.{◌≡◌, ◌≤◌, ◌<◌, ◌+◌, ℕ, List, Option, Some, None, IfSome, string_bytes, length, ◌∙◌, not, [], ◌∷◌, ap, sym, subst, refl, arith}
+use Rattle.std.proofs.Common.{◌≡◌, ◌≤◌, ◌<◌, ◌+◌, ℕ, List, Option, Some, None, IfSome, string_bytes, length, ◌∙◌, not, ◌∷◌, ap, sym, subst, refl, arith}
 use Rattle.field_values.specs.declared.numbers.ProjectNo.{ProjectNo}
 use Rattle.change_history.specs.History.{History}
 use Rattle.workflow.specs.Same.{is_empty}
