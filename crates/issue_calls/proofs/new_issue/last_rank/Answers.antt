@@ -5,7 +5,7 @@ use Rattle.board.specs.Moved.{IsRefusalOf}
 use Rattle.rank_balancer.specs.declared.balance.Balance.{Balance}
 use Rattle.tracker_ranks.specs.Ranked.{rank_for}
 use Rattle.tracker_machine.specs.Rank.{last_rank}
-use Rattle.issue_calls.proofs.create.last_rank.Goals as goal
+use Rattle.issue_calls.proofs.new_issue.last_rank.Goals as goal
 
 pub returns-in-Err-clause-check : goal.returns-in-Err-clause-check
 returns-in-Err-clause-check c =

@@ -9,7 +9,7 @@ use Rattle.tracker_machine.specs.Create.{create_wants, filled}
 use Rattle.tracker_machine.specs.Tracker.{AreNamed, AreSmall}
 use Rattle.wanted_values.proofs.Named.{created_named}
 use Rattle.issue_calls.proofs.Ops.{unfilled_small}
-use Rattle.issue_calls.proofs.create.check_create.Goals as goal
+use Rattle.issue_calls.proofs.create.check_values.Goals as goal
 
 pub returns-clause-named : goal.returns-clause-named
 returns-clause-named c =
