@@ -121,12 +121,7 @@ fn project_of(issue: &Issue) -> &str
 }
 
 // Whether the issue was created with the type of that name.
-fn has_type(
-    alloc: Global,
-    setup: &Setup,
-    issue: &Issue,
-    issue_type: &str,
-) -> Result<bool, Memory>
+fn has_type(alloc: Global, setup: &Setup, issue: &Issue, issue_type: &str) -> Result<bool, Memory>
     ensures { IfOk result (λ same. same ≡ is_value_of (names_in (parts setup.now)) number.TYPE.0 issue_type.now
         (opening_value issue.now.history.opening number.TYPE)) }
 {
