@@ -8,5 +8,6 @@ pub mod ranks;
 pub mod rebalance;
 pub mod remaining;
 mod rows;
+pub mod set_group;
 pub mod tick;
 pub mod turn_sprint;
