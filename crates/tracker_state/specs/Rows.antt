@@ -13,7 +13,7 @@ use Rattle.tracker_keeper.specs.declared.part.Format.TheVariants.{Second}
 use Rattle.tracker_keeper.specs.declared.row.RowOp.{RowOp}
 use Rattle.tracker_keeper.specs.declared.row.RowOp.TheVariants.{Put}
 use Rattle.tracker_keeper.specs.Bodies.{present_data}
-use Rattle.tracker_machine.specs.Kept.{external_part, members_part, put_part}
+use Rattle.tracker_machine.specs.Kept.{members_part, put_part}
 
 -- the operation that keeps where the tracker stands
 abbrev pub present_op : Balance → ℕ → ℕ → RowOp
@@ -24,8 +24,8 @@ abbrev pub rank_op : IssueNo → RankParts → RowOp
 rank_op issue rank = Put (record { kind = 5; no = issue.0; body = rank_text rank })
 
 -- the operation that keeps an issue's external id
-abbrev pub external_op : Parts → IssueNo → List ℕ → RowOp
-external_op setup issue id = put_part (names_in setup) (external_part (record { no = issue; id = id }))
+abbrev pub external_op : IssueNo → List ℕ → RowOp
+external_op issue id = Put (record { kind = 6; no = issue.0; body = id })
 
 -- the operation that keeps the members of a group
 abbrev pub members_op : Parts → GroupNo → List UserNo → RowOp

@@ -70,13 +70,14 @@ impl State {
     #[tactic(auto, unfolding(tracker_machine::specs::Effect::applied, tracker_machine::specs::Effect::IsAllowed))]
     fn push<L: Ledger>(&mut self, new: IssuePlan, steps: &mut Steps<L>)
         requires fits { IssueFits self.old new }
-        requires allowed { IsAllowed (NewIssue new.issue.history new.rank (id_of new.external)) self.old.machine }
+        requires allowed { IsAllowed (NewIssue new.issue.history new.rank (id_of new.external))
+            self.old.machine }
         ensures machine { self.new.machine
             ≡ applied (NewIssue new.issue.history new.rank (id_of new.external)) self.old.machine }
         ensures steps { steps.new ≡ steps.old + length self.old.watched.filters }
     {
         self.change += 1;
-        call_issue(&mut self.externals, new.issue.no(), new.external);
+        put_external(&mut self.externals, new.issue.no(), new.external);
         self.ranks.add(new.issue.no(), new.rank);
         self.filters
             .see_new(&new.issue, &self.setting.context, self.moment, steps);
@@ -216,7 +217,8 @@ impl State {
     fn regroup<L: Ledger>(&mut self, new: MembersPlan, steps: &mut Steps<L>)
         requires same { new.asked ≡ new.members }
         requires allowed { IsAllowed (NewMembers new.group new.members) self.old.machine }
-        ensures machine { self.new.machine ≡ applied (NewMembers new.group new.members) self.old.machine }
+        ensures machine { self.new.machine
+            ≡ applied (NewMembers new.group new.members) self.old.machine }
         ensures steps { steps.new ≡ steps.old
             + members_cost self.old.watched.filters (length self.old.machine.histories) }
     {
@@ -231,7 +233,7 @@ impl State {
 }
 
 // Has the external id of a new issue lead to it, if it has one.
-fn call_issue(externals: &mut ExternalIds, issue: IssueNo, external: Option<NewExternal>)
+fn put_external(externals: &mut ExternalIds, issue: IssueNo, external: Option<NewExternal>)
     requires same { IfSome external (λ e. string_bytes e.text ≡ e.id) }
     requires room { IfSome external (λ e. 1 ≤ externals.old.room) }
     requires free { IfSome external (λ e. external_named e.id externals.old.ids ≡ None) }

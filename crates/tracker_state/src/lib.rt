@@ -16,5 +16,7 @@ pub use check::{check_access, check_permission, known_issue, malformed, unknown,
 pub use keys::key_numbered;
 pub use part::part_of;
 pub use plan::{GroupPlan, IssuePlan, MembersPlan, NewExternal, Plan, Prepared, RankPlan};
-pub use rows::{external_op, members_op, migrating_ops, opening_ops, present_ops, put_rank, rank_op};
+pub use rows::{
+    external_op, members_op, migrating_ops, opening_ops, present_ops, put_rank, rank_op,
+};
 pub use state::State;

@@ -2,7 +2,9 @@
 
 use board::Board;
 use change_history::{Group, Issue};
-use fields::{BoardNo, FilterNo, GroupNo, IssueNo, Moment, ProjectNo, Sequence, SprintNo, Text, UserNo};
+use fields::{
+    BoardNo, FilterNo, GroupNo, IssueNo, Moment, ProjectNo, Sequence, SprintNo, Text, UserNo,
+};
 use rank_balancer::{Balance, StepPlan};
 use rank_strings::Rank;
 use sprints::SprintState;

@@ -1,7 +1,6 @@
 // The operations that keep what a call makes.
 ghost use Rattle.std.specs.Prelude.{◌≡◌, ◌≤◌, ◌∷◌, [], true, length, IfOk, OnOk, ◌++◌};
 ghost use Rattle.field_values.specs.GroupMembers.{is_user_list};
-ghost use Rattle.field_values.specs.Parts.{Parts};
 ghost use Rattle.fields.specs.SetupParts.{names, parts};
 ghost use Rattle.tracker_machine.specs.Machine.{opening};
 ghost use Rattle.tracker_keeper.specs.Kept.{IsPart};
@@ -43,9 +42,8 @@ pub fn rank_op(alloc: Global, issue: IssueNo, rank: &Rank) -> Result<RowOp, Memo
 }
 
 /// Puts the row of an issue's external id.
-#[tactic(auto, unfolding(tracker_keeper::specs::Bodies::body_text))]
 pub fn external_op(alloc: Global, issue: IssueNo, id: &str) -> Result<RowOp, Memory>
-    ensures { IfOk result (λ op. (setup : Parts) → op ≡ external_op setup issue id.now) }
+    ensures { IfOk result (λ op. op ≡ external_op issue id.now) }
 {
     let body = Text::copy_of(alloc, id)?;
     Ok(RowOp::Put(Row {
@@ -91,11 +89,11 @@ fn put_members(alloc: Global, ops: &mut Vec<RowOp>, setup: &Setup) -> Result<(),
         ≡ ops.old.items ++ put_parts (parts setup.now) (members_from 1 setup.now.group)) }
 {
     keeps_what_was_read(setup);
-    let mut group = GroupNo(1);
-    for members in setup.group.as_slice() {
-        let op = members_op(alloc, setup, group, members.members.as_slice())?;
+    let mut number = GroupNo(1);
+    for group in setup.group.as_slice() {
+        let op = members_op(alloc, setup, number, group.members.as_slice())?;
         ops.push(op)?;
-        group.0 += 1;
+        number.0 += 1;
     }
     Ok(())
 }
