@@ -1,5 +1,4 @@
-// The call `create`: a new issue of a project, or what is told of the one that was created before with the
-// same external id.
+// The call `create`: a new issue of a project, or what is told of the one that has its external id already.
 ghost use Rattle.std.specs.Prelude.{◌≡◌, ◌<◌, ◌≤◌, ℕ, List, Option, length, option_and_then, slice_get, IfOk, IfSome, Some, None, true};
 ghost use Rattle.std.specs.Option.{option_copied};
 ghost use Rattle.field_forms.specs.Names.{place_named};
@@ -33,8 +32,7 @@ use tracker_calls::{GivenField, Refusal};
 use tracker_state::{Prepared, State, check_permission};
 use wanted_values::{Opening, ResolvedSet, fitting_is_light};
 
-/// Prepares a new issue of the project, tells of the one that was created before with the same external id,
-/// or says why not.
+/// Prepares a new issue of the project, tells of the one that was created so before, or says why not.
 pub fn create(
     alloc: Global,
     state: &mut State,
@@ -61,7 +59,7 @@ pub fn create(
         issue_type,
         summary,
     };
-    let due = due(alloc, state, project, opening, &given, external);
+    let due = due_for(alloc, state, project, opening, &given, external);
     drop(given);
     match due {
         Ok(Due::New(new)) => place_last(alloc, state, caller, new, external),
@@ -71,7 +69,7 @@ pub fn create(
 }
 
 // What the create comes to.
-fn due(
+fn due_for(
     alloc: Global,
     state: &State,
     project: &str,
@@ -113,7 +111,7 @@ fn check_create(
     Ok(place)
 }
 
-// What the create comes to in its project, once its names and the caller's permissions are checked.
+// What it comes to in its project, once its names and the caller's permissions are checked.
 fn due_in(
     alloc: Global,
     state: &State,
@@ -142,7 +140,7 @@ fn due_in(
     }
 }
 
-// The place of the issue that has the external id, and that id, where one is given and an issue has it.
+// The place of the issue that has the external id, and that id, where an issue has it.
 fn called<'a>(state: &State, external: Option<&'a str>) -> Option<(usize, &'a str)>
     requires { IfSome external (λ id. is_external id.now ≡ true) }
     ensures issue { option_and_then (λ r. slice_get state.now.machine.histories r.0) result

@@ -1,5 +1,4 @@
-// An issue that has the external id of a create already: whether it was created as the same, and what is
-// told of it.
+// The issue that has the external id of a create already: whether it was created so, and what is told.
 ghost use Rattle.std.specs.Prelude.{◌≡◌, ◌<◌, IfOk, IfSome, Some, length, slice_get, true};
 ghost use Rattle.std.specs.Str.{bytes_eq};
 ghost use Rattle.field_values.specs.declared.value.Value.{Value};
@@ -20,8 +19,8 @@ use tracker_calls::{Answer, Refusal};
 use tracker_state::State;
 use wanted_values::Opening;
 
-/// What a create tells where the issue at a place has its external id. It is refused where that issue was
-/// created as another one.
+/// What a create tells where the issue at a place has its external id. It is refused where that issue
+/// was created as another one.
 pub fn told_before(
     alloc: Global,
     state: &State,

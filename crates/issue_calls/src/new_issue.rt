@@ -1,7 +1,6 @@
 // The new issue that a create makes, with all that is kept of it.
 ghost use Rattle.std.specs.Prelude.{◌≡◌, ◌<◌, ◌≤◌, ◌+◌, ◌∷◌, ◌++◌, Ok, length, string_bytes, IfOk, IfSome, OnOk, Some, true, false};
 ghost use Rattle.std.specs.Option.{option_copied};
-ghost use Rattle.field_values.specs.Parts.{Parts};
 ghost use Rattle.fields.specs.SetupParts.{names_in};
 ghost use Rattle.tracker_machine.specs.Checks.{history_bytes};
 ghost use Rattle.tracker_machine.specs.Create.{created, opened, opening_history, filled};
@@ -111,8 +110,7 @@ fn open(
     })
 }
 
-// Makes room for the issue, its external id, its rank and its verdicts, and for a row of the sprint that it
-// is in.
+// Makes room for the issue, its external id, its rank and its verdicts, and for a row of its sprint.
 fn reserve(state: &mut State, new: &IssuePlan) -> Result<(), Memory>
     ensures machine { state.new.machine ≡ state.old.machine }
     ensures room { OnOk result (1 ≤ state.new.room) }
@@ -144,9 +142,10 @@ fn reserve_external(state: &mut State, external: &Option<NewExternal>) -> Result
 // The operations that keep a new issue, its rank and its external id.
 fn issue_ops(alloc: Global, state: &State, row: Row, new: &IssuePlan) -> Result<Vec<RowOp>, Memory>
     ensures { IfOk result (λ ops. ops.items
-        ≡ present_op state.now.machine.balance (state.now.machine.change + 1) state.now.machine.moment
+        ≡ present_op state.now.machine.balance (state.now.machine.change + 1)
+        state.now.machine.moment
         ∷ RowOp.Put row ∷ rank_op new.now.issue.history.no new.now.rank
-        ∷ external_ops state.now.machine.setup new.now.issue.history.no (id_of new.now.external)) }
+        ∷ external_ops new.now.issue.history.no (id_of new.now.external)) }
 {
     let mut ops = row_ops(
         alloc,
@@ -167,8 +166,8 @@ fn put_external(
     issue: IssueNo,
     external: &Option<NewExternal>,
 ) -> Result<(), Memory>
-    ensures { OnOk result ((setup : Parts) → ops.new.items
-        ≡ ops.old.items ++ external_ops setup issue (id_of external.now)) }
+    ensures { OnOk result (ops.new.items
+        ≡ ops.old.items ++ external_ops issue (id_of external.now)) }
 {
     let Some(external) = external else {
         return Ok(());

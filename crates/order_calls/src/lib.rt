@@ -1,4 +1,4 @@
-//! What calls prepare that order work: the clock, ranks and their rebalancing, and sprints.
+//! What calls prepare that order work: the clock, ranks and their rebalancing, sprints, and who is in which group.
 #![tactic(auto)]
 
 mod check;

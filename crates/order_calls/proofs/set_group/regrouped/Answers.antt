@@ -1,4 +1,4 @@
-use Rattle.std.proofs.Common.{◌≡◌, ◌∷◌, [], List, length, ap, subst, ◌∙◌}
+use Rattle.std.proofs.Common.{◌∷◌, [], List, length, ap, ◌∙◌}
 use Rattle.field_values.specs.declared.numbers.UserNo.{UserNo}
 use Rattle.tracker_state.specs.Rows.{members_op}
 use Rattle.order_calls.proofs.Members.{members_ready}
