@@ -30,7 +30,7 @@ pub issue_ready : (m : Machine) (caller : ℕ) (project : List ℕ) (external : 
     → MayOpen m (opened m caller project (filled changes)) → new.issue.history ≡ opened m caller project (filled changes)
     → change ≡ m.change + 1 → told ≡ next_key m project → IssueFits s new
     → ops ≡ present_op m.balance (m.change + 1) m.moment ∷ Put (issue_row (names_in m.setup) (opened m caller project (filled changes)))
-    ∷ rank_op (opened m caller project (filled changes)).no rank ∷ external_ops m.setup (opened m caller project (filled changes)).no external
+    ∷ rank_op (opened m caller project (filled changes)).no rank ∷ external_ops (opened m caller project (filled changes)).no external
     → IsReady (created m caller project external changes rank) s (plans.Issue new) (answer.Create false change told) ops
 unfolding IsAllowed
 issue_ready m caller project external changes rank s new change told ops same next ranked name called may is number key fits keeps =

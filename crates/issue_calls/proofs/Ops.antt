@@ -26,7 +26,7 @@ use Rattle.tracker_state.specs.Rows.{present_op, rank_op}
 use Rattle.issue_calls.specs.Rows.{issue_row, external_ops, group_row}
 
 pub issue_ops_are : (m : Machine) (h : History) (rank : RankParts) (external : Option (List ℕ))
-    → present_op m.balance (m.change + 1) m.moment ∷ Put (issue_row (names_in m.setup) h) ∷ rank_op h.no rank ∷ external_ops m.setup h.no external
+    → present_op m.balance (m.change + 1) m.moment ∷ Put (issue_row (names_in m.setup) h) ∷ rank_op h.no rank ∷ external_ops h.no external
     ≡ ops_of (NewIssue h rank external) m
 unfolding ops_of parts_of body_text
 issue_ops_are m h rank None = refl

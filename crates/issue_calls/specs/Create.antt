@@ -29,7 +29,8 @@ use Rattle.issue_calls.specs.declared.due.NewValues.{NewValues}
 abbrev pub key_of_project : Machine → ProjectNo → List ℕ
 key_of_project m project = name_at (project_keys m.setup) project.0
 
--- the project is there, each value fits, and there is room for one more issue
+-- an issue of the project may open with these values, which fit, as far as they name its type, summary and status, and there is
+-- room for one more
 pub record MayBegin (m : Machine) (new : NewValues) : Type 0 where
   pub there : new.project.0 < length m.setup.project
   pub few : length m.histories < 50_000

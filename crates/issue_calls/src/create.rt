@@ -1,12 +1,12 @@
-// The call `create`: a new issue of a project, or what is told of the one that was created before with the same external id.
-ghost use Rattle.std.specs.Prelude.{◌≡◌, ◌<◌, ◌≤◌, ℕ, List, Option, length, option_map, option_and_then, slice_get, IfOk, IfSome, Some, None, true};
+// The call `create`: a new issue of a project, or what is told of the one that has its external id already.
+ghost use Rattle.std.specs.Prelude.{◌≡◌, ◌<◌, ◌≤◌, ℕ, List, Option, length, option_and_then, slice_get, IfOk, IfSome, Some, None, true};
 ghost use Rattle.std.specs.Option.{option_copied};
 ghost use Rattle.field_forms.specs.Names.{place_named};
 ghost use Rattle.fields.specs.SetupParts.{names_in};
 ghost use Rattle.workflow.specs.Laws.{AllFit};
 ghost use Rattle.tracker_calls.specs.Named.{is_external};
 ghost use Rattle.tracker_machine.specs.Checks.{bytes_kept};
-ghost use Rattle.tracker_machine.specs.Create.{called_before, create_wants, create_refusal, create_or_tell, create_meaning, is_created_as, issue_called, new_issue_meaning, new_issue_refusal, filled};
+ghost use Rattle.tracker_machine.specs.Create.{create_wants, create_refusal, create_or_tell, create_meaning, issue_called, new_issue_meaning, new_issue_refusal, filled};
 ghost use Rattle.tracker_machine.specs.Effect.{MayName};
 ghost use Rattle.tracker_machine.specs.Known.{project_keys};
 ghost use Rattle.tracker_machine.specs.Wanted.{changes_of};
@@ -32,7 +32,7 @@ use tracker_calls::{GivenField, Refusal};
 use tracker_state::{Prepared, State, check_permission};
 use wanted_values::{Opening, ResolvedSet, fitting_is_light};
 
-/// Prepares a new issue of the project, tells of the one that was created before with the same external id, or says why not.
+/// Prepares a new issue of the project, tells of the one that was created so before, or says why not.
 pub fn create(
     alloc: Global,
     state: &mut State,
@@ -48,8 +48,8 @@ pub fn create(
     ensures same { state.new.machine ≡ state.old.machine }
     ensures table { state.new.watched.views.table ≡ state.old.watched.views.table }
     ensures filters { state.new.watched.filters ≡ state.old.watched.filters }
-    ensures prepared { IsPrepared (create_meaning state.old.machine caller.0 project.now issue_type.now summary.now set.now
-        (option_copied external.entry)) state.new result }
+    ensures prepared { IsPrepared (create_meaning state.old.machine caller.0 project.now
+        issue_type.now summary.now set.now (option_copied external.entry)) state.new result }
 {
     let Ok(given) = ResolvedSet::of(alloc, state.setup(), set) else {
         return Err(Refusal::Memory);
@@ -59,7 +59,7 @@ pub fn create(
         issue_type,
         summary,
     };
-    let due = due(alloc, state, project, opening, &given, external);
+    let due = due_for(alloc, state, project, opening, &given, external);
     drop(given);
     match due {
         Ok(Due::New(new)) => place_last(alloc, state, caller, new, external),
@@ -69,7 +69,7 @@ pub fn create(
 }
 
 // What the create comes to.
-fn due(
+fn due_for(
     alloc: Global,
     state: &State,
     project: &str,
@@ -80,8 +80,9 @@ fn due(
     requires setup { set.now.setup ≡ state.now.machine.setup }
     requires external { IfSome external (λ id. is_external id.now ≡ true) }
     ensures { ComesTo state.now.machine opening.entry.caller.0 (option_copied external.entry)
-        (create_meaning state.now.machine opening.entry.caller.0 project.now opening.entry.issue_type.now opening.entry.summary.now
-        set.now.set (option_copied external.entry)) result }
+        (create_meaning state.now.machine opening.entry.caller.0 project.now
+        opening.entry.issue_type.now opening.entry.summary.now set.now.set
+        (option_copied external.entry)) result }
 {
     let place = check_create(alloc, state, opening.caller, project, set)?;
     due_in(alloc, state, place, opening, set, external)
@@ -97,7 +98,8 @@ fn check_create(
 ) -> Result<ProjectNo, Refusal>
     requires { set.now.setup ≡ state.now.machine.setup }
     ensures check { Checks (create_refusal state.now.machine caller.0 project.now set.now.set) result }
-    ensures place { IfOk result (λ no. place_named project.now (project_keys state.now.machine.setup) ≡ Some no.0) }
+    ensures place { IfOk result (λ no.
+        place_named project.now (project_keys state.now.machine.setup) ≡ Some no.0) }
     ensures there { IfOk result (λ no. no.0 < length state.now.machine.setup.project) }
     ensures known { IfOk result (λ no. GivesKnownSprint state.now.machine set.now.set) }
 {
@@ -109,7 +111,7 @@ fn check_create(
     Ok(place)
 }
 
-// What the create comes to in its project, once its names and the caller's permissions are checked.
+// What it comes to in its project, once its names and the caller's permissions are checked.
 fn due_in(
     alloc: Global,
     state: &State,
@@ -123,8 +125,10 @@ fn due_in(
     requires known { GivesKnownSprint state.now.machine set.now.set }
     requires external { IfSome external (λ id. is_external id.now ≡ true) }
     ensures { ComesTo state.now.machine opening.entry.caller.0 (option_copied external.entry)
-        (create_or_tell state.now.machine opening.entry.caller.0 (key_of_project state.now.machine project)
-        opening.entry.issue_type.now opening.entry.summary.now set.now.set (option_copied external.entry)
+        (create_or_tell state.now.machine opening.entry.caller.0
+        (key_of_project state.now.machine project)
+        opening.entry.issue_type.now opening.entry.summary.now set.now.set
+        (option_copied external.entry)
         (issue_called state.now.machine (option_copied external.entry))) result }
 {
     match called(state, external) {
@@ -136,14 +140,15 @@ fn due_in(
     }
 }
 
-// The place of the issue that has the external id, and that id, where one is given and there is such an issue.
+// The place of the issue that has the external id, and that id, where an issue has it.
 fn called<'a>(state: &State, external: Option<&'a str>) -> Option<(usize, &'a str)>
     requires { IfSome external (λ id. is_external id.now ≡ true) }
     ensures issue { option_and_then (λ r. slice_get state.now.machine.histories r.0) result
         ≡ issue_called state.now.machine (option_copied external.entry) }
     ensures there { IfSome result (λ r. r.0 < length state.now.machine.histories) }
     ensures id { IfSome result (λ r. option_copied external.entry ≡ Some r.1.now) }
-    ensures none { result ≡ None → MayName state.now.machine.externals (option_copied external.entry) }
+    ensures none { result ≡ None
+        → MayName state.now.machine.externals (option_copied external.entry) }
 {
     let id = external?;
     let place = state.place_called(id)?;
@@ -163,7 +168,8 @@ fn new_values(
     requires known { GivesKnownSprint state.now.machine set.now.set }
     ensures { (external : Option (List ℕ)) → MayName state.now.machine.externals external
         → ComesTo state.now.machine opening.entry.caller.0 external
-        (new_issue_meaning state.now.machine opening.entry.caller.0 (key_of_project state.now.machine project)
+        (new_issue_meaning state.now.machine opening.entry.caller.0
+        (key_of_project state.now.machine project)
         opening.entry.issue_type.now opening.entry.summary.now set.now.set external) result }
 {
     let changes = check_values(alloc, state, opening, set)?;
@@ -179,15 +185,22 @@ fn check_values(
 ) -> Result<Vec<Change>, Refusal>
     requires setup { set.now.setup ≡ state.now.machine.setup }
     requires known { GivesKnownSprint state.now.machine set.now.set }
-    ensures check { Checks (new_issue_refusal state.now.machine opening.entry.caller.0 opening.entry.issue_type.now opening.entry.summary.now set.now.set) result }
-    ensures changes { IfOk result (λ changes. changes.items ≡ changes_of (names_in state.now.machine.setup)
-        (create_wants state.now.machine.setup opening.entry.caller.0 opening.entry.issue_type.now opening.entry.summary.now set.now.set)) }
-    ensures fitting { IfOk result (λ changes. AllFit (names_in state.now.machine.setup) changes.items) }
-    ensures sprints { IfOk result (λ changes. AreOfSprints (length state.now.machine.sprints) changes.items) }
+    ensures check { Checks (new_issue_refusal state.now.machine opening.entry.caller.0
+        opening.entry.issue_type.now opening.entry.summary.now set.now.set) result }
+    ensures changes { IfOk result (λ changes. changes.items
+        ≡ changes_of (names_in state.now.machine.setup)
+        (create_wants state.now.machine.setup opening.entry.caller.0
+        opening.entry.issue_type.now opening.entry.summary.now set.now.set)) }
+    ensures fitting { IfOk result (λ changes.
+        AllFit (names_in state.now.machine.setup) changes.items) }
+    ensures sprints { IfOk result (λ changes.
+        AreOfSprints (length state.now.machine.sprints) changes.items) }
     ensures named { IfOk result (λ changes. AreNamed (opening_value (filled changes.items))) }
-    ensures listed { IfOk result (λ changes. AreSmall (filled changes.items) → are_opening (names_in state.now.machine.setup) (filled changes.items) ≡ true) }
+    ensures listed { IfOk result (λ changes. AreSmall (filled changes.items)
+        → are_opening (names_in state.now.machine.setup) (filled changes.items) ≡ true) }
     ensures few { IfOk result (λ changes. length state.now.machine.histories < 50_000) }
-    ensures light { IfOk result (λ changes. bytes_kept state.now.machine.histories ≤ 499_800_000) }
+    ensures light { IfOk result (λ changes.
+        bytes_kept state.now.machine.histories ≤ 499_800_000) }
     ensures slight { IfOk result (λ changes. AreLight (filled changes.items)) }
 {
     fitting_is_light(state.setup());

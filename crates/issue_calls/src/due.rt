@@ -11,7 +11,8 @@ pub struct NewValues {
     pub changes: Vec<Change>,
 }
 
-/// What a create comes to once its checks are made: an answer where its issue was created before, and else a new issue.
+/// What a create comes to once its checks are made: an answer where its issue was created before,
+/// and else a new issue.
 #[derive(Drop)]
 pub enum Due {
     Told(Answer),

@@ -1,4 +1,4 @@
-// An issue that has the external id of a create already: whether it was created as the same, and what is told of it.
+// The issue that has the external id of a create already: whether it was created so, and what is told.
 ghost use Rattle.std.specs.Prelude.{◌≡◌, ◌<◌, IfOk, IfSome, Some, length, slice_get, true};
 ghost use Rattle.std.specs.Str.{bytes_eq};
 ghost use Rattle.field_values.specs.declared.value.Value.{Value};
@@ -19,7 +19,8 @@ use tracker_calls::{Answer, Refusal};
 use tracker_state::State;
 use wanted_values::Opening;
 
-/// What a create tells where the issue at a place has its external id. It is refused where that issue was created as another one.
+/// What a create tells where the issue at a place has its external id. It is refused where that issue
+/// was created as another one.
 pub fn told_before(
     alloc: Global,
     state: &State,
@@ -48,8 +49,10 @@ fn told_of(
     opening: Opening<'_>,
     external: &str,
 ) -> Result<Answer, Refusal>
-    ensures { IsTold (called_before (is_created_as state.now.machine (key_of_project state.now.machine project)
-        opening.entry.issue_type.now opening.entry.summary.now issue.now.history) external.now issue.now.history) result }
+    ensures { IsTold (called_before
+        (is_created_as state.now.machine (key_of_project state.now.machine project)
+        opening.entry.issue_type.now opening.entry.summary.now issue.now.history)
+        external.now issue.now.history) result }
 {
     match is_created_as(alloc, state, issue, project, opening) {
         Ok(true) => told(alloc, issue),
@@ -60,7 +63,8 @@ fn told_of(
 
 // The issue is told as the one that the call asks for.
 fn told(alloc: Global, issue: &Issue) -> Result<Answer, Refusal>
-    ensures { IsTold (Tells (Answer.Create true issue.now.history.change issue.now.history.key)) result }
+    ensures { IsTold (Tells
+        (Answer.Create true issue.now.history.change issue.now.history.key)) result }
 {
     match Text::copy_of(alloc, issue.key().as_str()) {
         Ok(key) => Ok(Answer::Create {
@@ -93,7 +97,8 @@ fn is_created_as(
     project: ProjectNo,
     opening: Opening<'_>,
 ) -> Result<bool, Memory>
-    ensures { IfOk result (λ same. same ≡ is_created_as state.now.machine (key_of_project state.now.machine project)
+    ensures { IfOk result (λ same. same
+        ≡ is_created_as state.now.machine (key_of_project state.now.machine project)
         opening.entry.issue_type.now opening.entry.summary.now issue.now.history) }
 {
     let has_type = has_type(alloc, state.setup(), issue, opening.issue_type)?;
@@ -122,7 +127,8 @@ fn project_of(issue: &Issue) -> &str
 
 // Whether the issue was created with the type of that name.
 fn has_type(alloc: Global, setup: &Setup, issue: &Issue, issue_type: &str) -> Result<bool, Memory>
-    ensures { IfOk result (λ same. same ≡ is_value_of (names_in (parts setup.now)) number.TYPE.0 issue_type.now
+    ensures { IfOk result (λ same. same
+        ≡ is_value_of (names_in (parts setup.now)) number.TYPE.0 issue_type.now
         (opening_value issue.now.history.opening number.TYPE)) }
 {
     match setup.value_of(alloc, FieldNo::TYPE, issue_type)? {
@@ -133,7 +139,8 @@ fn has_type(alloc: Global, setup: &Setup, issue: &Issue, issue_type: &str) -> Re
 
 // Whether the issue was created with that summary.
 fn has_summary(issue: &Issue, summary: &str) -> bool
-    ensures { result ≡ same_value (Value.Text summary.now) (opening_value issue.now.history.opening number.SUMMARY) }
+    ensures { result ≡ same_value (Value.Text summary.now)
+        (opening_value issue.now.history.opening number.SUMMARY) }
 {
     match issue.opening(FieldNo::SUMMARY) {
         Value::Text(text) => text.as_str() == summary,

@@ -1,14 +1,12 @@
 // The new issue that a create makes, with all that is kept of it.
-ghost use Rattle.std.specs.Prelude.{◌≡◌, ◌<◌, ◌≤◌, ◌+◌, ◌∷◌, ◌++◌, [], Ok, length, option_map, string_bytes, IfOk, IfSome, OnOk, Some, true, false};
+ghost use Rattle.std.specs.Prelude.{◌≡◌, ◌<◌, ◌≤◌, ◌+◌, ◌∷◌, ◌++◌, Ok, length, string_bytes, IfOk, IfSome, OnOk, Some, true, false};
 ghost use Rattle.std.specs.Option.{option_copied};
-ghost use Rattle.field_values.specs.Parts.{Parts};
 ghost use Rattle.fields.specs.SetupParts.{names_in};
 ghost use Rattle.tracker_machine.specs.Checks.{history_bytes};
 ghost use Rattle.tracker_machine.specs.Create.{created, opened, opening_history, filled};
 ghost use Rattle.tracker_machine.specs.Effect.{MayName};
 ghost use Rattle.tracker_machine.specs.Rank.{last_rank};
-ghost use Rattle.fields.specs.Naming.{name_at};
-ghost use Rattle.tracker_machine.specs.Known.{project_keys, next_key};
+ghost use Rattle.tracker_machine.specs.Known.{next_key};
 ghost use Rattle.tracker_state.specs.Check.{Checks, room_refusal};
 ghost use Rattle.tracker_state.specs.Plan.{IsPrepared, id_of};
 ghost use Rattle.issue_calls.specs.Create.{MayBegin, created_last, key_of_project};
@@ -17,9 +15,7 @@ ghost use Rattle.tracker_state.specs.Rows.{present_op, rank_op};
 ghost use Rattle.tracker_filters.specs.Watched.{HasIssueRoom};
 ghost use Rattle.tracker_work.specs.Seen.{share_now};
 ghost use Rattle.tracker_work.specs.Work.{HasRoomFor};
-ghost use Rattle.wanted_values.specs.Weight.{AreLight};
 ghost use Rattle.tracker_keeper.specs.Forms.{are_opening};
-ghost use Rattle.tracker_machine.specs.Tracker.{AreSmall};
 
 use crate::due::NewValues;
 use crate::empty::is_empty;
@@ -49,7 +45,8 @@ pub fn place_last(
     ensures same { state.new.machine ≡ state.old.machine }
     ensures table { state.new.watched.views.table ≡ state.old.watched.views.table }
     ensures filters { state.new.watched.filters ≡ state.old.watched.filters }
-    ensures prepared { IsPrepared (created_last state.old.machine caller.0 (option_copied external.entry) new) state.new result }
+    ensures prepared { IsPrepared (created_last state.old.machine caller.0
+        (option_copied external.entry) new) state.new result }
 {
     match last_rank(alloc, state) {
         Ok(rank) => open(alloc, state, caller, new, rank, external),
@@ -84,7 +81,8 @@ fn open(
     ensures same { state.new.machine ≡ state.old.machine }
     ensures table { state.new.watched.views.table ≡ state.old.watched.views.table }
     ensures filters { state.new.watched.filters ≡ state.old.watched.filters }
-    ensures prepared { IsPrepared (created state.old.machine caller.0 (key_of_project state.old.machine values.project)
+    ensures prepared { IsPrepared (created state.old.machine caller.0
+        (key_of_project state.old.machine values.project)
         (option_copied external.entry) values.changes.items rank) state.new result }
 {
     state.is_tracker();
@@ -112,7 +110,7 @@ fn open(
     })
 }
 
-// Makes room for the issue, its external id, its rank and its verdicts, and for a row of the sprint that it is in.
+// Makes room for the issue, its external id, its rank and its verdicts, and for a row of its sprint.
 fn reserve(state: &mut State, new: &IssuePlan) -> Result<(), Memory>
     ensures machine { state.new.machine ≡ state.old.machine }
     ensures room { OnOk result (1 ≤ state.new.room) }
@@ -143,9 +141,11 @@ fn reserve_external(state: &mut State, external: &Option<NewExternal>) -> Result
 
 // The operations that keep a new issue, its rank and its external id.
 fn issue_ops(alloc: Global, state: &State, row: Row, new: &IssuePlan) -> Result<Vec<RowOp>, Memory>
-    ensures { IfOk result (λ ops. ops.items ≡ present_op state.now.machine.balance (state.now.machine.change + 1) state.now.machine.moment
+    ensures { IfOk result (λ ops. ops.items
+        ≡ present_op state.now.machine.balance (state.now.machine.change + 1)
+        state.now.machine.moment
         ∷ RowOp.Put row ∷ rank_op new.now.issue.history.no new.now.rank
-        ∷ external_ops state.now.machine.setup new.now.issue.history.no (id_of new.now.external)) }
+        ∷ external_ops new.now.issue.history.no (id_of new.now.external)) }
 {
     let mut ops = row_ops(
         alloc,
@@ -166,7 +166,8 @@ fn put_external(
     issue: IssueNo,
     external: &Option<NewExternal>,
 ) -> Result<(), Memory>
-    ensures { OnOk result ((setup : Parts) → ops.new.items ≡ ops.old.items ++ external_ops setup issue (id_of external.now)) }
+    ensures { OnOk result (ops.new.items
+        ≡ ops.old.items ++ external_ops issue (id_of external.now)) }
 {
     let Some(external) = external else {
         return Ok(());
@@ -199,16 +200,21 @@ fn new_issue(
     external: Option<&str>,
 ) -> Result<(IssuePlan, Row), Memory>
     requires { MayBegin state.now.machine values }
-    ensures history { IfOk result (λ r. r.0.issue.history ≡ opened state.now.machine caller.0 (key_of_project state.now.machine values.project) (filled values.changes.items)) }
-    ensures key { IfOk result (λ r. string_bytes r.0.key ≡ next_key state.now.machine (key_of_project state.now.machine values.project)) }
+    ensures history { IfOk result (λ r. r.0.issue.history ≡ opened state.now.machine caller.0
+        (key_of_project state.now.machine values.project) (filled values.changes.items)) }
+    ensures key { IfOk result (λ r. string_bytes r.0.key
+        ≡ next_key state.now.machine (key_of_project state.now.machine values.project)) }
     ensures project { IfOk result (λ r. r.0.project ≡ values.project) }
     ensures rank { IfOk result (λ r. r.0.rank ≡ rank) }
     ensures bytes { IfOk result (λ r. r.0.bytes ≡ history_bytes r.0.issue.history) }
     ensures light { IfOk result (λ r. r.0.bytes ≤ 200_000) }
-    ensures listed { IfOk result (λ r. are_opening (names_in state.now.machine.setup) (filled values.changes.items) ≡ true) }
+    ensures listed { IfOk result (λ r.
+        are_opening (names_in state.now.machine.setup) (filled values.changes.items) ≡ true) }
     ensures external { IfOk result (λ r. id_of r.0.external ≡ option_copied external.entry) }
     ensures text { IfOk result (λ r. IfSome r.0.external (λ e. string_bytes e.text ≡ e.id)) }
-    ensures row { IfOk result (λ r. r.1 ≡ issue_row (names_in state.now.machine.setup) (opened state.now.machine caller.0 (key_of_project state.now.machine values.project) (filled values.changes.items))) }
+    ensures row { IfOk result (λ r. r.1 ≡ issue_row (names_in state.now.machine.setup)
+        (opened state.now.machine caller.0 (key_of_project state.now.machine values.project)
+        (filled values.changes.items))) }
 {
     let NewValues { project, changes } = values;
     let opening = filled(alloc, changes)?;
@@ -248,7 +254,8 @@ fn row_of(
 ) -> Result<Row, Memory>
     requires few { length state.now.machine.histories < 50_000 }
     requires listed { are_opening (names_in state.now.machine.setup) values.now ≡ true }
-    ensures { IfOk result (λ row. row ≡ issue_row (names_in state.now.machine.setup) (opening_history state.now.machine caller.0 key.now values.now)) }
+    ensures { IfOk result (λ row. row ≡ issue_row (names_in state.now.machine.setup)
+        (opening_history state.now.machine caller.0 key.now values.now)) }
 {
     let no = next_no(state);
     let created = Created {
@@ -275,7 +282,8 @@ fn opened(
     opening: Changes,
 ) -> Result<Issue, Memory>
     requires few { length state.now.machine.histories < 50_000 }
-    ensures { IfOk result (λ issue. issue.history ≡ opening_history state.now.machine caller.0 key opening) }
+    ensures { IfOk result (λ issue. issue.history
+        ≡ opening_history state.now.machine caller.0 key opening) }
 {
     let no = next_no(state);
     let change = state.next_change();
@@ -285,7 +293,8 @@ fn opened(
 // The key of the project's next issue.
 fn next_key(alloc: Global, state: &State, project: ProjectNo) -> Result<Key, Memory>
     requires { project.0 < length state.now.machine.setup.project }
-    ensures { IfOk result (λ key. key ≡ next_key state.now.machine (name_at (project_keys state.now.machine.setup) project.0)) }
+    ensures { IfOk result (λ key. key
+        ≡ next_key state.now.machine (key_of_project state.now.machine project)) }
 {
     let count = state.count_in(project);
     Key::of(alloc, state.project_key(project), count + 1)

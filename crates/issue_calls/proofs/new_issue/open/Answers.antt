@@ -75,8 +75,8 @@ returns-clause-prepared c =
       bytes = is_new.bytes;
       rows_room = room.rows;
     })
-    (subst (λ (e : Option (List ℕ)). rows ≡ present_op m.balance (m.change + 1) m.moment ∷ Put (issue_row (names_in m.setup) h) ∷ rank_op h.no c.args.rank ∷ external_ops m.setup h.no e) is_new.external
-    (subst (λ r. rows ≡ present_op m.balance (m.change + 1) m.moment ∷ Put r ∷ rank_op h.no c.args.rank ∷ external_ops m.setup h.no (id_of new.external)) is_new.row
-    (subst (λ (r : RankParts). rows ≡ present_op m.balance (m.change + 1) m.moment ∷ Put c.in-Ok.row ∷ rank_op h.no r ∷ external_ops m.setup h.no (id_of new.external)) is_new.rank
-    (subst (λ (i : History). rows ≡ present_op m.balance (m.change + 1) m.moment ∷ Put c.in-Ok.row ∷ rank_op i.no new.rank ∷ external_ops m.setup i.no (id_of new.external)) is_new.history
+    (subst (λ (e : Option (List ℕ)). rows ≡ present_op m.balance (m.change + 1) m.moment ∷ Put (issue_row (names_in m.setup) h) ∷ rank_op h.no c.args.rank ∷ external_ops h.no e) is_new.external
+    (subst (λ r. rows ≡ present_op m.balance (m.change + 1) m.moment ∷ Put r ∷ rank_op h.no c.args.rank ∷ external_ops h.no (id_of new.external)) is_new.row
+    (subst (λ (r : RankParts). rows ≡ present_op m.balance (m.change + 1) m.moment ∷ Put c.in-Ok.row ∷ rank_op h.no r ∷ external_ops h.no (id_of new.external)) is_new.rank
+    (subst (λ (i : History). rows ≡ present_op m.balance (m.change + 1) m.moment ∷ Put c.in-Ok.row ∷ rank_op i.no new.rank ∷ external_ops i.no (id_of new.external)) is_new.history
     c.in-Ok-issue_ops.ensures))))
