@@ -219,20 +219,42 @@ fn new_issue(
     let NewValues { project, changes } = values;
     let opening = filled(alloc, changes)?;
     let bytes = bytes_of_changes(opening.as_slice());
-    let key = next_key(alloc, state, project)?;
-    let row = row_of(alloc, state, caller, &key, opening.as_slice())?;
-    let text = String::from_str(alloc, key.as_str())?;
     let external = new_external(alloc, external)?;
-    let issue = opened(alloc, state, caller, key, opening)?;
+    let (issue, key, row) = issue_in(alloc, state, caller, project, opening)?;
     let new = IssuePlan {
         issue,
         project,
-        key: text,
+        key,
         bytes,
         rank,
         external,
     };
     Ok((new, row))
+}
+
+// The issue of the project that opens with these values, the text of its key, and its row.
+fn issue_in(
+    alloc: Global,
+    state: &State,
+    caller: UserNo,
+    project: ProjectNo,
+    opening: Changes,
+) -> Result<(Issue, String, Row), Memory>
+    requires few { length state.now.machine.histories < 50_000 }
+    requires there { project.0 < length state.now.machine.setup.project }
+    requires listed { are_opening (names_in state.now.machine.setup) opening ≡ true }
+    ensures history { IfOk result (λ r. r.0.history ≡ opened state.now.machine caller.0
+        (key_of_project state.now.machine project) opening) }
+    ensures key { IfOk result (λ r. string_bytes r.1
+        ≡ next_key state.now.machine (key_of_project state.now.machine project)) }
+    ensures row { IfOk result (λ r. r.2 ≡ issue_row (names_in state.now.machine.setup)
+        (opened state.now.machine caller.0 (key_of_project state.now.machine project) opening)) }
+{
+    let key = next_key(alloc, state, project)?;
+    let row = row_of(alloc, state, caller, &key, opening.as_slice())?;
+    let text = String::from_str(alloc, key.as_str())?;
+    let issue = opened(alloc, state, caller, key, opening)?;
+    Ok((issue, text, row))
 }
 
 // The number of the next issue.
