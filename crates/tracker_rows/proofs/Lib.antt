@@ -14,3 +14,4 @@ pub mod Steps
 pub mod Walk
 pub mod Loaded
 pub mod WorkedRows
+pub mod Cuts
