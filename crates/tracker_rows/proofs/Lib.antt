@@ -15,3 +15,4 @@ pub mod Walk
 pub mod Loaded
 pub mod WorkedRows
 pub mod Cuts
+pub mod Agreeing
