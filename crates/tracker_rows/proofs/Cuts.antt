@@ -95,7 +95,7 @@ module _ {X : Type 0} (number : X → ℕ) where
   abbrev pub to : ℕ → List X → List X
   to n xs = filter (λ x. nat_lt (number x) n) xs
 
-  none_to : (least n : ℕ) (xs : List X) → RiseFrom number least xs → n ≤ least → to n xs ≡ []
+  pub none_to : (least n : ℕ) (xs : List X) → RiseFrom number least xs → n ≤ least → to n xs ≡ []
   none_to least n [] rise le = refl
   none_to least n (x ∷ xs) rise le =
       let rest = none_to (number x + 1) n xs rise.1 (omega (arith, rise.0, le)) in
@@ -153,20 +153,20 @@ module _ {X : Type 0} (number : X → ℕ) where
 
 -- ---- sprints
 
+pub no_sprints_yet : (n first : ℕ) (ss : List Sprint) → n ≤ first → cut_sprints (below 7 n) first ss ≡ []
+no_sprints_yet n first [] le = refl
+no_sprints_yet n first (x ∷ xs) le =
+    let past : nat_lt first n ≡ false = grind (arith, nat_tests, le) in
+    rw past (no_sprints_yet n (first + 1) xs (omega (arith, le)))
+
 pub sprint_more : (first k : ℕ) (s : Sprint) (ss : List Sprint) → slice_get ss k ≡ Some s
     → cut_sprints (below 7 (first + k + 1)) first ss ≡ cut_sprints (below 7 (first + k)) first ss ++ s ∷ []
 sprint_more first k s [] at = absurd (none-some s at)
 sprint_more first zero s (x ∷ xs) at =
     let in_next : nat_lt first (first + zero + 1) ≡ true = grind (arith, nat_tests) in
     let not_in : nat_lt first (first + zero) ≡ false = grind (arith, nat_tests) in
-    rw (in_next, not_in, none_yet (first + zero + 1) (first + 1) xs (omega arith), none_yet (first + zero) (first + 1) xs (omega arith))
+    rw (in_next, not_in, no_sprints_yet (first + zero + 1) (first + 1) xs (omega arith), no_sprints_yet (first + zero) (first + 1) xs (omega arith))
     (ap (λ (z : Sprint). z ∷ []) (same_Some x s at))
-  where
-    none_yet : (n first : ℕ) (ss : List Sprint) → n ≤ first → cut_sprints (below 7 n) first ss ≡ []
-    none_yet n first [] le = refl
-    none_yet n first (x ∷ xs) le =
-        let past : nat_lt first n ≡ false = grind (arith, nat_tests, le) in
-        rw past (none_yet n (first + 1) xs (omega (arith, le)))
 sprint_more first (suc k) s (x ∷ xs) at =
     let in_next : nat_lt first (first + suc k + 1) ≡ true = grind (arith, nat_tests) in
     let own : nat_lt first (first + suc k) ≡ true = grind (arith, nat_tests) in

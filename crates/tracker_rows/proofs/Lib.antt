@@ -16,3 +16,4 @@ pub mod Loaded
 pub mod WorkedRows
 pub mod Cuts
 pub mod Agreeing
+pub mod Joins
