@@ -294,7 +294,7 @@ rank_more issue rank ps is form free own =
 
 -- ---- issues
 
-none_pass : (es : List Entry) → filter (λ e. false) es ≡ []
+pub none_pass : (es : List Entry) → filter (λ e. false) es ≡ []
 none_pass [] = refl
 none_pass (e ∷ es) = none_pass es
 
@@ -307,7 +307,7 @@ runs_rise first [] run = tt
 runs_rise first (h ∷ hs) run =
     (omega (arith, run.0), subst (λ n. RiseFrom (λ (h : History). h.no.0) (n + 1) hs) (sym run.0) (runs_rise (first + 1) hs run.1))
 
-numbered_by : (hs : List History) (n : ℕ) → issue_numbered hs n ≡ by_number (λ h. h.no.0) n hs
+pub numbered_by : (hs : List History) (n : ℕ) → issue_numbered hs n ≡ by_number (λ h. h.no.0) n hs
 numbered_by [] n = refl
 numbered_by (h ∷ hs) n = ap (λ (o : Option History). if h.no.0 == n then Some h else o) (numbered_by hs n)
 
@@ -326,7 +326,7 @@ issue_more n h hs run is =
 abbrev entries_to : ℕ → List Entry → List Entry
 entries_to c es = filter (λ e. nat_lt e.change c) es
 
-none_before : (c : ℕ) (last : Entry) (es : List Entry) → c ≤ last.change → FollowEachOther last es → entries_to c es ≡ []
+pub none_before : (c : ℕ) (last : Entry) (es : List Entry) → c ≤ last.change → FollowEachOther last es → entries_to c es ≡ []
 none_before c last [] le follow = refl
 none_before c last (e ∷ es) le follow =
     let more : c ≤ e.change = elim follow.0 [ inl same ↦ omega (arith, le, same.0) | inr next ↦ omega (arith, le, next.0) ] in
@@ -377,7 +377,7 @@ set_mapped f g (x ∷ xs) (suc k) h new at is others =
     ap (λ (z : History). z ∷ set (map f xs) k new) (others 0 x refl (λ same. cc))
     ∙ ap (λ (zs : List History). g x ∷ zs) (set_mapped f g xs k h new at is (λ j y there differ. others (suc j) y there (λ same. differ (cc))))
 
-get_mapped : (f : History → History) (hs : List History) (k : ℕ) (h : History) → slice_get hs k ≡ Some h → slice_get (map f hs) k ≡ Some (f h)
+pub get_mapped : (f : History → History) (hs : List History) (k : ℕ) (h : History) → slice_get hs k ≡ Some h → slice_get (map f hs) k ≡ Some (f h)
 get_mapped f [] k h at = absurd (none-some h at)
 get_mapped f (x ∷ xs) zero h at = ap (λ (z : History). Some (f z)) (same_Some x h at)
 get_mapped f (x ∷ xs) (suc k) h at = get_mapped f xs k h at

@@ -17,3 +17,4 @@ pub mod WorkedRows
 pub mod Cuts
 pub mod Agreeing
 pub mod Joins
+pub mod IssueJoins
