@@ -323,7 +323,7 @@ issue_more n h hs run is =
 
 -- ---- groups of changes
 
-abbrev entries_to : ℕ → List Entry → List Entry
+abbrev pub entries_to : ℕ → List Entry → List Entry
 entries_to c es = filter (λ e. nat_lt e.change c) es
 
 pub none_before : (c : ℕ) (last : Entry) (es : List Entry) → c ≤ last.change → FollowEachOther last es → entries_to c es ≡ []

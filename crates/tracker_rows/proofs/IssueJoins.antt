@@ -68,7 +68,7 @@ pub record IsMapped (f : History → History) (hs : List History) (j : ℕ) (y :
   pub there : slice_get hs j ≡ Some history
   pub is : y ≡ f history
 
-mapped_at : (f : History → History) (hs : List History) (j : ℕ) (y : History) → slice_get (map f hs) j ≡ Some y → IsMapped f hs j y
+pub mapped_at : (f : History → History) (hs : List History) (j : ℕ) (y : History) → slice_get (map f hs) j ≡ Some y → IsMapped f hs j y
 mapped_at f [] j y at = absurd (none-some y at)
 mapped_at f (x ∷ xs) zero y at = record { history = x; there = refl; is = sym (same_Some (f x) y at) }
 mapped_at f (x ∷ xs) (suc j) y at = let behind = mapped_at f xs j y at in record { history = behind.history; there = behind.there; is = behind.is }
@@ -101,10 +101,10 @@ fewer_entries test (x ∷ xs) = by (test x) (fewer_entries test xs)
     by true rest = omega (arith, rest)
     by false rest = omega (arith, rest)
 
-bytes_less : (places : Places) (hs : List History) → bytes_kept (cut_histories places hs) ≤ bytes_kept hs
+pub bytes_less : (places : Places) (hs : List History) → bytes_kept (cut_histories places hs) ≤ bytes_kept hs
 bytes_less places hs = total_less history_bytes places (λ h. let fewer = sum_less entry_bytes (λ e. places 4 e.change) h.entries in omega (arith, fewer)) hs
 
-entries_less : (places : Places) (hs : List History) → entries_kept (cut_histories places hs) ≤ entries_kept hs
+pub entries_less : (places : Places) (hs : List History) → entries_kept (cut_histories places hs) ≤ entries_kept hs
 entries_less places hs = total_less (λ h. length h.entries) places (λ h. fewer_entries (λ e. places 4 e.change) h.entries) hs
 
 length_to : (first n : ℕ) (hs : List History) → RunsFrom first (map (λ h. h.no.0) hs) → first ≤ n → n ≤ first + length hs

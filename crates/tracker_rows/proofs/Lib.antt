@@ -18,3 +18,4 @@ pub mod Cuts
 pub mod Agreeing
 pub mod Joins
 pub mod IssueJoins
+pub mod GroupJoins
