@@ -212,3 +212,117 @@ empties names c (e ∷ es) fit = by (e.change == c) (empties names c es fit.1)
     by : (b : Bool) → MayEmptyFields (entries_of_change c es) → MayEmptyFields (if b then e ∷ entries_of_change c es else entries_of_change c es)
     by true rest = (λ is. fits_empty names e.field.0 (subst (λ v. fits names e.field.0 v ≡ true) is fit.0), rest)
     by false rest = rest
+
+-- ---- groups
+
+module _ (m : Machine) (written : Parts) (is : IsTracker m) (c k : ℕ) (h : History) (g : Group) (there : slice_get m.histories k ≡ Some h)
+    (found : group_of (entries_of_change c h.entries) ≡ Some g) where
+  abbrev before : Machine
+  before = cut (below 4 c) written m
+
+  abbrev own_cut : History
+  own_cut = cut_history (below 4 c) h
+
+  own : IsGroupIn c h.entries g
+  own = group_in c h.entries g found
+
+  settled_one : (j : ℕ) (x : History) → slice_get m.histories j ≡ Some x → IsSettled (names_in m.setup) m.moment m.change x
+  settled_one j x at = settled_at (names_in m.setup) m.moment m.change m.histories j x at is.settled
+
+  changed : IsChangeAt m.histories k c g.at
+  changed = (h, there, inr own.has)
+
+  greater : h.change < c
+  greater = later_than h.change h.at h.entries c g.at (settled_one k h there).history.order own.has
+
+  all_there : cut_histories (below 4 c) m.histories ≡ map (cut_history (below 4 c)) m.histories
+  all_there = ap (map (cut_history (below 4 c))) (all_pass m.histories)
+
+  old_there : slice_get (cut_histories (below 4 c) m.histories) k ≡ Some own_cut
+  old_there = ap (λ (hs : List History). slice_get hs k) all_there ∙ get_mapped (cut_history (below 4 c)) m.histories k h there
+
+  change_before : (j n a : ℕ) → IsChangeAt (cut_histories (below 4 c) m.histories) j n a → IsChangeAt m.histories j n a × (n ≢ c)
+  change_before j n a (y, at_y, change) =
+      let mapped = mapped_at (cut_history (below 4 c)) m.histories j y (ap (λ (hs : List History). slice_get hs j) (sym all_there) ∙ at_y) in
+      let x : History = mapped.history in
+      by x mapped.there (subst (λ (i : History). IsChangeOf i n a) mapped.is change)
+    where
+      by : (x : History) → slice_get m.histories j ≡ Some x → IsChangeOf (cut_history (below 4 c) x) n a → IsChangeAt m.histories j n a × (n ≢ c)
+      by x at (inl created) =
+          let one : IsChangeAt m.histories j n a = (x, at, inl created) in
+          (one, λ same. absurd (creation x at created one same))
+        where
+          creation : (x : History) → slice_get m.histories j ≡ Some x → (x.change ≡ n) × (x.at ≡ a) → IsChangeAt m.histories j n a → n ≡ c → ⊥
+          creation x at created one same =
+              let place : j ≡ k = is.chronicle.once j k c a g.at (subst (λ i. IsChangeAt m.histories j i a) same one) changed in
+              let issue : x ≡ h = same_Some x h (sym at ∙ ap (slice_get m.histories) place ∙ there) in
+              omega (arith, greater, ap (λ (i : History). i.change) issue, created.0, same)
+      by x at (inr has) = let more = has_before c x.entries n a has in ((x, at, inr more.0), λ same. omega (arith, more.1, same))
+
+  turn : IsInTurn before c g.at
+  turn = record {
+    once = λ j n a one same. (change_before j n a one).1 same;
+    counted = (is.chronicle.known k c g.at changed).1;
+    later = λ j n a one less. is.chronicle.later j k n c a g.at (change_before j n a one).0 changed less;
+    earlier = λ j n a one less. is.chronicle.later k j c n g.at a changed (change_before j n a one).0 less;
+    timely = (is.chronicle.known k c g.at changed).2;
+  }
+
+  -- no other issue has the change
+  others : (j : ℕ) (x : History) → slice_get m.histories j ≡ Some x → (j ≡ k → ⊥) → entries_of_change c x.entries ≡ []
+  others j x at differ = by (entries_of_change c x.entries) refl
+    where
+      by : (es : List Entry) → entries_of_change c x.entries ≡ es → entries_of_change c x.entries ≡ []
+      by [] list = list
+      by (e ∷ es) list =
+          let first = first_of_change c x.entries e es list in
+          absurd (differ (is.chronicle.once j k c e.at g.at (x, at, inr first.1) changed))
+
+  with_more : grown (cut_histories (below 4 c) m.histories) k (entries_of_change c h.entries) ≡ cut_histories (below 4 (c + 1)) m.histories
+  with_more = histories_more c k h m.histories there (λ j x at. (settled_one j x at).history.order) others
+
+  more : grown (cut_histories (below 4 c) m.histories) k g.entries ≡ cut_histories (below 4 (c + 1)) m.histories
+  more = ap (grown (cut_histories (below 4 c) m.histories) k) own.entries ∙ with_more
+
+  as_set : set (cut_histories (below 4 c) m.histories) k (longer own_cut g.entries) ≡ cut_histories (below 4 (c + 1)) m.histories
+  as_set = sym (grown_at (cut_histories (below 4 c) m.histories) old_there) ∙ more
+    where
+      grown_at : (hs : List History) → slice_get hs k ≡ Some own_cut → grown hs k g.entries ≡ set hs k (longer own_cut g.entries)
+      grown_at hs at = rw at refl
+
+  entries_are : AreGroupEntries (present own_cut) 0 g.change g.at g.author g.entries
+  entries_are =
+      subst (λ n. AreGroupEntries (present own_cut) 0 n g.at g.author g.entries) (sym own.change)
+      (subst (AreGroupEntries (present own_cut) 0 c g.at g.author) (sym own.entries)
+      (group_there c g h (settled_one k h there).history.changes (settled_one k h there).history.order own.change found))
+
+  may_be : MayBeGroup before own_cut g
+  may_be =
+      let hs : List History = cut_histories (below 4 c) m.histories in
+      let long = length-append own_cut.entries g.entries in
+      record {
+        greater = omega (arith, greater, own.change);
+        turn = subst (λ n. IsInTurn before n g.at) (sym own.change) turn;
+        some = own.some;
+        entries = entries_are;
+        named = subst MayEmptyFields (sym own.entries) (empties (names_in m.setup) c h.entries (settled_one k h there).fit);
+        few = omega (arith, entries_kept-set hs k own_cut (longer own_cut g.entries) old_there, long, ap entries_kept as_set,
+            entries_less (below 4 (c + 1)) m.histories, is.few_entries);
+        light = omega (arith, bytes_kept-set hs k own_cut (longer own_cut g.entries) old_there, history_bytes-more own_cut g.entries, ap bytes_kept as_set,
+            bytes_less (below 4 (c + 1)) m.histories, is.few_bytes);
+      }
+
+  place_is : h.no.0 - 1 ≡ k
+  place_is = let at = number_at 1 m.histories k h is.numbers there in omega (arith, at.0)
+
+  pub group_joins : Joins before (cut (below 4 (c + 1)) written m) (part.Group h.no g)
+  unfolding MayJoin joined
+  group_joins = record {
+    may = record {
+      history = own_cut;
+      there = ap (slice_get (cut_histories (below 4 c) m.histories)) place_is ∙ old_there;
+      group = may_be;
+    };
+    leads = ap (λ (hs : List History). let next : Machine = record before { histories = hs } in next)
+        (ap (λ place. grown (cut_histories (below 4 c) m.histories) place g.entries) place_is ∙ more);
+  }
