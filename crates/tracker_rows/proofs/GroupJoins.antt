@@ -238,7 +238,7 @@ module _ (m : Machine) (written : Parts) (is : IsTracker m) (c k : ℕ) (h : His
   all_there : cut_histories (below 4 c) m.histories ≡ map (cut_history (below 4 c)) m.histories
   all_there = ap (map (cut_history (below 4 c))) (all_pass m.histories)
 
-  old_there : slice_get (cut_histories (below 4 c) m.histories) k ≡ Some own_cut
+  pub old_there : slice_get (cut_histories (below 4 c) m.histories) k ≡ Some own_cut
   old_there = ap (λ (hs : List History). slice_get hs k) all_there ∙ get_mapped (cut_history (below 4 c)) m.histories k h there
 
   change_before : (j n a : ℕ) → IsChangeAt (cut_histories (below 4 c) m.histories) j n a → IsChangeAt m.histories j n a × (n ≢ c)
@@ -284,7 +284,7 @@ module _ (m : Machine) (written : Parts) (is : IsTracker m) (c k : ℕ) (h : His
   more : grown (cut_histories (below 4 c) m.histories) k g.entries ≡ cut_histories (below 4 (c + 1)) m.histories
   more = ap (grown (cut_histories (below 4 c) m.histories) k) own.entries ∙ with_more
 
-  as_set : set (cut_histories (below 4 c) m.histories) k (longer own_cut g.entries) ≡ cut_histories (below 4 (c + 1)) m.histories
+  pub as_set : set (cut_histories (below 4 c) m.histories) k (longer own_cut g.entries) ≡ cut_histories (below 4 (c + 1)) m.histories
   as_set = sym (grown_at (cut_histories (below 4 c) m.histories) old_there) ∙ more
     where
       grown_at : (hs : List History) → slice_get hs k ≡ Some own_cut → grown hs k g.entries ≡ set hs k (longer own_cut g.entries)

@@ -100,7 +100,7 @@ not_below_itself r is = by (rank_cmp r r) is (rank_cmp-total.antisymm r r)
         apart e = cc
 
 -- what holds of all ranks holds of that of an issue
-all_ranked : (P : RankParts → Type 0) (ps : List Pair) (n : ℕ) (rank : RankParts) → All (λ p. P p.0) ps → rank_in ps n ≡ Some rank → P rank
+pub all_ranked : (P : RankParts → Type 0) (ps : List Pair) (n : ℕ) (rank : RankParts) → All (λ p. P p.0) ps → rank_in ps n ≡ Some rank → P rank
 all_ranked P [] n rank all is = absurd (none-some rank is)
 all_ranked P (p ∷ ps) n rank all is = by (p.1.0 == n) refl (λ behind. all_ranked P ps n rank (All-tail (λ p. P p.0) p ps all) behind)
   where

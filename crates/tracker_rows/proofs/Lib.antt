@@ -19,3 +19,4 @@ pub mod Agreeing
 pub mod Joins
 pub mod IssueJoins
 pub mod GroupJoins
+pub mod EachPart
