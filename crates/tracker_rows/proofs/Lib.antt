@@ -20,3 +20,4 @@ pub mod Joins
 pub mod IssueJoins
 pub mod GroupJoins
 pub mod EachPart
+pub mod TrackersLoad
