@@ -168,7 +168,7 @@ made_of m groups histories externals order sprints filters boards = record {
   boards = boards;
 }
 
-same_made : (m : Machine) {g g' : List UserGroup} {h h' : List History} {e e' : List ExternalId} {o o' : List Pair} {s s' : List Sprint} {f f' : List SavedFilter} {b b' : List Board}
+pub same_made : (m : Machine) {g g' : List UserGroup} {h h' : List History} {e e' : List ExternalId} {o o' : List Pair} {s s' : List Sprint} {f f' : List SavedFilter} {b b' : List Board}
     → g ≡ g' → h ≡ h' → e ≡ e' → o ≡ o' → s ≡ s' → f ≡ f' → b ≡ b' → made_of m g h e o s f b ≡ made_of m g' h' e' o' s' f' b'
 same_made m {g' = g'} {h = h} {h' = h'} {e = e} {e' = e'} {o = o} {o' = o'} {s = s} {s' = s'} {f = f} {f' = f'} {b = b} gs hs es os ss fs bs =
     ap (λ x. made_of m x h e o s f b) gs
