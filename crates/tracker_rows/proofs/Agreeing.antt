@@ -1,5 +1,5 @@
 -- A tracker up to one place is that up to another one where no part of it stands between them.
-use Rattle.std.proofs.Common.{◌≡◌, ◌≢◌, ℕ, zero, suc, ◌+◌, ◌≤◌, ◌==◌, Bool, true, false, List, [], ◌∷◌, length, map, filter, slice_get, Option, Some, None, option_map, refl, sym, ap, ◌∙◌, subst, arith, eq-eqb, ne_eqb}
+use Rattle.std.proofs.Common.{◌≡◌, ◌≢◌, ℕ, zero, suc, ◌+◌, ◌==◌, Bool, true, false, List, [], ◌∷◌, length, map, filter, slice_get, Option, Some, None, option_map, refl, sym, ap, ◌∙◌, subst, arith, eq-eqb, ne_eqb}
 use Rattle.std.specs.Prelude.{if◌then◌else◌}
 use Rattle.std.specs.List.{find}
 use Rattle.std.specs.Option.{option_or}
@@ -21,7 +21,7 @@ use Rattle.tracker_machine.specs.Machine.{Machine}
 use Rattle.tracker_machine.specs.Saved.{SavedFilter, filter_number, board_number}
 use Rattle.tracker_machine.specs.Kept.{issue_numbered, entries_of_change, group_of, issue_group, group_numbered, part_at}
 use Rattle.tracker_ranks.proofs.Given.{rank_here, rank_behind}
-use Rattle.tracker_rows.proofs.Cuts.{Places, cut_history, cut_histories, cut_order, cut_sprints, cut_groups, told_in, cut_setup, cut, all_pass}
+use Rattle.tracker_rows.proofs.Cuts.{Places, cut_history, cut_histories, cut_sprints, cut_groups, told_in, cut, all_pass}
 
 -- ---- what is found
 

@@ -1,33 +1,29 @@
 -- A tracker up to some place: what its rows before that place tell. With the part that stands there it is the tracker up to the next place.
-use Rattle.std.proofs.Common.{◌≡◌, ◌≢◌, ℕ, zero, suc, ◌+◌, ◌-◌, ◌<◌, ◌≤◌, ◌==◌, ◌&&◌, ◌||◌, ◌⊎◌, inl, inr, nat_lt, Bool, true, false, List, [], ◌∷◌, ◌++◌, length, map, filter, slice_get, set, Option, Some, None, option_map, refl, sym, ap, ◌∙◌, subst, arith, append-nil, eqb-true, eq-eqb, ne_eqb}
-use Rattle.std.specs.Prelude.{if◌then◌else◌, slice_set}
+use Rattle.std.proofs.Common.{◌≡◌, ◌≢◌, ℕ, zero, suc, ◌+◌, ◌-◌, ◌<◌, ◌≤◌, ◌==◌, ◌&&◌, ◌||◌, ◌⊎◌, inl, inr, nat_lt, Bool, true, false, List, [], ◌∷◌, ◌++◌, length, map, filter, slice_get, set, Option, Some, None, refl, sym, ap, ◌∙◌, subst, arith, append-nil, eq-eqb, ne_eqb}
+use Rattle.std.specs.Prelude.{if◌then◌else◌}
 use Rattle.std.specs.List.{All}
-use Rattle.std.proofs.lemmas.Bool.{cases_eq, cases_lt, cases_Bool}
+use Rattle.std.proofs.lemmas.Bool.{cases_eq, cases_lt}
 use Rattle.std.proofs.lemmas.Bool.Decides.{nat_tests}
 use Rattle.std.proofs.lemmas.List.Elements.{All-nil, All-cons, All-head, All-tail, All-filter}
 use Rattle.std.proofs.lemmas.List.Kept.{AllPairs-filter}
 use Rattle.std.proofs.lemmas.Option.{none-some, same_Some}
 use Rattle.rising_numbers.specs.ByNumber.{RiseFrom, by_number, put_by_number}
-use Rattle.rising_numbers.proofs.ByNumber.{rise_less, none_below}
+use Rattle.rising_numbers.proofs.ByNumber.{none_below}
 use Rattle.field_values.specs.declared.numbers.IssueNo.{IssueNo}
-use Rattle.field_values.specs.declared.numbers.UserNo.{UserNo}
 use Rattle.field_values.specs.declared.parts.Group.{Group as UserGroup}
 use Rattle.field_values.specs.GroupMembers.{with_members}
 use Rattle.field_values.specs.Parts.{Parts}
 use Rattle.change_history.specs.declared.entry.Entry.{Entry}
 use Rattle.change_history.specs.History.{History, FollowEachOther, AreInOrder}
-use Rattle.external_ids.specs.Ids.{external_number}
 use Rattle.rank_strings.specs.Rank.{RankParts, IsBelow}
 use Rattle.rank_balancer.specs.Step.{after_move}
-use Rattle.board.specs.Order.{Pair, IsOrder, rank_in, places_before, IsFreeFor}
+use Rattle.board.specs.Order.{Pair, IsOrder, rank_in, IsFreeFor}
 use Rattle.board.proofs.Placing.{order_is_kept}
 use Rattle.rank_strings.specs.Rank.{IsRank}
 use Rattle.tracker_ranks.proofs.Given.{gives_one_rank, rank_here, rank_behind}
 use Rattle.tracker_ranks.proofs.OneOrder.{ranks_make_one_order}
 use Rattle.sprints.specs.declared.sprint.Sprint.{Sprint}
-use Rattle.sprints.specs.Sprint.{sprint_of}
 use Rattle.tracker_machine.specs.Machine.{Machine}
-use Rattle.tracker_machine.specs.Saved.{filter_number, board_number}
 use Rattle.tracker_machine.specs.Kept.{entries_of_change, issue_numbered}
 use Rattle.tracker_machine.specs.Tracker.{RunsFrom}
 use Rattle.tracker_rows.specs.Gathered.{opened}
@@ -294,9 +290,9 @@ rank_more issue rank ps is form free own =
 
 -- ---- issues
 
-pub none_pass : (es : List Entry) → filter (λ e. false) es ≡ []
+pub none_pass : {X : Type 0} (xs : List X) → filter (λ x. false) xs ≡ []
 none_pass [] = refl
-none_pass (e ∷ es) = none_pass es
+none_pass (x ∷ xs) = none_pass xs
 
 pub all_pass : {X : Type 0} (xs : List X) → filter (λ x. true) xs ≡ xs
 all_pass [] = refl

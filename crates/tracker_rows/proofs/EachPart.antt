@@ -1,12 +1,11 @@
 -- Each part of a tracker joins what stands before it, by its kind.
-use Rattle.std.proofs.Common.{◌≡◌, ◌≢◌, ℕ, zero, suc, ◌+◌, ◌-◌, ◌<◌, ◌≤◌, ◌==◌, ◌⊎◌, inl, inr, nat_lt, Bool, true, false, List, [], ◌∷◌, ◌++◌, length, map, filter, slice_get, set, Option, Some, None, option_map, refl, sym, ap, ◌∙◌, subst, arith, eqb-true, eq-eqb, ne_eqb, leb-true}
-use Rattle.std.specs.Prelude.{if◌then◌else◌, sum_by, nat_le}
-use Rattle.std.specs.List.{All}
+use Rattle.std.proofs.Common.{◌≡◌, ℕ, zero, suc, ◌+◌, ◌-◌, ◌<◌, ◌≤◌, ◌==◌, ◌⊎◌, inl, inr, nat_lt, Bool, true, false, List, [], ◌∷◌, ◌++◌, length, filter, slice_get, Option, Some, None, option_map, refl, sym, ap, ◌∙◌, subst, arith, eq-eqb, ne_eqb, leb-true}
+use Rattle.std.specs.Prelude.{if◌then◌else◌, nat_le}
 use Rattle.std.specs.Option.{option_or}
 use Rattle.std.proofs.lemmas.Bool.{cases_eq, cases_lt, and_parts}
 use Rattle.std.proofs.lemmas.Bool.Decides.{nat_tests}
 use Rattle.std.proofs.lemmas.List.{length-append, length-set}
-use Rattle.std.proofs.lemmas.Option.{none-some, same_Some, slice_get_within}
+use Rattle.std.proofs.lemmas.Option.{none-some, same_Some}
 use Rattle.rising_numbers.specs.ByNumber.{by_number}
 use Rattle.rising_numbers.proofs.Placed.{found_at}
 use Rattle.field_values.specs.declared.numbers.FieldNo.{FieldNo}
@@ -27,7 +26,7 @@ use Rattle.rank_strings.specs.Rank.{RankParts, IsRank}
 use Rattle.board.specs.declared.board.Board.{Board}
 use Rattle.board.specs.Order.{Pair, rank_in}
 use Rattle.jql_meaning.specs.Surroundings.{numbered}
-use Rattle.tracker_ranks.proofs.Given.{rank_here, rank_behind, rank_from_in, in_from_rank}
+use Rattle.tracker_ranks.proofs.Given.{rank_behind, rank_from_in, in_from_rank}
 use Rattle.sprints.specs.declared.sprint.Sprint.{Sprint}
 use Rattle.sprints.specs.Sprint.{sprint_of}
 use Rattle.tracker_keeper.specs.declared.row.Row.{Row}
@@ -52,7 +51,7 @@ use Rattle.tracker_rows.proofs.Issues.{holds_at}
 use Rattle.tracker_rows.proofs.Making.{IsBefore}
 use Rattle.tracker_rows.proofs.Steps.{changes_by}
 use Rattle.tracker_rows.proofs.Loaded.{either_of, opening_of}
-use Rattle.tracker_rows.proofs.Cuts.{Places, below, cut_history, cut_histories, cut_order, told_in, told_is, cut, all_pass, numbered_by, issue_more, to}
+use Rattle.tracker_rows.proofs.Cuts.{Places, below, cut_history, cut_histories, cut_order, told_in, told_is, cut, all_pass, numbered_by, issue_more}
 use Rattle.tracker_rows.proofs.Joins.{Joins, all_ranked, rank_joins, external_joins, sprint_joins, filter_joins, board_joins, members_join, length_all}
 use Rattle.tracker_rows.proofs.IssueJoins.{issue_joins}
 use Rattle.tracker_rows.proofs.GroupJoins.{group_joins, as_set, old_there, group_in}

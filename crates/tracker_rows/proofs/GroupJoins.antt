@@ -1,8 +1,8 @@
 -- A change group may join what stands before it, and leads to what stands up to it.
-use Rattle.std.proofs.Common.{◌≡◌, ◌≢◌, ℕ, zero, suc, ◌+◌, ◌-◌, ◌<◌, ◌≤◌, ◌==◌, ◌⊎◌, inl, inr, nat_lt, Bool, true, false, List, [], ◌∷◌, ◌++◌, length, map, filter, slice_get, set, Option, Some, None, refl, sym, ap, ◌∙◌, subst, arith, eqb-true, eq-eqb, ne_eqb}
-use Rattle.std.specs.Prelude.{if◌then◌else◌, sum_by}
+use Rattle.std.proofs.Common.{◌≡◌, ◌≢◌, ℕ, ◌+◌, ◌-◌, ◌<◌, ◌≤◌, ◌==◌, ◌⊎◌, inl, inr, nat_lt, Bool, true, false, List, [], ◌∷◌, length, map, slice_get, set, Option, Some, None, refl, sym, ap, ◌∙◌, subst, arith, eqb-true, eq-eqb, ne_eqb}
+use Rattle.std.specs.Prelude.{if◌then◌else◌}
 use Rattle.std.specs.Option.{option_map_or}
-use Rattle.std.proofs.lemmas.Bool.{cases_eq, cases_lt, cases_Bool, false≢true, ltb-true}
+use Rattle.std.proofs.lemmas.Bool.{cases_eq, cases_lt, false≢true}
 use Rattle.std.proofs.lemmas.Bool.Decides.{nat_tests}
 use Rattle.std.proofs.lemmas.List.{length-append}
 use Rattle.std.proofs.lemmas.Option.{none-some, same_Some}
@@ -17,10 +17,9 @@ use Rattle.fields.specs.SetupParts.{names_in}
 use Rattle.change_history.specs.declared.entry.Entry.{Entry}
 use Rattle.change_history.specs.declared.entry.Group.{Group}
 use Rattle.change_history.specs.History.{History, present, opening_value, value_after, put_value, AreChanges, FollowEachOther, AreInOrder, AreGroupEntries}
-use Rattle.tracker_keeper.specs.declared.part.Part.{Part}
 use Rattle.tracker_keeper.specs.declared.part.Part.TheVariants as part
 use Rattle.tracker_machine.specs.Machine.{Machine}
-use Rattle.tracker_machine.specs.Checks.{entries_kept, bytes_kept, history_bytes, entry_bytes}
+use Rattle.tracker_machine.specs.Checks.{entries_kept, bytes_kept}
 use Rattle.tracker_machine.specs.Chronicle.{HasEntry, IsChangeOf, IsChangeAt}
 use Rattle.tracker_machine.specs.Effect.{longer, grown}
 use Rattle.tracker_machine.specs.Kept.{entries_of_change, group_of}
@@ -29,10 +28,10 @@ use Rattle.tracker_machine.proofs.Totals.{history_bytes-more, bytes_kept-set, en
 use Rattle.tracker_machine.proofs.Keepable.{number_at}
 use Rattle.tracker_machine.proofs.Settled.{settled_at}
 use Rattle.tracker_rows.specs.Gathered.{joined}
-use Rattle.tracker_rows.specs.Rules.{IsInTurn, MayBeGroup, MayBeGroupOf, MayEmptyFields, MayJoin}
+use Rattle.tracker_rows.specs.Rules.{IsInTurn, MayBeGroup, MayEmptyFields, MayJoin}
 use Rattle.tracker_rows.proofs.Cuts.{below, cut_history, cut_histories, cut, all_pass, histories_more, get_mapped, none_before, entries_to}
 use Rattle.tracker_rows.proofs.Joins.{Joins}
-use Rattle.tracker_rows.proofs.IssueJoins.{IsMapped, mapped_at, bytes_less, entries_less}
+use Rattle.tracker_rows.proofs.IssueJoins.{mapped_at, bytes_less, entries_less}
 
 -- ---- entries
 

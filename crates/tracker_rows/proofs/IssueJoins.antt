@@ -1,46 +1,33 @@
 -- Issues and change groups may join what stands before them, and lead to what stands up to them.
-use Rattle.std.proofs.Common.{◌≡◌, ◌≢◌, ℕ, zero, suc, ◌+◌, ◌-◌, ◌<◌, ◌≤◌, ◌==◌, ◌⊎◌, inl, inr, nat_lt, Bool, true, false, List, [], ◌∷◌, ◌++◌, length, map, filter, slice_get, set, bytes_eq, Option, Some, None, option_map, refl, sym, ap, ◌∙◌, subst, arith, eqb-true, eq-eqb, ne_eqb}
+use Rattle.std.proofs.Common.{◌≡◌, ℕ, zero, suc, ◌+◌, ◌-◌, ◌<◌, ◌≤◌, ◌⊎◌, inl, inr, nat_lt, Bool, true, false, List, [], ◌∷◌, ◌++◌, length, map, filter, slice_get, bytes_eq, Some, refl, sym, ap, ◌∙◌, subst, arith}
 use Rattle.std.specs.Prelude.{if◌then◌else◌, sum_by}
 use Rattle.std.specs.List.{All}
-use Rattle.std.specs.Option.{option_or, option_map_or}
-use Rattle.std.proofs.lemmas.Bool.{cases_eq, cases_lt, cases_Bool, false≢true, ltb-true}
+use Rattle.std.proofs.lemmas.Bool.{cases_lt}
 use Rattle.std.proofs.lemmas.Bool.Decides.{nat_tests}
-use Rattle.std.proofs.lemmas.List.{length-append}
 use Rattle.std.proofs.lemmas.List.Sums.{sum_by-cons}
 use Rattle.std.proofs.lemmas.List.Elements.{All-nil, All-cons}
 use Rattle.std.proofs.lemmas.Option.{none-some, same_Some}
 use Rattle.rising_numbers.specs.ByNumber.{RiseFrom}
-use Rattle.rising_numbers.proofs.Placed.{found_at}
-use Rattle.field_values.specs.declared.numbers.FieldNo.{FieldNo}
-use Rattle.field_values.specs.declared.numbers.UserNo.{UserNo}
-use Rattle.field_values.specs.declared.value.Value.{Value}
-use Rattle.field_values.specs.declared.value.Value.TheVariants as value
 use Rattle.field_values.specs.Parts.{Parts}
-use Rattle.field_forms.specs.declared.form.Form.{Form}
-use Rattle.field_forms.specs.Known.{Names, form_of, choices_of, may_be_empty, fits_form, fits}
 use Rattle.fields.specs.SetupParts.{names_in}
 use Rattle.fields.specs.Naming.{name_at, key_of}
-use Rattle.change_history.specs.declared.entry.Entry.{Entry}
-use Rattle.change_history.specs.declared.entry.Group.{Group}
-use Rattle.change_history.specs.History.{History, present, opening_value, value_after, put_value, AreChanges, FollowEachOther, AreInOrder, AreGroupEntries}
+use Rattle.change_history.specs.History.{History}
 use Rattle.jql_meaning.specs.Comparison.{project_of}
-use Rattle.tracker_keeper.specs.declared.part.Part.{Part}
 use Rattle.tracker_keeper.specs.declared.part.Part.TheVariants as part
 use Rattle.tracker_machine.specs.Machine.{Machine}
 use Rattle.tracker_machine.specs.Known.{project_keys, issues_of}
 use Rattle.tracker_machine.specs.Checks.{entries_kept, bytes_kept, history_bytes, entry_bytes}
 use Rattle.tracker_machine.specs.Chronicle.{HasEntry, IsChangeOf, IsChangeAt}
-use Rattle.tracker_machine.specs.Effect.{longer, grown}
-use Rattle.tracker_machine.specs.Kept.{issue_numbered, entries_of_change, group_of}
-use Rattle.tracker_machine.specs.Tracker.{AllEntriesFit, IsSettled, RunsFrom, RisesAbove, IsNextKey, AreKeyed, IsTracker}
-use Rattle.tracker_machine.proofs.Totals.{history_bytes-more, bytes_kept-push, bytes_kept-set, entries_kept-set}
+use Rattle.tracker_machine.specs.Kept.{issue_numbered}
+use Rattle.tracker_machine.specs.Tracker.{IsSettled, RunsFrom, RisesAbove, IsNextKey, AreKeyed, IsTracker}
+use Rattle.tracker_machine.proofs.Totals.{bytes_kept-push}
 use Rattle.tracker_machine.proofs.Keepable.{number_at}
 use Rattle.tracker_machine.proofs.Settled.{settled_at}
 use Rattle.tracker_rows.specs.Gathered.{opened, joined}
-use Rattle.tracker_rows.specs.Rules.{IsInTurn, MayBeGroup, MayBeGroupOf, MayEmptyFields, MayJoin}
+use Rattle.tracker_rows.specs.Rules.{MayJoin}
 use Rattle.tracker_rows.proofs.Issues.{holds_at}
-use Rattle.tracker_rows.proofs.Cuts.{Places, below, cut_history, cut_histories, cut, to, none_to, all_less, all_pass, none_pass, runs_rise, numbered_by, issue_more, histories_more, get_mapped, none_before}
-use Rattle.tracker_rows.proofs.Joins.{Joins, fewer_before}
+use Rattle.tracker_rows.proofs.Cuts.{Places, below, cut_history, cut_histories, cut, to, none_to, all_less, none_pass, runs_rise, issue_more}
+use Rattle.tracker_rows.proofs.Joins.{Joins, fewer}
 
 -- ---- places in lists
 
@@ -93,19 +80,11 @@ module _ (count : History → ℕ) (places : Places) (less : (h : History) → c
       by true rest = omega (arith, rest, sum_by-cons count h hs, sum_by-cons count (cut_history places h) (cut_histories places hs), less h)
       by false rest = omega (arith, rest, sum_by-cons count h hs)
 
-fewer_entries : {X : Type 0} (test : X → Bool) (xs : List X) → length (filter test xs) ≤ length xs
-fewer_entries test [] = omega arith
-fewer_entries test (x ∷ xs) = by (test x) (fewer_entries test xs)
-  where
-    by : (b : Bool) → length (filter test xs) ≤ length xs → length (if b then x ∷ filter test xs else filter test xs) ≤ length (x ∷ xs)
-    by true rest = omega (arith, rest)
-    by false rest = omega (arith, rest)
-
 pub bytes_less : (places : Places) (hs : List History) → bytes_kept (cut_histories places hs) ≤ bytes_kept hs
 bytes_less places hs = total_less history_bytes places (λ h. let fewer = sum_less entry_bytes (λ e. places 4 e.change) h.entries in omega (arith, fewer)) hs
 
 pub entries_less : (places : Places) (hs : List History) → entries_kept (cut_histories places hs) ≤ entries_kept hs
-entries_less places hs = total_less (λ h. length h.entries) places (λ h. fewer_entries (λ e. places 4 e.change) h.entries) hs
+entries_less places hs = total_less (λ h. length h.entries) places (λ h. fewer (λ e. places 4 e.change) h.entries) hs
 
 length_to : (first n : ℕ) (hs : List History) → RunsFrom first (map (λ h. h.no.0) hs) → first ≤ n → n ≤ first + length hs
     → length (cut_histories (below 3 n) hs) ≡ n - first

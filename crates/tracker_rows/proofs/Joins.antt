@@ -1,17 +1,17 @@
 -- Each part of a tracker may join what stands before it, and leads to what stands up to it: ranks and all behind them.
-use Rattle.std.proofs.Common.{◌≡◌, ◌≢◌, ℕ, zero, suc, ◌+◌, ◌-◌, ◌<◌, ◌≤◌, ◌==◌, ◌&&◌, ◌⊎◌, inl, inr, nat_lt, Bool, true, false, List, [], ◌∷◌, ◌++◌, length, map, filter, slice_get, bytes_eq, Option, Some, None, Ok, refl, sym, ap, ◌∙◌, subst, arith, eqb-true, eq-eqb, ne_eqb}
+use Rattle.std.proofs.Common.{◌≡◌, ◌≢◌, ℕ, zero, suc, ◌+◌, ◌-◌, ◌<◌, ◌≤◌, ◌==◌, ◌⊎◌, inl, inr, nat_lt, Bool, true, false, List, [], ◌∷◌, ◌++◌, length, map, filter, slice_get, bytes_eq, Some, None, refl, sym, ap, ◌∙◌, subst, arith, eqb-true, eq-eqb, ne_eqb}
 use Rattle.std.specs.Prelude.{if◌then◌else◌}
 use Rattle.std.specs.List.{All}
 use Rattle.std.specs.declared.cmp.Ordering.{Ordering}
-use Rattle.std.specs.declared.cmp.Ordering.TheVariants.{Less, Equal, Greater}
+use Rattle.std.specs.declared.cmp.Ordering.TheVariants.{Less, Greater}
 use Rattle.std.specs.Ordering.{ordering_reverse}
-use Rattle.std.proofs.lemmas.Bool.{cases_eq, cases_lt, cases_Bool, and_parts, and_from, false≢true, true≢false}
+use Rattle.std.proofs.lemmas.Bool.{cases_eq, cases_lt, and_parts, true≢false}
 use Rattle.std.proofs.lemmas.Bool.Decides.{nat_tests}
-use Rattle.std.proofs.lemmas.List.{length-map, length-append}
+use Rattle.std.proofs.lemmas.List.{length-append}
 use Rattle.std.proofs.lemmas.List.Elements.{All-nil, All-cons, All-head, All-tail, All-filter, All-weaker}
-use Rattle.std.proofs.lemmas.Option.{none-some, same_Some, slice_get_within}
+use Rattle.std.proofs.lemmas.Option.{none-some, same_Some}
 use Rattle.std.proofs.lemmas.Slice.Eq.{bytes_eq-Decides}
-use Rattle.rising_numbers.specs.ByNumber.{RiseFrom, by_number, put_by_number}
+use Rattle.rising_numbers.specs.ByNumber.{RiseFrom, by_number}
 use Rattle.field_values.specs.declared.numbers.GroupNo.{GroupNo}
 use Rattle.field_values.specs.declared.numbers.IssueNo.{IssueNo}
 use Rattle.field_values.specs.declared.numbers.SprintNo.{SprintNo}
@@ -38,7 +38,6 @@ use Rattle.jql_syntax.specs.Either.{QueryOrFault, text_is, text_has}
 use Rattle.jql_syntax.proofs.Total.{text_decided}
 use Rattle.jql_grammar.specs.Binding.{bound_in}
 use Rattle.jql_grammar.specs.Scope.{Scope, scope_by}
-use Rattle.jql_meaning.specs.Surroundings.{numbered}
 use Rattle.sprints.specs.declared.sprint.Sprint.{Sprint}
 use Rattle.sprints.specs.Sprint.{sprint_of}
 use Rattle.tracker_keeper.specs.declared.part.Format.TheVariants.{Second}
@@ -47,13 +46,12 @@ use Rattle.tracker_keeper.specs.declared.part.Part.TheVariants as part
 use Rattle.tracker_machine.specs.Machine.{Machine}
 use Rattle.tracker_machine.specs.Query.{bound_or_fault, asked_by, asked}
 use Rattle.tracker_machine.specs.Saved.{SavedFilter, filter_number, board_number, is_named, filter_named, HaveOwnNames, IsFilter, IsBoard}
-use Rattle.tracker_machine.specs.SprintRules.{IsSprint}
 use Rattle.tracker_machine.specs.Tracker.{IsTracker, IsExternalOf}
 use Rattle.tracker_machine.proofs.Saved.{all_found}
 use Rattle.tracker_machine.proofs.SprintRules.{found_is_there, sprint_is}
 use Rattle.tracker_rows.specs.Gathered.{joined}
 use Rattle.tracker_rows.specs.Rules.{MayJoin}
-use Rattle.tracker_rows.proofs.Cuts.{Places, below, cut_histories, cut_order, cut_sprints, cut_groups, cut_setup, cut, to, one_more, none_to, no_sprints_yet, all_less, put_next, sprint_more, group_more, rank_more, all_pass}
+use Rattle.tracker_rows.proofs.Cuts.{Places, below, cut_histories, cut_order, cut_sprints, cut_groups, cut_setup, cut, to, one_more, none_to, no_sprints_yet, put_next, sprint_more, group_more, rank_more, all_pass}
 
 -- the part may join one tracker in the making, and leads to the other one
 pub record Joins (before after : Machine) (p : Part) : Type 0 where

@@ -1,9 +1,9 @@
 -- The rows of each tracker load it.
-use Rattle.std.proofs.Common.{◌≡◌, ◌≢◌, ℕ, zero, suc, ◌+◌, ◌<◌, ◌≤◌, ◌==◌, ◌&&◌, ◌||◌, ◌⊎◌, inl, inr, nat_lt, Bool, true, false, List, [], ◌∷◌, ◌++◌, length, map, filter, AllPairs, count_by, Option, Some, None, IfSome, option_map, Ok, refl, sym, ap, ◌∙◌, subst, arith, eqb-true, eq-eqb, ne_eqb, append-nil}
-use Rattle.std.specs.Prelude.{if◌then◌else◌, cond}
+use Rattle.std.proofs.Common.{◌≡◌, ◌≢◌, ℕ, zero, suc, ◌+◌, ◌<◌, ◌≤◌, ◌==◌, ◌&&◌, ◌||◌, ◌⊎◌, inl, inr, nat_lt, Bool, true, false, List, [], ◌∷◌, ◌++◌, length, map, filter, AllPairs, count_by, Option, Some, None, IfSome, refl, sym, ap, ◌∙◌, subst, arith, eqb-true, eq-eqb, ne_eqb, append-nil}
+use Rattle.std.specs.Prelude.{cond}
 use Rattle.std.specs.List.{All}
 use Rattle.std.specs.Option.{option_or}
-use Rattle.std.proofs.lemmas.Bool.{cases_eq, cases_lt, cases_Bool, and_parts, true≢false, false≢true}
+use Rattle.std.proofs.lemmas.Bool.{cases_eq, cases_lt, and_parts, true≢false}
 use Rattle.std.proofs.lemmas.Bool.Decides.{nat_tests}
 use Rattle.std.proofs.lemmas.List.{length-map}
 use Rattle.std.proofs.lemmas.List.Sums.{sum_by-cons}
@@ -13,10 +13,8 @@ use Rattle.field_values.specs.declared.parts.Group.{Group as UserGroup}
 use Rattle.field_values.specs.Parts.{Parts}
 use Rattle.field_forms.specs.Known.{Names}
 use Rattle.fields.specs.SetupParts.{names_in}
-use Rattle.setup_reading.specs.Reading.{setup_in}
 use Rattle.change_history.specs.History.{History}
 use Rattle.sprints.specs.declared.sprint.Sprint.{Sprint}
-use Rattle.rank_balancer.specs.declared.balance.Balance.{Balance}
 use Rattle.tracker_keeper.specs.declared.row.Row.{Row}
 use Rattle.tracker_keeper.specs.declared.part.Format.TheVariants.{Second}
 use Rattle.tracker_keeper.specs.declared.part.Part.{Part}
@@ -24,25 +22,25 @@ use Rattle.tracker_keeper.specs.declared.part.Part.TheVariants as part
 use Rattle.tracker_keeper.specs.Bodies.{body_text}
 use Rattle.tracker_keeper.specs.Forms.{IsIssuePart, IsGroupPart, IsMembersPart}
 use Rattle.tracker_keeper.specs.Parts.{part_kind, part_number}
-use Rattle.tracker_keeper.specs.Kept.{IsPart, IsPartAt, IsRowOf}
-use Rattle.tracker_keeper.specs.Rows.{IsBelow, IsListing, found}
+use Rattle.tracker_keeper.specs.Kept.{IsPart, IsPartAt}
+use Rattle.tracker_keeper.specs.Rows.{IsBelow, found}
 use Rattle.tracker_machine.specs.Machine.{Machine}
 use Rattle.tracker_machine.specs.Known.{project_keys}
-use Rattle.tracker_machine.specs.Kept.{part_at, rows_of, setup_part, present_part, lone}
-use Rattle.tracker_machine.specs.Members.{IsSetupOf, group_names}
+use Rattle.tracker_machine.specs.Kept.{part_at, rows_of, present_part}
+use Rattle.tracker_machine.specs.Members.{IsSetupOf}
 use Rattle.tracker_machine.specs.Tracker.{IsTracker}
 use Rattle.tracker_machine.proofs.Keepable.{part_kept}
 use Rattle.tracker_rows.specs.Listed.{InOrder, IsAlone, changes_in}
-use Rattle.tracker_rows.specs.Gathered.{Gathered, joined, told_with, with_part, standing, with_setup, rank_due, members_due, due}
+use Rattle.tracker_rows.specs.Gathered.{Gathered, joined, with_part, standing, with_setup, rank_due, members_due, due}
 use Rattle.tracker_rows.specs.Gathered.Gathered.{Nothing, HasSetup, Stands}
-use Rattle.tracker_rows.specs.Rules.{MayFollow, MayJoin}
-use Rattle.tracker_rows.specs.Loading.{IsInTime, IsGood, AreRead, Loads}
+use Rattle.tracker_rows.specs.Rules.{MayFollow}
+use Rattle.tracker_rows.specs.Loading.{IsGood, AreRead}
 use Rattle.tracker_rows.specs.Laws.{TrackersLoad}
 use Rattle.tracker_rows.proofs.Rising.{Rise, is_at, counts_one, counted_at, one_by_one}
 use Rattle.tracker_rows.proofs.Making.{IsBefore, next_due}
 use Rattle.tracker_rows.proofs.Steps.{changes_by}
 use Rattle.tracker_rows.proofs.Walk.{is_change, changes_of_kind}
-use Rattle.tracker_rows.proofs.Cuts.{Places, below, cut_history, cut_histories, cut_order, cut_sprints, cut_groups, told_in, cut_setup, cut, none_to, runs_rise}
+use Rattle.tracker_rows.proofs.Cuts.{Places, below, cut_history, cut_histories, cut_sprints, cut_groups, told_in, cut_setup, cut, none_to, none_pass, runs_rise}
 use Rattle.tracker_rows.proofs.Agreeing.{Agree, all_places, same_made, cut_alike, same_told, cut_all, all_told_in}
 use Rattle.tracker_rows.proofs.Joins.{names_in_cut, group_names_cut}
 use Rattle.tracker_rows.proofs.EachPart.{total, IsNextPart, next_part}
@@ -434,10 +432,6 @@ module _ (m : Machine) (rows : List Row) (is : IsTracker m) (of_text : IsSetupOf
   none_told_first first [] = refl
   none_told_first first (g ∷ gs) = let rest = none_told_first (first + 1) gs in omega (arith, rest)
 
-  none_first : {X : Type 0} (xs : List X) → filter (λ x. false) xs ≡ []
-  none_first [] = refl
-  none_first (x ∷ xs) = none_first xs
-
   no_sprints_first : (first : ℕ) (ss : List Sprint) → cut_sprints (below 3 0) first ss ≡ []
   no_sprints_first first [] = refl
   no_sprints_first first (s ∷ ss) = no_sprints_first (first + 1) ss
@@ -450,8 +444,8 @@ module _ (m : Machine) (rows : List Row) (is : IsTracker m) (of_text : IsSetupOf
   begins =
       ap (λ told. Stands Second told (cut (below 3 0) written m)) (none_told_first 1 m.setup.group)
       ∙ ap (λ after. Stands Second 0 after) (
-        same_made m (texts_groups 1 written.group m.setup.group of_text.groups) no_histories (none_first m.externals) (none_first m.order)
-        (no_sprints_first 1 m.sprints) (none_first m.filters) (none_first m.boards)
+        same_made m (texts_groups 1 written.group m.setup.group of_text.groups) no_histories (none_pass m.externals) (none_pass m.order)
+        (no_sprints_first 1 m.sprints) (none_pass m.filters) (none_pass m.boards)
         ∙ ap (λ (setup : Parts). let after : Machine = record (standing m.text written m.balance m.change m.moment) { setup = setup } in after)
         (ap (λ (setup : Parts). let own : Parts = record setup { group = written.group } in own) of_text.same)
       )
