@@ -300,9 +300,15 @@ module _ (rows : List Row) (m : Machine) (written : Parts) (is : IsTracker m) (a
             told = refl;
             ranks = λ less. far 5 (length (cut_order (below 4 n) m.order) + 1) 4 n (omega arith);
             members = far 10 (told_in (below 4 n) 1 m.setup.group + 1) 4 n (omega arith);
-            counted = omega (arith, ap length (as_set m written is n k h g there group_is), ap groups_kept (as_set m written is n k h g there group_is),
-                length-set before k (longer own g.entries), groups_kept-set before k own (longer own g.entries) (old_there m written is n k h g there group_is),
-                groups_on own.change own.entries g.entries, few);
+            counted = omega (
+              arith,
+              ap length (as_set m written is n k h g there group_is),
+              ap groups_kept (as_set m written is n k h g there group_is),
+              length-set before k (longer own g.entries),
+              groups_kept-set before k own (longer own g.entries) (old_there m written is n k h g there group_is),
+              groups_on own.change own.entries g.entries,
+              few,
+            );
           }
 
       of_issue : (k : ℕ) (h : History) → slice_get m.histories k ≡ Some h → issue_group n h ≡ Some p → Next 4 n p

@@ -133,7 +133,7 @@ group_tail c at author values now last (e ∷ es) change moment by same changes 
 group_from : (c : ℕ) (g : Group) (values : FieldNo → Value) (x : Entry) (xs : List Entry) → AreChanges values (x ∷ xs) → FollowEachOther x xs
     → g.change ≡ c → group_of (entries_of_change c (x ∷ xs)) ≡ Some g
     → ((y : Entry) (ys : List Entry) → xs ≡ y ∷ ys → group_of (entries_of_change c xs) ≡ Some g
-      → AreGroupEntries (λ f. value_after (put_value values x f) (entries_to c xs) f) 0 c g.at g.author (entries_of_change c xs))
+    → AreGroupEntries (λ f. value_after (put_value values x f) (entries_to c xs) f) 0 c g.at g.author (entries_of_change c xs))
     → AreGroupEntries (λ f. value_after (values f) (entries_to c (x ∷ xs)) f) 0 c g.at g.author (entries_of_change c (x ∷ xs))
 group_from c g values x xs changes follow change is rest = by (cases_lt x.change c) (cases_eq x.change c)
   where
@@ -305,10 +305,22 @@ module _ (m : Machine) (written : Parts) (is : IsTracker m) (c k : ℕ) (h : His
         some = own.some;
         entries = entries_are;
         named = subst MayEmptyFields (sym own.entries) (empties (names_in m.setup) c h.entries (settled_one k h there).fit);
-        few = omega (arith, entries_kept-set hs k own_cut (longer own_cut g.entries) old_there, long, ap entries_kept as_set,
-            entries_less (below 4 (c + 1)) m.histories, is.few_entries);
-        light = omega (arith, bytes_kept-set hs k own_cut (longer own_cut g.entries) old_there, history_bytes-more own_cut g.entries, ap bytes_kept as_set,
-            bytes_less (below 4 (c + 1)) m.histories, is.few_bytes);
+        few = omega (
+          arith,
+          entries_kept-set hs k own_cut (longer own_cut g.entries) old_there,
+          long,
+          ap entries_kept as_set,
+          entries_less (below 4 (c + 1)) m.histories,
+          is.few_entries,
+        );
+        light = omega (
+          arith,
+          bytes_kept-set hs k own_cut (longer own_cut g.entries) old_there,
+          history_bytes-more own_cut g.entries,
+          ap bytes_kept as_set,
+          bytes_less (below 4 (c + 1)) m.histories,
+          is.few_bytes,
+        );
       }
 
   place_is : h.no.0 - 1 ≡ k

@@ -347,8 +347,13 @@ module _ (m : Machine) (rows : List Row) (is : IsTracker m) (of_text : IsSetupOf
             subst (λ g. AreRead rows g more end) (sym (leads_on r own.0 next)) rest.read,
           ),
         );
-        counted = omega (arith, rest.counted, next.counted, counts,
-            ap (λ (before : Machine). total before.histories) (cut_alike (below k n) (below r.kind r.no) m agree written));
+        counted = omega (
+          arith,
+          rest.counted,
+          next.counted,
+          counts,
+          ap (λ (before : Machine). total before.histories) (cut_alike (below k n) (below r.kind r.no) m agree written),
+        );
       }
     where
       both_in : (P Q : Places) (xs : List Row) → All (IsIn P) xs → All (IsIn Q) xs → All (λ x. P x.kind x.no ≡ Q x.kind x.no) xs
@@ -444,10 +449,10 @@ module _ (m : Machine) (rows : List Row) (is : IsTracker m) (of_text : IsSetupOf
   begins =
       ap (λ told. Stands Second told (cut (below 3 0) written m)) (none_told_first 1 m.setup.group)
       ∙ ap (λ after. Stands Second 0 after) (
-        same_made m (texts_groups 1 written.group m.setup.group of_text.groups) no_histories (none_pass m.externals) (none_pass m.order)
-        (no_sprints_first 1 m.sprints) (none_pass m.filters) (none_pass m.boards)
-        ∙ ap (λ (setup : Parts). let after : Machine = record (standing m.text written m.balance m.change m.moment) { setup = setup } in after)
-        (ap (λ (setup : Parts). let own : Parts = record setup { group = written.group } in own) of_text.same)
+      same_made m (texts_groups 1 written.group m.setup.group of_text.groups) no_histories (none_pass m.externals) (none_pass m.order)
+      (no_sprints_first 1 m.sprints) (none_pass m.filters) (none_pass m.boards)
+      ∙ ap (λ (setup : Parts). let after : Machine = record (standing m.text written m.balance m.change m.moment) { setup = setup } in after)
+      (ap (λ (setup : Parts). let own : Parts = record setup { group = written.group } in own) of_text.same)
       )
 
   counted_from : (rest : List Row) → IsRead rest 3 0 → m.change ≤ changes_in rest

@@ -5,5 +5,6 @@
 mod laws;
 
 pub use laws::{
-    first_rows_are_migrated, good_rows_lead_on, loaded_rows_are_a_tracker, rows_load_or_are_bad, trackers_load,
+    first_rows_are_migrated, good_rows_lead_on, loaded_rows_are_a_tracker, rows_load_or_are_bad,
+    trackers_load,
 };
