@@ -1,5 +1,5 @@
 -- The operations that are prepared are those that keep the effect.
-use Rattle.std.proofs.Common.{◌≡◌, ◌+◌, ℕ, List, [], ◌∷◌, Bool, true, false, not, slice_get, Some, refl, sym, subst, arith}
+use Rattle.std.proofs.Common.{◌≡◌, ◌+◌, ℕ, List, [], ◌∷◌, Bool, true, false, not, slice_get, Option, Some, None, refl, sym, subst, arith}
 use Rattle.std.specs.Prelude.{if◌then◌else◌}
 use Rattle.std.specs.List.{All}
 use Rattle.std.specs.Option.{option_map_or}
@@ -10,7 +10,6 @@ use Rattle.change_history.specs.declared.change.Change.{Change}
 use Rattle.change_history.specs.declared.entry.Group.{Group}
 use Rattle.change_history.specs.History.{History}
 use Rattle.rank_strings.specs.Rank.{RankParts}
-use Rattle.sprints.specs.declared.sprint.Sprint.{Sprint}
 use Rattle.tracker_keeper.specs.declared.row.RowOp.TheVariants.{Put}
 use Rattle.tracker_keeper.specs.Bodies.{body_text}
 use Rattle.tracker_keeper.specs.Forms.{IsGroupEntry, is_small}
@@ -24,12 +23,14 @@ use Rattle.tracker_machine.specs.Effect.Effect.{NewIssue, NewGroup}
 use Rattle.tracker_machine.specs.Kept.{present_part, group_part, put_parts, parts_of, ops_of}
 use Rattle.tracker_machine.proofs.Keepable.{parts_kept}
 use Rattle.tracker_state.specs.Rows.{present_op, rank_op}
-use Rattle.issue_calls.specs.Rows.{issue_row, group_row}
+use Rattle.issue_calls.specs.Rows.{issue_row, external_ops, group_row}
 
-pub issue_ops_are : (m : Machine) (h : History) (rank : RankParts)
-    → present_op m.balance (m.change + 1) m.moment ∷ Put (issue_row (names_in m.setup) h) ∷ rank_op h.no rank ∷ [] ≡ ops_of (NewIssue h rank) m
+pub issue_ops_are : (m : Machine) (h : History) (rank : RankParts) (external : Option (List ℕ))
+    → present_op m.balance (m.change + 1) m.moment ∷ Put (issue_row (names_in m.setup) h) ∷ rank_op h.no rank ∷ external_ops h.no external
+    ≡ ops_of (NewIssue h rank external) m
 unfolding ops_of parts_of body_text
-issue_ops_are m h rank = refl
+issue_ops_are m h rank None = refl
+issue_ops_are m h rank (Some id) = refl
 
 pub group_ops_are : (m : Machine) (place : ℕ) (g : Group) (h : History) → slice_get m.histories place ≡ Some h
     → present_op m.balance (m.change + 1) m.moment ∷ Put (group_row (names_in m.setup) h g) ∷ [] ≡ ops_of (NewGroup place g) m

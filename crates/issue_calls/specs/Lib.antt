@@ -1,2 +1,3 @@
+pub mod Create
 pub mod Group
 pub mod Rows

@@ -3,10 +3,13 @@
 
 mod check;
 pub mod create;
+mod due;
 pub mod edit;
 mod empty;
+mod external;
 mod group;
 pub mod history;
+mod new_issue;
 mod rows;
 pub mod show;
 mod told;

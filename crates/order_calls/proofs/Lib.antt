@@ -1,5 +1,6 @@
 pub mod Checked
 pub mod Means
+pub mod Members
 pub mod Ops
 pub mod Ranking
 pub mod Rebalancing

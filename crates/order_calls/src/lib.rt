@@ -1,4 +1,4 @@
-//! What calls prepare that order work: the clock, ranks and their rebalancing, and sprints.
+//! What calls prepare that order work: the clock, ranks and their rebalancing, sprints, and who is in which group.
 #![tactic(auto)]
 
 mod check;
@@ -8,5 +8,6 @@ pub mod ranks;
 pub mod rebalance;
 pub mod remaining;
 mod rows;
+pub mod set_group;
 pub mod tick;
 pub mod turn_sprint;

@@ -267,13 +267,19 @@ fn three_creates(
         &mut sink,
         keeper,
     );
+    let kinds = kinds_of(alloc, &mut keeper)?;
+    Ok((status, sink.taken().to_vec(alloc)?, kinds))
+}
+
+// The kinds of the rows that are kept; none where these aren't told.
+fn kinds_of(alloc: Global, keeper: &mut MemoryKeeper) -> Result<Vec<u8>, AllocError> {
     let mut kinds = Vec::new(alloc);
     if let Ok(rows) = keeper.rows() {
         for row in &rows {
             kinds.push(row.kind)?;
         }
     }
-    Ok((status, sink.taken().to_vec(alloc)?, kinds))
+    Ok(kinds)
 }
 
 #[test]
@@ -286,8 +292,11 @@ fn a_keeper_that_fails_once_refuses_one_call(rt: HostRuntime) -> Result<(), Fail
         out.as_slice(),
         b"{\"ok\":{\"already\":false,\"change\":1,\"issue\":\"OPS-1\"}}\n{\"refused\":{\"no\":14}}\n{\"ok\":{\"already\":false,\"change\":2,\"issue\":\"OPS-2\"}}\n".as_slice()
     );
-    // Setup and moment, then the two issues, and the rank of each.
-    assert_eq!(rt; kinds.as_slice(), b"\x01\x02\x03\x03\x05\x05".as_slice());
+    // Setup and moment, then the two issues, the rank of each, and the members of three groups.
+    assert_eq!(rt;
+        kinds.as_slice(),
+        b"\x01\x02\x03\x03\x05\x05\x0a\x0a\x0a".as_slice()
+    );
     Ok(())
 }
 
@@ -306,18 +315,48 @@ fn a_keeper_that_fails_at_first_leaves_nothing(rt: HostRuntime) -> Result<(), Fa
     Ok(())
 }
 
+// Keeps rows of these kinds, numbers and bodies.
+fn keep(
+    alloc: Global,
+    keeper: &mut MemoryKeeper,
+    rows: &[(u8, u64, &str)],
+) -> Result<(), AllocError> {
+    let mut ops = Vec::new(alloc);
+    for &(kind, no, body) in rows {
+        let body = text(alloc, body)?;
+        ops.push(RowOp::Put(Row { kind, no, body }))?;
+    }
+    let _ = keeper.commit(&ops);
+    Ok(())
+}
+
+// Where a new tracker stands, in the first format.
+const FIRST: &str = "{\"balance\":[0],\"change\":0,\"format\":1,\"moment\":0}";
+
+// At which call the keeper fails, with which status the run ends, and the kinds of the rows that are kept then. Its calls: to keep the
+// rows of the first format, to tell them, to keep those of the second, and to tell these.
+const MIGRATIONS: [(u64, u8, &[u8]); 2] = [(9, 0, b"\x01\x02\x0a\x0a\x0a"), (3, 4, b"\x01\x02")];
+
+#[test]
+fn rows_of_the_first_format_are_migrated_at_once(rt: HostRuntime) -> Result<(), Fail> {
+    let alloc = rt.alloc();
+    let mut right = true;
+    for &(failing, status, kinds) in &MIGRATIONS {
+        let mut keeper = failing_keeper(alloc, [failing].to_vec(alloc)?)?;
+        keep(alloc, &mut keeper, &[(1, 0, BUILT_IN), (2, 0, FIRST)])?;
+        let (ended, out, mut kept) = ran(alloc, "exec", "", keeper)?;
+        right = right && ended == status && out.is_empty();
+        right = right && kinds_of(alloc, &mut kept)?.as_slice() == kinds;
+    }
+    assert!(rt; right);
+    Ok(())
+}
+
 #[test]
 fn rows_that_are_no_trackers_are_left(rt: HostRuntime) -> Result<(), Fail> {
     let alloc = rt.alloc();
     let mut keeper = keeper(alloc)?;
-    let mut ops = Vec::new(alloc);
-    let body = text(alloc, "OPS-1")?;
-    ops.push(RowOp::Put(Row {
-        kind: 6,
-        no: 1,
-        body,
-    }))?;
-    let _ = keeper.commit(&ops);
+    keep(alloc, &mut keeper, &[(6, 1, "OPS-1")])?;
     let (status, out, kinds) = three_creates(alloc, keeper)?;
     assert_eq!(rt; status, 5);
     assert_eq!(rt; out.as_slice(), b"kept 1 0\n".as_slice());
@@ -330,7 +369,7 @@ const ONE: &str =
     "{\"user\":\"anna\",\"call\":\"create\",\"project\":\"OPS\",\"type\":\"Task\",\"summary\":\"Fix login\"}";
 
 // Words, an input, the status and what is written, one run after another over one keeper.
-const STEPS: [(&str, &str, u8, &str); 6] = [
+const STEPS: [(&str, &str, u8, &str); 10] = [
     ("init", "users = 3", 8, "setup 2 utc_offset_minutes\n"),
     ("init", BUILT_IN, 0, ""),
     ("init", BUILT_IN, 9, "held\n"),
@@ -352,7 +391,59 @@ const STEPS: [(&str, &str, u8, &str); 6] = [
         0,
         "{\"ok\":{\"issues\":[\"OPS-1\",\"OPS-2\"],\"total\":2}}\n",
     ),
+    ("exec", SPRINT, 0, SPRINTED),
+    ("exec", BURNDOWN, 0, BURNED),
+    ("exec", REGROUP, 0, REGROUPED),
+    ("exec", AGAIN, 0, TOLD),
 ];
+
+// A sprint with an issue of 3 points, from before its start to after its close.
+const SPRINT: &str = r#"{"user":"anna","call":"make_sprint","name":"March"}
+{"user":"anna","call":"edit","issue":"OPS-1","set":{"sprint":1,"points":"3"}}
+{"user":"anna","call":"start_sprint","sprint":1}
+{"user":"anna","call":"edit","issue":"OPS-1","set":{"points":"5"}}
+{"user":"anna","call":"transition","issue":"OPS-1","transition":"Start"}
+{"user":"anna","call":"transition","issue":"OPS-1","transition":"Finish"}
+{"user":"anna","call":"transition","issue":"OPS-1","transition":"Reopen"}
+{"user":"anna","call":"close_sprint","sprint":1}
+{"user":"anna","call":"edit","issue":"OPS-1","set":{"points":"1"}}"#;
+
+const SPRINTED: &str = r#"{"ok":{"sprint":1}}
+{"ok":{"change":3,"issue":"OPS-1"}}
+{"ok":{"sprint":1,"state":"active"}}
+{"ok":{"change":4,"issue":"OPS-1"}}
+{"ok":{"change":5,"issue":"OPS-1"}}
+{"ok":{"change":6,"issue":"OPS-1"}}
+{"ok":{"change":7,"issue":"OPS-1"}}
+{"ok":{"sprint":1,"state":"closed"}}
+{"ok":{"change":8,"issue":"OPS-1"}}
+"#;
+
+// The next run tells the same of it.
+const BURNDOWN: &str = r#"{"user":"anna","call":"burndown","sprint":1}"#;
+
+const BURNED: &str =
+    r#"{"ok":{"left":5000,"rows":[{"at":0,"by":2000,"change":4,"issue":"OPS-1","left":5000},{"at":0,"by":-5000,"change":6,"issue":"OPS-1","left":0},{"at":0,"by":5000,"change":7,"issue":"OPS-1","left":5000}],"start":3000,"state":"closed","total":3}}
+"#;
+
+// An issue with an external id, and a group that Bo leaves.
+const REGROUP: &str =
+    r#"{"user":"bo","call":"create","project":"OPS","type":"Bug","summary":"Crash","external":"J-1"}
+{"user":"anna","call":"set_group","group":"team","members":["root","anna"]}"#;
+
+const REGROUPED: &str = r#"{"ok":{"already":false,"change":9,"issue":"OPS-3"}}
+{"ok":{"group":"team","members":2}}
+"#;
+
+// The next run knows both.
+const AGAIN: &str = r#"{"user":"bo","call":"show","issue":"OPS-3"}
+{"user":"anna","call":"create","project":"ops","type":"bug","summary":"Crash","external":"J-1"}
+{"user":"anna","call":"create","project":"OPS","type":"Bug","summary":"crash","external":"J-1"}"#;
+
+const TOLD: &str = r#"{"refused":{"no":3,"permission":"browse","project":"OPS"}}
+{"ok":{"already":true,"change":9,"issue":"OPS-3"}}
+{"refused":{"external":"J-1","kept":"OPS-3","no":13}}
+"#;
 
 // The status and the output of a run, and its keeper.
 fn ran(

@@ -1,15 +1,11 @@
-//! Tests of days, local time and the date terms of queries, of saved filters and boards, of ranks, their order, its balance, of sprints and their burndown,
+//! Tests of days, local time and the date terms of queries, of saved filters and boards, of ranks, their order, its balance, of sprints,
 //! and of a turn that threads share.
 #![tactic(auto)]
 
 #[cfg(test)]
-mod burndowns;
-#[cfg(test)]
 mod dates;
 #[cfg(test)]
 mod filters;
-#[cfg(test)]
-mod loads;
 #[cfg(test)]
 mod ranking;
 #[cfg(test)]

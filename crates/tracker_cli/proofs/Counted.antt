@@ -42,6 +42,7 @@ rose_at (reply.Refused (refusal.Earlier k)) a b owed = omega arith
 rose_at (reply.Refused (refusal.NoRoom l h)) a b owed = omega arith
 rose_at (reply.Refused (refusal.SprintIs p)) a b owed = omega arith
 rose_at (reply.Refused (refusal.BalanceIs k)) a b owed = omega arith
+rose_at (reply.Refused (refusal.ExternalIs x k)) a b owed = omega arith
 
 rose_with : (m : Machine) (line : List ℕ) (mark : Mark) (r : Reply) (a b : ℕ) → r ≡ marked_reply m line mark → IsOwed r a b → RoseBy a b (failures_at mark)
 rose_with m line plain r a b is owed = rose_at r a b owed
@@ -77,3 +78,4 @@ replied_fault old line (refusal.Earlier k) a e = form_replied old line (refusal.
 replied_fault old line (refusal.NoRoom l h) a e = form_replied old line (refusal.NoRoom l h) a e
 replied_fault old line (refusal.SprintIs p) a e = form_replied old line (refusal.SprintIs p) a e
 replied_fault old line (refusal.BalanceIs k) a e = form_replied old line (refusal.BalanceIs k) a e
+replied_fault old line (refusal.ExternalIs x k) a e = form_replied old line (refusal.ExternalIs x k) a e

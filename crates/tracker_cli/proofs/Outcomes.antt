@@ -1,6 +1,6 @@
 -- From how the loop over lines ends to what the top call says.
 use Rattle.std.proofs.Common.{◌≡◌, ℕ, List, [], ◌∷◌, ◌++◌, refl, ap, sym, subst, Option, Some, None, IfSome, inl, inr, append-nil, ◌∙◌}
-use Rattle.std.specs.Prelude.{◌⊎◌, ◌+◌, ◌≤◌}
+use Rattle.std.specs.Prelude.{◌⊎◌, ◌+◌, ◌≤◌, ◌<◌, length}
 use Rattle.std.specs.Io.KnownBytes.{Appends, Consumes, IsAtEnd}
 use Rattle.setup_reading.specs.Reading.{Explains}
 use Rattle.std.proofs.lemmas.Option.{IfSome_then}
@@ -14,7 +14,7 @@ use Rattle.jql_check.specs.Check.{IsReply}
 use Rattle.tracker_machine.specs.Machine.{Machine}
 use Rattle.tracker_machine.specs.Run.{IsRun, IsFrontOfReply, requests}
 use Rattle.tracker_machine.proofs.Runs.{IsRun-nil, IsRun-line, front_of_reply}
-use Rattle.tracker_cli.specs.Outcome.{BeginsIn, HasRowsOf, IsExec, IsCheck, AreReplies, AreCutReplies, AreChecked, AreCutChecks, IsFrontOfCheck, AreRepliesOf, AreCutRepliesOf, GrewBy, GrewByFront, IsInitText, IsKeptText, IsLimitText, IsCutLimitText, EndsRun, limit_line, limit_lines}
+use Rattle.tracker_cli.specs.Outcome.{BeginsIn, HasRowsOf, IsExec, IsCheck, AreReplies, AreCutReplies, AreChecked, AreCutChecks, IsFrontOfCheck, AreRepliesOf, AreCutRepliesOf, GrewBy, GrewByFront, IsInitText, IsKeptText, IsLimitText, IsCutLimitText, EndsRun, limit_line, limit_lines, setup_limit}
 use Rattle.tracker_keeper.specs.Rows.{Rows}
 use Rattle.tracker_core.specs.Desk.{DeskParts, IsOpened, IsOpenFault}
 use Rattle.tracker_core.specs.declared.desk.OpenFault.{OpenFault}
@@ -293,11 +293,17 @@ pub bad_front : (Bad : ℕ → ℕ → Type 0) (fault : OpenFault) (kind number 
 bad_front Bad fault kind number t s u bad is same one =
     (one.0, one.1, (kind, number, subst (IsOpenFault Bad) is bad, one.2), subst (λ o. Appends o u one.0) same one.3)
 
+was_all : (all rest bytes : List ℕ) → Consumes (Some all) (Some rest) bytes → IsAtEnd (Some rest) → bytes ≡ all
+was_all all rest bytes read end = sym (append-nil bytes) ∙ ap (λ list. bytes ++ list) (sym end) ∙ sym read
+
 -- what was read to its end was the whole input
-pub whole_text : (left after : Option (List ℕ)) (bytes text : List ℕ) → Consumes left after bytes → IsAtEnd after → IsInitText (Some bytes) text → IsInitText left text
-whole_text left after bytes text read end (inl is) = inl is
-whole_text left after bytes text read end (inr (inr is)) = inr (inr is)
-whole_text None after bytes text read end (inr (inl (fault, apart, why, is))) = inr (inl (fault, apart, tt, is))
-whole_text (Some all) None bytes text read end (inr (inl one)) = absurd read
-whole_text (Some all) (Some rest) bytes text read end (inr (inl (fault, apart, why, is))) =
-    inr (inl (fault, apart, subst (λ list. Explains list fault) (sym (append-nil bytes) ∙ ap (λ list. bytes ++ list) (sym end) ∙ sym read) why, is))
+pub whole_text : (Held : Type 0) (left after : Option (List ℕ)) (bytes text : List ℕ) → Consumes left after bytes → IsAtEnd after → IsInitText Held (Some bytes) text → IsInitText Held left text
+whole_text Held left after bytes text read end (inr (inr is)) = inr (inr is)
+whole_text Held None after bytes text read end (inl (is, long)) = inl (is, tt)
+whole_text Held None after bytes text read end (inr (inl (fault, apart, why, is))) = inr (inl (fault, apart, tt, is))
+whole_text Held (Some all) None bytes text read end (inl one) = absurd read
+whole_text Held (Some all) None bytes text read end (inr (inl one)) = absurd read
+whole_text Held (Some all) (Some rest) bytes text read end (inl (is, long)) =
+    inl (is, subst (λ list. setup_limit < length list) (was_all all rest bytes read end) long)
+whole_text Held (Some all) (Some rest) bytes text read end (inr (inl (fault, apart, why, is))) =
+    inr (inl (fault, apart, subst (λ list. Explains list fault) (was_all all rest bytes read end) why, is))

@@ -167,9 +167,10 @@ abbrev pub IsKeptText : (ℕ → ℕ → Type 0) → List ℕ → Type 0
 IsKeptText Bad text = (kind : ℕ) × (number : ℕ) × Bad kind number × (text ≡ kept_line kind number)
 
 -- what comes of a command that answers line after line, where these texts are the replies to lines, and those to an input where it is
--- cut short. `Same` says that the keeper has the rows that it had, and `Bad` which of them is the first bad one
+-- cut short. `Opens` says that the command opens a desk, `Same` that the keeper has the rows that it had, and `Bad` which of them is the
+-- first bad one
 pub record LinesEnd
-    (Replies : List (List ℕ) → List ℕ → Type 0) (Cut : List ℕ → List ℕ → Type 0) (Same : Type 0) (Bad : ℕ → ℕ → Type 0) (status : ℕ)
+    (Replies : List (List ℕ) → List ℕ → Type 0) (Cut : List ℕ → List ℕ → Type 0) (Opens Same : Type 0) (Bad : ℕ → ℕ → Type 0) (status : ℕ)
     (left after old new : Option (List ℕ)) : Type 0 where
   -- the input was read to its end, and each of its lines has its reply
   pub done : status ≡ 0 → IfSome left (λ bytes. IsAtEnd after × AreWithinLimits (lines bytes) × GrewBy old new (Replies (lines bytes)))
@@ -184,6 +185,8 @@ pub record LinesEnd
   pub unopened : status ≡ 4 → (new ≡ old) × Same
   -- a row is bad, which is told
   pub bad : status ≡ 5 → GrewBy old new (IsKeptText Bad) × Same
+  -- neither comes of a command that opens no desk
+  pub opens : (status ≡ 4) ⊎ (status ≡ 5) → Opens
   -- want of memory: the first lines have their replies, and at most the next one a front of its reply
   pub memory : status ≡ 6 → IfSome left (λ bytes. GrewBy old new (Cut bytes))
   -- a limit is passed: the lines before have their replies, and the limit's text follows
@@ -202,13 +205,14 @@ pub record IsCreated {P : Type 0} (keeps : P → Rows → Type 0) (tells : P →
 abbrev pub IsSetupText : Option (List ℕ) → List ℕ → Type 0
 IsSetupText left text = (fault : SetupFault) × (fault ≢ setup_fault.Memory) × IfSome left (λ bytes. Explains bytes fault) × (text ≡ setup_line fault)
 
--- one of the texts of `init`
-abbrev pub IsInitText : Option (List ℕ) → List ℕ → Type 0
-IsInitText left text = (text ≡ limit_input) ⊎ IsSetupText left text ⊎ (text ≡ held)
-
 -- the most bytes of a setup
 abbrev pub setup_limit : ℕ
 setup_limit = 1_048_576
+
+-- one of the texts of `init`, each where it is due: the input is too long, it is no setup, or the keeper has a row, which `Held` says
+abbrev pub IsInitText : Type 0 → Option (List ℕ) → List ℕ → Type 0
+IsInitText Held left text =
+    ((text ≡ limit_input) × IfSome left (λ bytes. setup_limit < length bytes)) ⊎ IsSetupText left text ⊎ ((text ≡ held) × Held)
 
 -- what comes of `init`. `Created` says that a tracker was made of a text, `Same` that the keeper has the rows that it had, and `Held` that
 -- it has some
@@ -218,8 +222,8 @@ pub record InitEnd
   pub done : status ≡ 0 → (new ≡ old) × IfSome left (λ bytes. IsAtEnd after × (length bytes ≤ setup_limit) × Created bytes)
   -- a read failed
   pub read : status ≡ 2 → (new ≡ old) × Same
-  -- a write failed: a text has a front
-  pub written : status ≡ 3 → GrewByFront old new (IsInitText left) × Same
+  -- a write failed: the text that was due has a front
+  pub written : status ≡ 3 → GrewByFront old new (IsInitText Held left) × Same
   -- the keeper failed
   pub unopened : status ≡ 4 → (new ≡ old) × Same
   -- want of memory

@@ -33,7 +33,7 @@ pub fn run<S: Source, T: Sink, P: Keeper + Drop>(
         (AreCutRepliesOf (BeginsIn P.keeps P.tells BUILT_IN.now keeper result.1)
         (HasRowsOf P.keeps P.tells P.faults keeper result.1)
         (HasItsRows P.keeps keeper result.1) (map string_bytes words.now))
-        (HasItsRows P.keeps keeper result.1) (HasBadRow P.keeps P.tells keeper result.1)
+        (IsExec (map string_bytes words.now)) (HasItsRows P.keeps keeper result.1) (HasBadRow P.keeps P.tells keeper result.1)
         result.0 (S.left input.old) (S.left input.new) (T.taken out.old) (T.taken out.new) }
 
     // `init` makes a new tracker of a setup.

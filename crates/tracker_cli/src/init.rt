@@ -32,7 +32,8 @@ pub(crate) fn init<S: Source, T: Sink, P: Keeper + Drop>(
     ensures done { result.0 ≡ 0 → (T.taken out.new ≡ T.taken out.old) × IfSome (S.left input.old) (λ bytes.
         IsAtEnd (S.left input.new) × (length bytes ≤ setup_limit) × IsCreated P.keeps P.tells keeper result.1 bytes) }
     ensures read { result.0 ≡ 2 → (T.taken out.new ≡ T.taken out.old) × HasItsRows P.keeps keeper result.1 }
-    ensures written { result.0 ≡ 3 → GrewByFront (T.taken out.old) (T.taken out.new) (IsInitText (S.left input.old))
+    ensures written { result.0 ≡ 3 → GrewByFront (T.taken out.old) (T.taken out.new)
+        (IsInitText (HasSomeRow P.keeps P.tells keeper result.1) (S.left input.old))
         × HasItsRows P.keeps keeper result.1 }
     ensures unopened { result.0 ≡ 4 → (T.taken out.new ≡ T.taken out.old) × HasItsRows P.keeps keeper result.1 }
     ensures memory { result.0 ≡ 6 → (T.taken out.new ≡ T.taken out.old) × HasItsRows P.keeps keeper result.1 }
@@ -63,7 +64,8 @@ pub(crate) fn init<S: Source, T: Sink, P: Keeper + Drop>(
 // Makes a new tracker of the setup that the text is.
 fn make<T: Sink, P: Keeper + Drop>(alloc: Global, text: &[u8], out: &mut T, keeper: P) -> (u8, P)
     ensures done { result.0 ≡ 0 → (T.taken out.new ≡ T.taken out.old) × IsCreated P.keeps P.tells keeper result.1 text.now }
-    ensures written { result.0 ≡ 3 → GrewByFront (T.taken out.old) (T.taken out.new) (IsInitText (Some text.now))
+    ensures written { result.0 ≡ 3 → GrewByFront (T.taken out.old) (T.taken out.new)
+        (IsInitText (HasSomeRow P.keeps P.tells keeper result.1) (Some text.now))
         × HasItsRows P.keeps keeper result.1 }
     ensures unopened { result.0 ≡ 4 → (T.taken out.new ≡ T.taken out.old) × HasItsRows P.keeps keeper result.1 }
     ensures memory { result.0 ≡ 6 → (T.taken out.new ≡ T.taken out.old) × HasItsRows P.keeps keeper result.1 }
@@ -87,7 +89,8 @@ fn create<T: Sink, P: Keeper + Drop>(alloc: Global, setup: Setup, out: &mut T, k
     ensures done { result.0 ≡ 0 → (T.taken out.new ≡ T.taken out.old)
         × (P.keeps keeper no_rows → P.keeps result.1 (rows_of (opening setup.text (parts setup))))
         × ((rows : Rows) → P.keeps keeper rows → P.tells result.1 → HasNoRow rows) }
-    ensures written { result.0 ≡ 3 → GrewByFront (T.taken out.old) (T.taken out.new) (λ due. due ≡ held) }
+    ensures written { result.0 ≡ 3 → GrewByFront (T.taken out.old) (T.taken out.new) (λ due. due ≡ held)
+        × HasSomeRow P.keeps P.tells keeper result.1 }
     ensures unwritten { (result.0 ≡ 4) ⊎ (result.0 ≡ 6) → T.taken out.new ≡ T.taken out.old }
     ensures held { result.0 ≡ 9 → Appends (T.taken out.old) (T.taken out.new) held × HasSomeRow P.keeps P.tells keeper result.1 }
     ensures same { result.0 ≢ 0 → HasItsRows P.keeps keeper result.1 }

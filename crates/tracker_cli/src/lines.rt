@@ -46,6 +46,7 @@ pub(crate) fn run_lines<S: Source, T: Sink, P: Keeper + Drop>(
     ensures unopened { result.0 ≡ 4 → (T.taken out.new ≡ T.taken out.old) × HasItsRows P.keeps keeper result.1 }
     ensures bad { result.0 ≡ 5 → GrewBy (T.taken out.old) (T.taken out.new) (IsKeptText (HasBadRow P.keeps P.tells keeper result.1))
         × HasItsRows P.keeps keeper result.1 }
+    ensures opens { (result.0 ≡ 4) ⊎ (result.0 ≡ 5) → IsExec (map string_bytes words.now) }
     ensures memory { result.0 ≡ 6 → IfSome (S.left input.old) (λ bytes. GrewBy (T.taken out.old) (T.taken out.new)
         (AreCutRepliesOf (BeginsIn P.keeps P.tells BUILT_IN.now keeper result.1) (HasRowsOf P.keeps P.tells P.faults keeper result.1)
         (HasItsRows P.keeps keeper result.1) (map string_bytes words.now) bytes)) }

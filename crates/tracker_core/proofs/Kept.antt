@@ -8,7 +8,8 @@ use Rattle.tracker_machine.specs.Kept.{rows_of}
 use Rattle.tracker_rows.specs.Listed.{InOrder}
 use Rattle.tracker_rows.specs.Loading.{Loads, IsFirstBad}
 use Rattle.tracker_rows.proofs.Loaded.{loaded_rows_are_theirs}
-use Rattle.tracker_core.specs.Desk.{HasBadRow, HasNoRow, IsNew, IsOpened, IsOpenFault}
+use Rattle.tracker_keeper.specs.declared.part.Format.TheVariants.{First, Second}
+use Rattle.tracker_core.specs.Desk.{HasBadRow, HasNoRow, IsMadeOf, IsNew, IsOpened, IsOpenFault}
 use Rattle.tracker_core.specs.declared.desk.OpenFault.{OpenFault}
 use Rattle.tracker_core.specs.declared.desk.OpenFault.TheVariants.{Keeper, Held, BadRow, Memory}
 use mathlib.Core.Path.{fun_ext}
@@ -20,8 +21,8 @@ no_row rows is kind number = sym (is.same kind number)
 pub without_rows : (rows : Rows) → HasNoRow rows → rows ≡ no_rows
 without_rows rows none = fun_ext (λ kind. fun_ext (λ number. none kind number))
 
--- the rows that a tracker is loaded of are its own
-pub own_rows : (rows : Rows) (list : List Row) (m : Machine) → IsListing rows list → Loads list m → rows ≡ rows_of m
+-- the rows of the second format that a tracker is loaded of are its own
+pub own_rows : (rows : Rows) (list : List Row) (m : Machine) → IsListing rows list → Loads Second list m → rows ≡ rows_of m
 own_rows rows list m is loads =
     let own = loaded_rows_are_theirs list m loads in
     fun_ext (λ kind. fun_ext (λ number. sym (is.same kind number) ∙ own.same kind number))
@@ -42,14 +43,9 @@ in_order rows list is = λ i j d less within. not_both (slice_index_or list i d)
 
 -- the tracker that was loaded, where the keeper told the rows
 pub loaded_opens : {S E T : Type 0} (machine : S → Machine) (r : Result S E) (text : List ℕ) (rows : Rows) (list : List Row) → (T → IsListing rows list)
-    → (InOrder list → IfOk r (λ s. Loads list (machine s))) → IfOk r (λ s. T → IsOpened text rows (machine s))
+    → (InOrder list → IfOk r (λ s. IsMadeOf list (machine s))) → IfOk r (λ s. T → IsOpened text rows (machine s))
 loaded_opens machine (Ok s) text rows list is loads = λ told. inl (list, is told, loads (in_order rows list (is told)))
 loaded_opens machine (Err e) text rows list is loads = tt
-
-pub loaded_keeps : {S E T : Type 0} (machine : S → Machine) (r : Result S E) (keeps : Rows → Type 0) (rows : Rows) (list : List Row) → (T → IsListing rows list)
-    → (InOrder list → IfOk r (λ s. Loads list (machine s))) → keeps rows → IfOk r (λ s. T → keeps (rows_of (machine s)))
-loaded_keeps machine (Ok s) keeps rows list is loads kept = λ told. subst keeps (own_rows rows list (machine s) (is told) (loads (in_order rows list (is told)))) kept
-loaded_keeps machine (Err e) keeps rows list is loads kept = tt
 
 -- a new tracker, where the keeper told none
 pub new_opens : {S E T : Type 0} (machine : S → Machine) (r : Result S E) (text : List ℕ) (rows : Rows) → (T → HasNoRow rows)

@@ -79,6 +79,7 @@ due_is due (refusal.Limit l) other is = is (λ e. cc)
 due_is due (refusal.Earlier k) other is = is (λ e. cc)
 due_is due (refusal.NoRoom a b) other is = is (λ e. cc)
 due_is due (refusal.BalanceIs b) other is = is (λ e. cc)
+due_is due (refusal.ExternalIs x k) other is = is (λ e. cc)
 
 pub refused_step : (due : Meaning) (r : Refusal) (old new : Machine) → r ≢ refusal.Keeper → (r ≢ refusal.Memory → due ≡ Refuses r) → new ≡ old → Performs due old (reply.Refused r) new
 refused_step due r old new other is same = (due_is due r other is, same)

@@ -8,6 +8,7 @@ use Rattle.tracker_calls.specs.declared.reply.Reply.TheVariants as reply
 use Rattle.tracker_calls.specs.declared.reply.Refusal.TheVariants as refusal
 use Rattle.field_values.specs.Parts.{Parts}
 use Rattle.setup_reading.specs.Reading.{setup_in}
+use Rattle.tracker_keeper.specs.declared.part.Format.{Format}
 use Rattle.tracker_keeper.specs.declared.row.Row.{Row}
 use Rattle.tracker_keeper.specs.Rows.{Rows, IsListing}
 use Rattle.tracker_machine.specs.Machine.{Machine, opening}
@@ -44,9 +45,13 @@ HasNoRow rows = (kind number : ℕ) → rows kind number ≡ None
 abbrev pub IsNew : List ℕ → Machine → Type 0
 IsNew setup_text m = (setup : Parts) × (setup_in setup_text ≡ Ok setup) × (m ≡ opening setup_text setup)
 
+-- the tracker that these rows make, of whichever format they are
+abbrev pub IsMadeOf : List Row → Machine → Type 0
+IsMadeOf list m = (format : Format) × Loads format list m
+
 -- the tracker whose rows these are
 abbrev pub IsLoaded : Rows → Machine → Type 0
-IsLoaded rows m = (list : List Row) × IsListing rows list × Loads list m
+IsLoaded rows m = (list : List Row) × IsListing rows list × IsMadeOf list m
 
 -- the tracker whose rows these are, or a new one of that setup where there is no row
 abbrev pub IsOpened : List ℕ → Rows → Machine → Type 0

@@ -1,23 +1,24 @@
 // How a desk begins that opens what is kept.
-ghost use Rattle.std.specs.Prelude.{◌≡◌, ◌≤◌, IfOk, IfErr, OnErr, MatchOption, IsTrue, ◌↔◌};
+ghost use Rattle.std.specs.Prelude.{◌≡◌, ◌≤◌, IfOk, IfErr, OnOk, OnErr, MatchOption, IsTrue, ◌↔◌};
 ghost use Rattle.fields.specs.SetupParts.{parts};
 ghost use Rattle.request_lines.specs.Causes.{Rose};
-ghost use Rattle.tracker_keeper.specs.Rows.{Rows, no_rows, IsBelow};
-ghost use Rattle.tracker_machine.specs.Kept.{rows_of};
+ghost use Rattle.tracker_keeper.specs.Rows.{Rows, no_rows, with_ops, IsBelow, IsListing};
+ghost use Rattle.tracker_machine.specs.Kept.{rows_of, migrating_ops};
 ghost use Rattle.tracker_rows.specs.Listed.{InOrder};
 ghost use Rattle.tracker_rows.specs.Loading.{Loads, IsFirstBad};
-ghost use Rattle.tracker_core.specs.Desk.{HasBadRow, IsKeepersOwn, IsNew, IsOpened, IsOpenFault};
+ghost use Rattle.tracker_core.specs.Desk.{HasBadRow, IsKeepersOwn, IsMadeOf, IsNew, IsOpened, IsOpenFault};
 
 use crate::desk::{Desk, OpenFault, begun, has_none};
 use fields::{BUILT_IN, Setup};
 use std::alloc::Global;
-use tracker_keeper::{Keeper, Row};
-use tracker_loading::{LoadFault, load};
-use tracker_state::State;
+use tracker_keeper::{Format, Keeper, Row};
+use tracker_loading::{LoadFault, Loaded, load};
+use tracker_state::{State, migrating_ops};
 
 impl<P: Keeper + Drop> Desk<P> {
     /// The desk of the tracker whose rows the keeper has; where it has none, that of a new tracker, whose opening rows are kept then.
-    /// A keeper that fails, or among whose rows is a bad one, is handed back with its rows as they were.
+    /// Rows of the first format become those of the second, all at once. A keeper that fails, or among whose rows is a bad one, is
+    /// handed back with its rows as they were.
     pub fn open(alloc: Global, keeper: P) -> Result<Desk<P>, (OpenFault, P)>
         ensures opened { (rows : Rows) → P.keeps keeper rows → IfOk result (λ desk.
             P.tells desk.keeper → IsOpened BUILT_IN.now rows desk.machine) }
@@ -54,7 +55,7 @@ fn opened<P: Keeper>(alloc: Global, keeper: &mut P) -> Result<State, OpenFault>
             if has_none(&list) {
                 new_tracker(alloc, keeper)
             } else {
-                loaded(alloc, &list)
+                resumed(alloc, keeper, &list)
             }
         }
         Err(fault) => Err(OpenFault::of(fault)),
@@ -77,9 +78,47 @@ fn new_tracker<P: Keeper>(alloc: Global, keeper: &mut P) -> Result<State, OpenFa
     }
 }
 
-// The state of the tracker whose rows these are, which a keeper tells in order.
-fn loaded(alloc: Global, rows: &[Row]) -> Result<State, OpenFault>
-    ensures loads { InOrder rows.now → IfOk result (λ state. Loads rows.now state.machine) }
+// The state of the tracker whose rows these are, which are of the second format from then on.
+fn resumed<P: Keeper>(alloc: Global, keeper: &mut P, rows: &[Row]) -> Result<State, OpenFault>
+    ensures loads { InOrder rows.now → IfOk result (λ state. IsMadeOf rows.now state.machine) }
+    ensures rows { (kept : Rows) → P.keeps keeper.old kept → IsListing kept rows.now → IfOk result (λ state.
+        P.keeps keeper.new (rows_of state.machine)) }
+    ensures told { P.tells keeper.new → P.tells keeper.old }
+    ensures same { (kept : Rows) → P.keeps keeper.old kept → OnErr result (P.keeps keeper.new kept) }
+    ensures fault { IfErr result (IsOpenFault (λ kind number. InOrder rows.now → IsFirstBad rows.now kind number)) }
+    ensures cause { result ≡ Err OpenFault.Keeper → Rose (P.faults keeper.old) (P.faults keeper.new) }
+    ensures later { P.faults keeper.old ≤ P.faults keeper.new }
+{
+    let Loaded { format, state } = loaded(alloc, rows)?;
+    match format {
+        Format::First => migrated(alloc, keeper, state),
+        Format::Second => Ok(state),
+    }
+}
+
+// Has the rows of a tracker that were of the first format kept in the second one, in one commit.
+fn migrated<P: Keeper>(alloc: Global, keeper: &mut P, state: State) -> Result<State, OpenFault>
+    ensures state { IfOk result (λ new. new.machine ≡ state.machine) }
+    ensures rows { (kept : Rows) → P.keeps keeper.old kept → OnOk result (P.keeps keeper.new (with_ops (migrating_ops state.machine) kept)) }
+    ensures told { P.tells keeper.new → P.tells keeper.old }
+    ensures same { (kept : Rows) → P.keeps keeper.old kept → OnErr result (P.keeps keeper.new kept) }
+    ensures own { IfErr result IsKeepersOwn }
+    ensures cause { result ≡ Err OpenFault.Keeper → Rose (P.faults keeper.old) (P.faults keeper.new) }
+    ensures later { P.faults keeper.old ≤ P.faults keeper.new }
+{
+    state.is_tracker();
+    let Ok(ops) = migrating_ops(alloc, &state) else {
+        return Err(OpenFault::Memory);
+    };
+    match keeper.commit(&ops) {
+        Ok(()) => Ok(state),
+        Err(fault) => Err(OpenFault::of(fault)),
+    }
+}
+
+// What these rows make, which a keeper tells in order.
+fn loaded(alloc: Global, rows: &[Row]) -> Result<Loaded, OpenFault>
+    ensures loads { InOrder rows.now → IfOk result (λ loaded. Loads loaded.format rows.now loaded.state.machine) }
     ensures fault { IfErr result (IsOpenFault (λ kind number. InOrder rows.now → IsFirstBad rows.now kind number)) }
     ensures cause { result ≡ Err OpenFault.Keeper → ⊥ }
 {
@@ -90,7 +129,7 @@ fn loaded(alloc: Global, rows: &[Row]) -> Result<State, OpenFault>
         });
     }
     match load(alloc, rows) {
-        Ok(state) => Ok(state),
+        Ok(loaded) => Ok(loaded),
         Err(LoadFault::BadRow { kind, no }) => Err(OpenFault::BadRow { kind, no }),
         Err(LoadFault::Memory) => Err(OpenFault::Memory),
     }

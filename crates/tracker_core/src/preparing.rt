@@ -1,12 +1,12 @@
 // What is done before anything is kept: looks, refusals, and all memory.
 ghost use Rattle.std.specs.Prelude.{◌≡◌, ◌≤◌, ◌<◌, ◌+◌, None, length, option_map, IfOk};
 ghost use Rattle.tracker_calls.specs.Part.{part_fault};
-ghost use Rattle.tracker_machine.specs.Checks.{count_refusal, other_refusal, title_refusal, twins_refusal};
+ghost use Rattle.tracker_machine.specs.Checks.{or_then, count_refusal, external_refusal, few_refusal, other_refusal, title_refusal, twins_refusal};
 ghost use Rattle.tracker_machine.specs.Step.{meaning, meaning_for, form_refusal};
 ghost use Rattle.tracker_state.specs.Plan.{IsPrepared, cost_to_prepare};
 
 use field_forms::name_form::is_title;
-use fields::{Memory, Steps, UserNo};
+use fields::{Memory, Steps, Text, UserNo};
 use issue_calls::create::create;
 use issue_calls::edit::edit;
 use issue_calls::history::history;
@@ -24,13 +24,14 @@ use order_calls::moves::{move_after, move_before};
 use order_calls::ranks::ranks;
 use order_calls::rebalance::{balance, rebalance_start, rebalance_step};
 use order_calls::remaining::burndown;
+use order_calls::set_group::set_group;
 use order_calls::tick::tick;
 use order_calls::turn_sprint::{close_sprint, start_sprint};
 use std::alloc::Global;
 use std::sync::ledger::Ledger;
 use tracker_calls::{
-    Call, GivenField, MOST_ENTRIES, MOST_FROM, MOST_LISTED, Part, Refusal, Thing, UserName,
-    has_twins,
+    Call, GivenField, MOST_ENTRIES, MOST_FROM, MOST_LISTED, MOST_MEMBERS, Part, Refusal, Thing,
+    UserName, has_twins, is_external,
 };
 use tracker_state::{Prepared, State, malformed, unknown};
 
@@ -83,6 +84,7 @@ fn prepare_for<L: Ledger>(
             issue_type,
             summary,
             set,
+            external,
         } => create(
             alloc,
             state,
@@ -91,6 +93,7 @@ fn prepare_for<L: Ledger>(
             issue_type.as_str(),
             summary.as_str(),
             set.as_slice(),
+            text_of(external),
         ),
         Call::Edit { issue, set } => edit(alloc, state, user, issue.as_str(), set.as_slice()),
         Call::Transition {
@@ -132,6 +135,9 @@ fn prepare_for<L: Ledger>(
         Call::MakeSprint { name } => make_sprint(alloc, state, user, name.as_str()),
         Call::StartSprint { sprint } => start_sprint(alloc, state, user, *sprint),
         Call::CloseSprint { sprint } => close_sprint(alloc, state, user, *sprint),
+        Call::SetGroup { group, members } => {
+            set_group(alloc, state, user, group.as_str(), members.as_slice())
+        }
         Call::Burndown { sprint, part } => burndown(alloc, state, user, *sprint, *part),
     }
 }
@@ -157,6 +163,51 @@ fn twins_fault(alloc: Global, set: &[GivenField]) -> Result<Option<&'static str>
         return Ok(Some("set"));
     }
     Ok(None)
+}
+
+// The same of a create, and then an external id that isn't of its form.
+fn create_fault(
+    alloc: Global,
+    set: &[GivenField],
+    external: &Option<Text>,
+) -> Result<Option<&'static str>, Memory>
+    ensures { IfOk result (λ fault. option_map (λ name. Refusal.Form name.now) fault
+        ≡ or_then (twins_refusal set.now) (external_refusal external.now)) }
+{
+    if has_twins(alloc, set)? {
+        return Ok(Some("set"));
+    }
+    Ok(external_fault(external))
+}
+
+// An external id that isn't of its form, which no line gives.
+fn external_fault(external: &Option<Text>) -> Option<&'static str>
+    ensures { option_map (λ name. Refusal.Form name.now) result ≡ external_refusal external.now }
+{
+    match external {
+        Some(id) if !is_external(id.as_str()) => Some("external"),
+        _ => None,
+    }
+}
+
+// The text of an external id, lent.
+fn text_of(external: &Option<Text>) -> Option<&str>
+    ensures { option_map (λ id. id.now) result ≡ external.now }
+{
+    match external {
+        Some(id) => Some(id.as_str()),
+        None => None,
+    }
+}
+
+// More members than a call may name, which no line does.
+fn few_fault(members: &[Text]) -> Option<&'static str>
+    ensures { option_map (λ name. Refusal.Form name.now) result ≡ few_refusal members.now }
+{
+    if members.len() > MOST_MEMBERS {
+        return Some("members");
+    }
+    None
 }
 
 // An issue that is to go beside itself, which no line asks for.
@@ -195,7 +246,7 @@ fn fault_of_form(alloc: Global, call: &Call) -> Result<Option<&'static str>, Mem
     ensures { IfOk result (λ fault. option_map (λ name. Refusal.Form name.now) fault ≡ form_refusal call.now) }
 {
     match call {
-        Call::Create { set, .. } => twins_fault(alloc, set.as_slice()),
+        Call::Create { set, external, .. } => create_fault(alloc, set.as_slice(), external),
         Call::Edit { set, .. } => twins_fault(alloc, set.as_slice()),
         Call::Transition { set, .. } => twins_fault(alloc, set.as_slice()),
         Call::History { part, .. } => Ok(part_fault(*part, MOST_ENTRIES)),
@@ -210,6 +261,7 @@ fn fault_of_form(alloc: Global, call: &Call) -> Result<Option<&'static str>, Mem
         Call::Filter { part, .. } | Call::Board { part, .. } | Call::Burndown { part, .. } => {
             Ok(part_fault(*part, MOST_LISTED))
         }
+        Call::SetGroup { members, .. } => Ok(few_fault(members.as_slice())),
         Call::Tick { .. }
         | Call::Show { .. }
         | Call::RebalanceStart

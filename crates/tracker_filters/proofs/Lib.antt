@@ -3,9 +3,12 @@ pub mod Numbers
 pub mod Named
 pub mod Rights
 pub mod Shapes
-pub mod Members
+pub mod Holders
 pub mod Settling
 pub mod Ends
 pub mod Made
 pub mod Watching
 pub mod Sprinting
+pub mod Asked
+pub mod Unasked
+pub mod Regrouping

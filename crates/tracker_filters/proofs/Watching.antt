@@ -23,7 +23,7 @@ use Rattle.rising_numbers.proofs.Listed.{is_listed}
 use Rattle.tracker_filters.proofs.Named.{own_names_put, own_names_without}
 use Rattle.tracker_filters.proofs.Rights.{all_same, right_new, right_change, right_put, right_without, pending_begins}
 use Rattle.tracker_filters.proofs.Shapes.{cells_same, cells_new, cells_change, cells_without}
-use Rattle.tracker_filters.proofs.Members.{members_are}
+use Rattle.tracker_filters.proofs.Holders.{members_are}
 
 -- ---- room
 

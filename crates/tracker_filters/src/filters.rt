@@ -11,11 +11,13 @@ ghost use Rattle.tracker_filters.specs.Saved.{number, condition_of, by_owner, Ar
 ghost use Rattle.tracker_filters.specs.Watched.{HasFilterRoom, HasIssueRoom, AreWatched, histories_of, holders_from};
 ghost use Rattle.tracker_filters.specs.Ready.{AreVerdicts};
 ghost use Rattle.tracker_filters.specs.Sprint.{AreNumbered, DifferInEmptySprint, HoldOneSprint, sprint_cost};
+ghost use Rattle.tracker_filters.specs.Members.{DifferInMembers, members_cost};
 
 use crate::cells::{put_row, settle_filter, settle_issue};
 use crate::due::catch_up;
 use crate::filter::Filter;
 use crate::lookup::find_named;
+use crate::members::settle_members;
 use crate::ready::ReadyFilter;
 use crate::sprint::settle_sprint;
 use change_history::Issue;
@@ -302,6 +304,29 @@ impl Filters {
             at,
             steps,
         );
+        self.around = Snapshot::of(context);
+    }
+
+    /// Sees that groups have come to other members: each filter that asks for members is asked once whether it holds of
+    /// each issue, and no other filter is asked. It takes no memory.
+    pub fn see_members<L: Ledger>(
+        &mut self,
+        issues: &[Issue],
+        context: &Context,
+        at: Moment,
+        steps: &mut Steps<L>,
+    )
+        requires differ { DifferInMembers self.old.around (surroundings_of context.now) }
+        requires issues { histories_of issues.now ≡ self.old.histories }
+        requires moment { at ≡ self.old.moment }
+        ensures filters { self.new.filters ≡ self.old.filters }
+        ensures histories { self.new.histories ≡ self.old.histories }
+        ensures around { self.new.around ≡ surroundings_of context.now }
+        ensures moment { self.new.moment ≡ self.old.moment }
+        ensures steps { steps.new ≡ steps.old
+            + members_cost self.old.filters (length self.old.histories) }
+    {
+        settle_members(&mut self.views, &self.list, issues, context, at, steps);
         self.around = Snapshot::of(context);
     }
 }

@@ -18,6 +18,7 @@ refusal_status (refusal.SprintIs state) = 409
 refusal_status (refusal.Limit limit) = 422
 refusal_status (refusal.Earlier kept) = 409
 refusal_status (refusal.BalanceIs kept) = 409
+refusal_status (refusal.ExternalIs external kept) = 409
 refusal_status refusal.Keeper = 503
 refusal_status refusal.Memory = 507
 

@@ -27,7 +27,8 @@ fn refusal_status(refusal: &Refusal) -> u16
         Refusal::NoRoom { .. }
         | Refusal::SprintIs { .. }
         | Refusal::Earlier { .. }
-        | Refusal::BalanceIs(_) => 409,
+        | Refusal::BalanceIs(_)
+        | Refusal::ExternalIs { .. } => 409,
         Refusal::Condition { .. }
         | Refusal::Validator { .. }
         | Refusal::Unfit { .. }

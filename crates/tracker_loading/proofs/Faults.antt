@@ -1,17 +1,16 @@
 -- From what has been read so far to what is told: the next row, the first bad one, or all of them.
-use Rattle.std.proofs.Common.{◌≡◌, ℕ, suc, ◌+◌, ◌<◌, ◌≤◌, inl, inr, nat_lt, Bool, true, false, List, ◌∷◌, length, take, drop, Some, None, IfSome, All, refl, sym, ap, ◌∙◌, subst, arith}
+use Rattle.std.proofs.Common.{◌≡◌, ℕ, suc, ◌+◌, ◌<◌, ◌≤◌, inl, inr, nat_lt, Bool, true, List, ◌∷◌, length, take, drop, Some, None, IfSome, All, refl, sym, ap, ◌∙◌, subst, arith}
 use Rattle.std.specs.List.Sorted.{IsPermutation}
 use Rattle.std.proofs.lemmas.Bool.{lt-ltb, le-ltb}
-use Rattle.std.proofs.lemmas.Bool.Decides.{nat_tests}
 use Rattle.std.proofs.lemmas.List.{take_all, drop_all, take-append-drop}
 use Rattle.std.proofs.lemmas.List.Elements.{All-nil}
 use Rattle.std.proofs.lemmas.List.Sorted.{length_permutation}
-use Rattle.std.proofs.lemmas.Option.{none-some}
 use Rattle.board.specs.Order.{Pair}
 use Rattle.rank_strings.specs.Rank.{RankParts}
 use Rattle.tracker_ranks.specs.Loaded.{numbered_from}
 use Rattle.tracker_ranks.proofs.Loading.{length-numbered_from}
 use Rattle.tracker_keeper.specs.declared.row.Row.{Row}
+use Rattle.tracker_keeper.specs.declared.part.Format.{Format}
 use Rattle.tracker_keeper.specs.declared.part.Part.{Part}
 use Rattle.tracker_machine.specs.Machine.{Machine}
 use Rattle.tracker_rows.specs.Listed.{InOrder, IsAhead}
@@ -21,7 +20,6 @@ use Rattle.tracker_rows.specs.Loading.{IsInTime, IsGood, AreRead, Loads, IsFirst
 use Rattle.tracker_rows.proofs.Verdicts.{good_rows_lead_on}
 use Rattle.tracker_loading.specs.Reading.{StandsAt, IsReadTo}
 use Rattle.tracker_loading.proofs.Order.{apart_at, take_on, ahead_of_all}
-use Rattle.tracker_loading.proofs.Made.{made_to}
 
 -- before the first row nothing was read
 pub read_none : (rows : List Row) → InOrder rows → IsReadTo rows 0 Nothing
@@ -88,14 +86,15 @@ in_time_always g row none = subst (λ o. IfSome o (λ w. ¬ IsAhead w.0 w.1 row)
 -- ---- the rank that is wanted
 
 pub rank_wanted : (m : Machine) (ranked issues : ℕ) → length m.order ≡ ranked → length m.histories ≡ issues → ranked < issues
-    → due (Stands m) ≡ Some (5, ranked + 1)
+    → Some (5, ranked + 1) ≡ rank_due (nat_lt (length m.order) (length m.histories)) (length m.order)
 rank_wanted m ranked issues order histories less =
-    ap (λ (b : Bool). rank_due b (length m.order)) (lt-ltb (length m.order) (length m.histories) (omega (arith, order, histories, less)))
-    ∙ ap (λ (n : ℕ). rank_due true n) order
+    sym (ap (λ (b : Bool). rank_due b (length m.order)) (lt-ltb (length m.order) (length m.histories) (omega (arith, order, histories, less)))
+    ∙ ap (λ (n : ℕ). rank_due true n) order)
 
-pub none_wanted : (m : Machine) (ranked issues : ℕ) → length m.order ≡ ranked → length m.histories ≡ issues → issues ≤ ranked → due (Stands m) ≡ None
-none_wanted m ranked issues order histories le =
-    ap (λ (b : Bool). rank_due b (length m.order)) (le-ltb (length m.order) (length m.histories) (omega (arith, order, histories, le)))
+pub no_rank_wanted : (m : Machine) (ranked issues : ℕ) → length m.order ≡ ranked → length m.histories ≡ issues → issues ≤ ranked
+    → None ≡ rank_due (nat_lt (length m.order) (length m.histories)) (length m.order)
+no_rank_wanted m ranked issues order histories le =
+    sym (ap (λ (b : Bool). rank_due b (length m.order)) (le-ltb (length m.order) (length m.histories) (omega (arith, order, histories, le))))
 
 -- as many are ranked as there are ranks by the issues' numbers
 pub as_many_ranked : (ranks : List RankParts) (order : List Pair) → IsPermutation (numbered_from 1 ranks) order → length order ≡ length ranks
@@ -103,18 +102,11 @@ as_many_ranked ranks order permuted = length_permutation (numbered_from 1 ranks)
 
 -- ---- or all are read
 
-not_fewer : (m : Machine) → due (Stands m) ≡ None → length m.histories ≤ length m.order
-not_fewer m none = by (nat_lt (length m.order) (length m.histories)) refl none
-  where
-    by : (b : Bool) → nat_lt (length m.order) (length m.histories) ≡ b → rank_due b (length m.order) ≡ None → length m.histories ≤ length m.order
-    by true is wanted = absurd (none-some (5, length m.order + 1) (sym wanted))
-    by false is wanted = grind (arith, nat_tests, is)
-
-pub all_read : (rows : List Row) (place : ℕ) (m : Machine) → IsReadTo rows place (Stands m) → length rows ≤ place → due (Stands m) ≡ None → Loads rows m
-all_read rows place m is past none =
-    let made = made_to rows (take place rows) (drop place rows) m is.ordered (sym (take-append-drop place rows)) is.read in
-    record {
-      ordered = is.ordered;
-      read = subst (λ list. AreRead rows Nothing list (Stands m)) (take_all place rows past) is.read;
-      whole = omega (arith, made.few, not_fewer m none);
-    }
+pub all_read : (rows : List Row) (place : ℕ) (format : Format) (told : ℕ) (m : Machine) → IsReadTo rows place (Stands format told m) → length rows ≤ place
+    → due (Stands format told m) ≡ None → Loads format rows m
+all_read rows place format told m is past none = record {
+  ordered = is.ordered;
+  told = told;
+  read = subst (λ list. AreRead rows Nothing list (Stands format told m)) (take_all place rows past) is.read;
+  whole = none;
+}

@@ -6,8 +6,10 @@ use Rattle.std.specs.List.Sorted.{IsPermutation}
 use Rattle.std.specs.Option.{option_map_or}
 use Rattle.std.proofs.lemmas.Option.{slice_get_within, get_or_from_slice_get, none-some, same_Some}
 use Rattle.std.proofs.lemmas.List.Sums.{sum_by-cons}
-use Rattle.std.proofs.lemmas.List.Elements.{All-push}
+use Rattle.std.proofs.lemmas.List.Elements.{All-push, All-weaker}
+use Rattle.field_values.specs.declared.numbers.GroupNo.{GroupNo}
 use Rattle.field_values.specs.declared.numbers.IssueNo.{IssueNo}
+use Rattle.field_values.specs.declared.numbers.UserNo.{UserNo}
 use Rattle.fields.specs.Sound.{IsSound}
 use Rattle.fields.specs.Naming.{name_at}
 use Rattle.rising_numbers.specs.ByNumber.{put_by_number}
@@ -22,8 +24,9 @@ use Rattle.tracker_filters.specs.Saved.{number}
 use Rattle.tracker_machine.specs.Machine.{Machine}
 use Rattle.tracker_machine.specs.Checks.{entries_kept}
 use Rattle.tracker_machine.specs.Chronicle.{HasEntry}
-use Rattle.tracker_machine.specs.Effect.{longer, grown, with_new_rank}
+use Rattle.tracker_machine.specs.Effect.{longer, grown, with_new_rank, with_group_members, regrouped}
 use Rattle.tracker_machine.specs.Known.{project_keys, issues_of}
+use Rattle.tracker_machine.proofs.Regrouped.{asked_regrouped}
 use Rattle.tracker_machine.proofs.Settled.{from_found, to_found}
 use Rattle.tracker_machine.proofs.Saved.{all_put}
 use Rattle.tracker_issues.specs.Counts.{counts_of}
@@ -203,6 +206,23 @@ filter_made m counts ranks filters taken group_at f is positive bound = record {
   permuted = is.permuted;
   bound = all_put number (IsBound m.setup) f filters bound is.bound;
   rising = rise_put number 1 f filters positive is.rising;
+  created = is.created;
+  groups = is.groups;
+  are_ranks = is.are_ranks;
+  are_taken = is.are_taken;
+}
+
+-- ---- the members of a group
+
+-- who is in a group doesn't matter to what filters ask for
+pub members_made : (m : Machine) (counts : List ℕ) (ranks : List RankParts) (filters : List Filter) (taken : List RankParts) (group_at : ℕ) (group : GroupNo) (members : List UserNo)
+    → IsMaking m counts ranks filters taken group_at → IsMaking (with_group_members m group members) counts ranks filters taken group_at
+members_made m counts ranks filters taken group_at group members is = record {
+  counted = is.counted;
+  permuted = is.permuted;
+  bound = All-weaker (IsBound m.setup) (IsBound (regrouped m.setup group members))
+      (λ f bound. asked_regrouped m.setup group members f.owner.0 f.text ∙ bound) filters is.bound;
+  rising = is.rising;
   created = is.created;
   groups = is.groups;
   are_ranks = is.are_ranks;

@@ -1,26 +1,22 @@
 -- The first two rows, and a row whose part doesn't follow.
-use Rattle.std.proofs.Common.{◌≡◌, ℕ, ◌+◌, ◌≤◌, List, take, drop, Ok, All, refl, sym, ap, ◌∙◌, subst}
+use Rattle.std.proofs.Common.{◌≡◌, ℕ, ◌+◌, ◌≤◌, List, drop, All, refl, sym, ap, ◌∙◌, subst}
 use Rattle.field_values.specs.Parts.{Parts}
-use Rattle.fields.proofs.Sound.{sound_setup}
 use Rattle.rank_balancer.specs.declared.balance.Balance.{Balance}
 use Rattle.setup_reading.specs.Reading.{setup_in}
 use Rattle.tracker_keeper.specs.declared.row.Row.{Row}
 use Rattle.tracker_keeper.specs.declared.part.Part.{Part}
 use Rattle.tracker_keeper.specs.declared.part.Part.TheVariants as part
 use Rattle.tracker_keeper.specs.declared.part.Format.{Format}
-use Rattle.tracker_keeper.specs.declared.part.Format.TheVariants.{First}
 use Rattle.tracker_keeper.specs.Kept.{IsRowOf}
 use Rattle.tracker_keeper.proofs.Lone.{setup_row}
-use Rattle.tracker_keeper.proofs.RowsBack.{tells_its_part}
 use Rattle.tracker_machine.specs.Machine.{Machine}
 use Rattle.tracker_rows.specs.Listed.{InOrder, IsAhead, changes_in}
-use Rattle.tracker_rows.specs.Gathered.{Gathered, standing, joined, with_part, with_setup}
+use Rattle.tracker_rows.specs.Gathered.{Gathered, standing, joined, told_with, with_part, with_setup}
 use Rattle.tracker_rows.specs.Gathered.Gathered.{Nothing, HasSetup, Stands}
 use Rattle.tracker_rows.specs.Rules.{MayJoin, MayFollow}
 use Rattle.tracker_rows.specs.Loading.{IsInTime, IsGood, IsFirstBad}
-use Rattle.tracker_rows.proofs.Reading.{HasItsSetup, setup_read}
 use Rattle.tracker_rows.proofs.Loaded.{first_row}
-use Rattle.tracker_loading.specs.Reading.{StandsAt, IsReadTo, IsOwnPart, IsSetupRow, IsStanding}
+use Rattle.tracker_loading.specs.Reading.{StandsAt, IsReadTo, IsOwnPart, IsOnlyPart, IsSetupRow, IsStanding}
 use Rattle.tracker_loading.proofs.Faults.{read_none, leads_on, bad_first, missing}
 
 -- ---- the setup
@@ -70,28 +66,21 @@ no_setup_first rows row ordered there timely none = bad_first rows 0 Nothing row
 abbrev pub setup_of : Gathered → Parts → Type 0
 setup_of Nothing setup = ⊥
 setup_of (HasSetup text own) setup = own ≡ setup
-setup_of (Stands m) setup = m.setup ≡ setup
+setup_of (Stands format told m) setup = m.setup ≡ setup
 
 good_of : (rows : List Row) (g : Gathered) (setup : Parts) (row : Row) (p : Part) → setup_of g setup → IsOwnPart rows setup row p → MayFollow rows g p → IsGood rows g row p
 good_of rows Nothing setup row p is own follows = absurd is
 good_of rows (HasSetup text s) setup row p is own follows =
     record { alone = own.alone; tells = subst (λ s. IsRowOf s row.kind row.no row.body p) (sym is) own.tells; sprints = own.sprints; follows = follows }
-good_of rows (Stands m) setup row p is own follows =
+good_of rows (Stands format told m) setup row p is own follows =
     record { alone = own.alone; tells = subst (λ s. IsRowOf s row.kind row.no row.body p) (sym is) own.tells; sprints = own.sprints; follows = follows }
 
 own_of_good : (rows : List Row) (g : Gathered) (setup : Parts) (row : Row) (p : Part) → setup_of g setup → IsGood rows g row p → IsOwnPart rows setup row p
 own_of_good rows Nothing setup row p is good = absurd is
 own_of_good rows (HasSetup text s) setup row p is good =
     record { alone = good.alone; tells = subst (λ s. IsRowOf s row.kind row.no row.body p) is good.tells; sprints = good.sprints }
-own_of_good rows (Stands m) setup row p is good =
+own_of_good rows (Stands format told m) setup row p is good =
     record { alone = good.alone; tells = subst (λ s. IsRowOf s row.kind row.no row.body p) is good.tells; sprints = good.sprints }
-
-one_own : (rows : List Row) (g : Gathered) (setup : Parts) (row : Row) (p q : Part) → HasItsSetup g → setup_of g setup → IsOwnPart rows setup row p → IsOwnPart rows setup row q → p ≡ q
-one_own rows Nothing setup row p q its is one other = absurd is
-one_own rows (HasSetup text s) setup row p q its is one other =
-    tells_its_part setup (sound_setup text setup (subst (λ s. setup_in text ≡ Ok s) is its)) row.kind row.no row.body p q one.tells other.tells
-one_own rows (Stands m) setup row p q its is one other =
-    tells_its_part setup (sound_setup m.text setup (subst (λ s. setup_in m.text ≡ Ok s) is its)) row.kind row.no row.body p q one.tells other.tells
 
 module _ (rows : List Row) (place : ℕ) (g : Gathered) (setup : Parts) (row : Row) (is : IsReadTo rows place g) (names : setup_of g setup) (there : StandsAt rows place row)
     (timely : IsInTime g row) where
@@ -100,14 +89,13 @@ module _ (rows : List Row) (place : ℕ) (g : Gathered) (setup : Parts) (row : R
   none_own none = bad_first rows place g row is there timely (λ p good. none p (own_of_good rows g setup row p names good))
 
   -- so is one whose part doesn't follow
-  pub not_following : (p : Part) → IsOwnPart rows setup row p → ¬ MayFollow rows g p → IsFirstBad rows row.kind row.no
+  pub not_following : (p : Part) → IsOnlyPart rows setup row p → ¬ MayFollow rows g p → IsFirstBad rows row.kind row.no
   not_following p own broken =
       bad_first rows place g row is there timely
-      (λ q good. broken (subst (MayFollow rows g)
-      (one_own rows g setup row q p (setup_read rows Nothing (take place rows) g tt is.read) names (own_of_good rows g setup row q names good) own) good.follows))
+      (λ q good. broken (subst (MayFollow rows g) (own.only q (own_of_good rows g setup row q names good)) good.follows))
 
-  pub follows_on : (p : Part) → IsOwnPart rows setup row p → MayFollow rows g p → IsReadTo rows (place + 1) (with_part g p)
-  follows_on p own follows = leads_on rows place g row p is there timely (good_of rows g setup row p names own follows)
+  pub follows_on : (p : Part) → IsOnlyPart rows setup row p → MayFollow rows g p → IsReadTo rows (place + 1) (with_part g p)
+  follows_on p own follows = leads_on rows place g row p is there timely (good_of rows g setup row p names own.own follows)
 
 -- ---- present
 
@@ -118,26 +106,26 @@ module _ (rows : List Row) (text : List ℕ) (setup : Parts) (is : IsReadTo rows
   pub present_bad : (row : Row) → StandsAt rows 1 row → ¬ IsAhead 2 0 row → ((p : Part) → ¬ IsOwnPart rows setup row p) → IsFirstBad rows row.kind row.no
   present_bad row there timely none = none_own rows 1 (HasSetup text setup) setup row is refl there timely none
 
-  pub not_present : (row : Row) (p : Part) → StandsAt rows 1 row → ¬ IsAhead 2 0 row → IsOwnPart rows setup row p
+  pub not_present : (row : Row) (p : Part) → StandsAt rows 1 row → ¬ IsAhead 2 0 row → IsOnlyPart rows setup row p
       → ((t : List ℕ) (s : Parts) → ¬ MayFollow rows (HasSetup t s) p) → IsFirstBad rows row.kind row.no
   not_present row p there timely own broken = not_following rows 1 (HasSetup text setup) setup row is refl there timely p own (broken text setup)
 
-  pub present_leads : (row : Row) (p : Part) (balance : Balance) (change moment : ℕ) → StandsAt rows 1 row → ¬ IsAhead 2 0 row → IsOwnPart rows setup row p
-      → ((t : List ℕ) (s : Parts) → IsStanding rows t s p balance change moment) → IsReadTo rows 2 (Stands (standing text setup balance change moment))
-  present_leads row p balance change moment there timely own stands =
+  pub present_leads : (row : Row) (p : Part) (format : Format) (balance : Balance) (change moment : ℕ) → StandsAt rows 1 row → ¬ IsAhead 2 0 row → IsOnlyPart rows setup row p
+      → ((t : List ℕ) (s : Parts) → IsStanding rows t s p format balance change moment) → IsReadTo rows 2 (Stands format 0 (standing text setup balance change moment))
+  present_leads row p format balance change moment there timely own stands =
       let standing_is = stands text setup in
       subst (IsReadTo rows 2) standing_is.leads (follows_on rows 1 (HasSetup text setup) setup row is refl there timely p own standing_is.follows)
 
 -- the part of present that agrees with the rows
-pub present_stands : (rows : List Row) (text : List ℕ) (setup : Parts) (balance : Balance) (change : ℕ) (format : Format) (moment : ℕ) → format ≡ First → change ≤ changes_in rows
-    → IsStanding rows text setup (part.Present balance change format moment) balance change moment
+pub present_stands : (rows : List Row) (text : List ℕ) (setup : Parts) (balance : Balance) (change : ℕ) (format : Format) (moment : ℕ) → change ≤ changes_in rows
+    → IsStanding rows text setup (part.Present balance change format moment) format balance change moment
 unfolding MayFollow with_part
-present_stands rows text setup balance change format moment first counted = record { follows = record { counted = counted; first = first }; leads = refl }
+present_stands rows text setup balance change format moment counted = record { follows = record { counted = counted }; leads = refl }
 
 pub present_counted : (rows : List Row) (text : List ℕ) (setup : Parts) (balance : Balance) (change : ℕ) (format : Format) (moment : ℕ)
-    → MayFollow rows (HasSetup text setup) (part.Present balance change format moment) → (format ≡ First) × (change ≤ changes_in rows)
+    → MayFollow rows (HasSetup text setup) (part.Present balance change format moment) → change ≤ changes_in rows
 unfolding MayFollow
-present_counted rows text setup balance change format moment may = (may.first, may.counted)
+present_counted rows text setup balance change format moment may = may.counted
 
 -- no other part follows the setup
 pub only_present : (rows : List Row) (text : List ℕ) (setup : Parts) (p : Part)
@@ -157,14 +145,15 @@ only_present rows text setup (part.Members group members) other may = may
 
 -- ---- behind present
 
-module _ (rows : List Row) (place : ℕ) (m : Machine) (row : Row) (is : IsReadTo rows place (Stands m)) (there : StandsAt rows place row) (timely : IsInTime (Stands m) row) where
+module _ (rows : List Row) (place : ℕ) (format : Format) (told : ℕ) (m : Machine) (row : Row) (is : IsReadTo rows place (Stands format told m)) (there : StandsAt rows place row)
+    (timely : IsInTime (Stands format told m) row) where
   pub row_bad : ((p : Part) → ¬ IsOwnPart rows m.setup row p) → IsFirstBad rows row.kind row.no
-  row_bad none = none_own rows place (Stands m) m.setup row is refl there timely none
+  row_bad none = none_own rows place (Stands format told m) m.setup row is refl there timely none
 
-  pub row_not_joined : (p : Part) → IsOwnPart rows m.setup row p → ¬ MayJoin m p → IsFirstBad rows row.kind row.no
+  pub row_not_joined : (p : Part) → IsOnlyPart rows m.setup row p → ¬ MayJoin format m p → IsFirstBad rows row.kind row.no
   unfolding MayFollow
-  row_not_joined p own broken = not_following rows place (Stands m) m.setup row is refl there timely p own broken
+  row_not_joined p own broken = not_following rows place (Stands format told m) m.setup row is refl there timely p own broken
 
-  pub row_joined : (p : Part) → IsOwnPart rows m.setup row p → MayJoin m p → IsReadTo rows (place + 1) (Stands (joined m p))
+  pub row_joined : (p : Part) → IsOnlyPart rows m.setup row p → MayJoin format m p → IsReadTo rows (place + 1) (Stands format (told_with told p) (joined m p))
   unfolding MayFollow with_part
-  row_joined p own may = follows_on rows place (Stands m) m.setup row is refl there timely p own may
+  row_joined p own may = follows_on rows place (Stands format told m) m.setup row is refl there timely p own may

@@ -6,6 +6,7 @@ use Rattle.field_values.specs.Parts.{Parts}
 use Rattle.setup_reading.specs.Reading.{setup_in}
 use Rattle.rank_balancer.specs.declared.balance.Balance.{Balance}
 use Rattle.tracker_keeper.specs.declared.row.Row.{Row}
+use Rattle.tracker_keeper.specs.declared.part.Format.{Format}
 use Rattle.tracker_keeper.specs.declared.part.Part.{Part}
 use Rattle.tracker_keeper.specs.Kept.{IsRowOf}
 use Rattle.tracker_rows.specs.Listed.{InOrder, IsAlone, HasSprintsOf}
@@ -13,6 +14,7 @@ use Rattle.tracker_rows.specs.Gathered.{Gathered, standing, with_part}
 use Rattle.tracker_rows.specs.Gathered.Gathered.{Nothing, HasSetup, Stands}
 use Rattle.tracker_rows.specs.Rules.{MayFollow}
 use Rattle.tracker_rows.specs.Loading.{AreRead}
+use Rattle.tracker_loading.specs.declared.progress.Progress.{Progress}
 
 -- ---- places
 
@@ -47,6 +49,10 @@ pub record IsFrontBefore (rows : List Row) (kind number count : ℕ) : Type 0 wh
 
 -- ---- what has been read
 
+-- what is gathered while a tracker is in the making
+abbrev pub gathered_in : Progress → Gathered
+gathered_in p = Stands p.format p.told p.made
+
 -- the rows before that place are good one after the other, and lead to this
 pub record IsReadTo (rows : List Row) (place : ℕ) (g : Gathered) : Type 0 where
   pub ordered : InOrder rows
@@ -59,6 +65,11 @@ pub record IsOwnPart (rows : List Row) (setup : Parts) (row : Row) (p : Part) : 
   pub tells : IsRowOf setup row.kind row.no row.body p
   pub sprints : HasSprintsOf rows p
 
+-- and it is no other part's
+pub record IsOnlyPart (rows : List Row) (setup : Parts) (row : Row) (p : Part) : Type 0 where
+  pub own : IsOwnPart rows setup row p
+  pub only : (q : Part) → IsOwnPart rows setup row q → q ≡ p
+
 -- the row is the one of a setup, which is this one
 pub record IsSetupRow (rows : List Row) (row : Row) (setup : Parts) : Type 0 where
   pub alone : IsAlone rows row
@@ -66,7 +77,7 @@ pub record IsSetupRow (rows : List Row) (row : Row) (setup : Parts) : Type 0 whe
   pub number_is : row.no ≡ 0
   pub reads : setup_in row.body ≡ Ok setup
 
--- behind the setup, the part is present's, and tells that a tracker stands there
-pub record IsStanding (rows : List Row) (text : List ℕ) (setup : Parts) (p : Part) (balance : Balance) (change moment : ℕ) : Type 0 where
+-- behind the setup, the part is present's, and tells that a tracker stands there, by rows of that format
+pub record IsStanding (rows : List Row) (text : List ℕ) (setup : Parts) (p : Part) (format : Format) (balance : Balance) (change moment : ℕ) : Type 0 where
   pub follows : MayFollow rows (HasSetup text setup) p
-  pub leads : with_part (HasSetup text setup) p ≡ Stands (standing text setup balance change moment)
+  pub leads : with_part (HasSetup text setup) p ≡ Stands format 0 (standing text setup balance change moment)

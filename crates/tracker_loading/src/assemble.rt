@@ -74,6 +74,7 @@ fn put_together(base: Base, derived: Derived) -> State
         change,
         moment,
         issues,
+        externals,
         boards,
     } = base;
     let Derived {
@@ -84,6 +85,6 @@ fn put_together(base: Base, derived: Derived) -> State
     } = derived;
     let setting = Setting { setup, context };
     State::of_parts(
-        setting, moment, change, issues, ranks, filters, boards, work,
+        setting, moment, change, issues, externals, ranks, filters, boards, work,
     )
 }

@@ -11,3 +11,5 @@ pub(crate) const GROUP: u8 = 4;
 pub(crate) const RANK: u8 = 5;
 
 pub(crate) const SPRINT: u8 = 7;
+
+pub(crate) const MEMBERS: u8 = 10;

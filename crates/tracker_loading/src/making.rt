@@ -5,7 +5,7 @@ ghost use Rattle.tracker_rows.specs.Gathered.{standing};
 ghost use Rattle.tracker_loading.specs.Assembled.{made_with, IsWhole};
 
 use crate::parts::{Base, Given};
-use board::Board;
+use external_ids::ExternalIds;
 use field_values::{Memory, Moment};
 use fields::Setup;
 use rank_balancer::Balance;
@@ -25,6 +25,7 @@ pub(crate) struct Making {
     pub(crate) change: u64,
     pub(crate) moment: Moment,
     pub(crate) issues: Issues,
+    pub(crate) externals: ExternalIds,
     /// By the issues' numbers.
     pub(crate) ranks: Vec<Rank>,
     pub(crate) sprints: Sprints,
@@ -46,6 +47,7 @@ impl Drop for Making {
             change: _,
             moment: _,
             issues: _,
+            externals: _,
             ranks: _,
             sprints: _,
             filters: _,
@@ -63,10 +65,10 @@ impl Model for Making {
 
     ghost Value = { Machine };
 
-    ghost view = { λ m. made_of m.setup m.balance m.change m.moment m.issues m.ranks.items m.sprints m.filters.items m.boards };
+    ghost view = { λ m. made_of m.setup m.balance m.change m.moment m.issues m.externals m.ranks.items m.sprints m.filters.items m.boards };
 
     ghost invariant = { λ m.
-        IsMaking (made_of m.setup m.balance m.change m.moment m.issues m.ranks.items m.sprints m.filters.items m.boards)
+        IsMaking (made_of m.setup m.balance m.change m.moment m.issues m.externals m.ranks.items m.sprints m.filters.items m.boards)
         m.issues.counts m.ranks.items m.filters.items (keys m.taken) m.group_at };
 }
 
@@ -88,6 +90,7 @@ impl Making {
             change,
             moment,
             issues,
+            externals: ExternalIds::new(alloc),
             ranks: Vec::new(alloc),
             sprints: Sprints::empty(alloc),
             filters: Vec::new(alloc),
@@ -116,6 +119,7 @@ impl Making {
             change,
             moment,
             issues,
+            externals,
             ranks,
             sprints,
             filters,
@@ -128,6 +132,7 @@ impl Making {
             change,
             moment,
             issues,
+            externals,
             boards,
         };
         let given = Given {

@@ -8,22 +8,24 @@ ghost use Rattle.tracker_rows.specs.Gathered.{standing};
 ghost use Rattle.tracker_rows.specs.Gathered.Gathered.{HasSetup, Stands};
 ghost use Rattle.tracker_rows.specs.Rules.{MayFollow};
 ghost use Rattle.tracker_loading.specs.Load.{IsFault};
-ghost use Rattle.tracker_loading.specs.Reading.{StandsAt, IsReadTo, IsSetupRow, IsStanding};
+ghost use Rattle.tracker_loading.specs.Reading.{StandsAt, IsReadTo, IsSetupRow, IsStanding, gathered_in};
 
 use crate::kinds::{PRESENT, SETUP};
 use crate::loading::{LoadFault, bad_row};
 use crate::making::Making;
 use crate::own_part::own_part;
 use crate::places::{count_changes, is_alone, wanted_at};
+use crate::progress::Progress;
 use field_values::{Memory, Moment};
 use fields::{Setup, SetupFault};
 use rank_balancer::Balance;
 use std::alloc::Global;
 use tracker_keeper::{Format, Part, Row};
 
-// Where a tracker stands, by the row of present.
+// Where a tracker stands, by the row of present, and the format of its rows.
 #[derive(Clone, Copy)]
 struct Standing {
+    format: Format,
     balance: Balance,
     change: u64,
     moment: Moment,
@@ -73,7 +75,7 @@ fn standing_of(rows: &[Row], part: &Part) -> Option<Standing>
     ensures { MatchOption result
         ((text : List ℕ) (setup : Parts) → ¬ MayFollow rows.now (HasSetup text setup) part.now)
         (λ s. (text : List ℕ) (setup : Parts) →
-        IsStanding rows.now text setup part.now s.balance s.change s.moment) }
+        IsStanding rows.now text setup part.now s.format s.balance s.change s.moment) }
 {
     let Part::Present {
         balance,
@@ -84,13 +86,11 @@ fn standing_of(rows: &[Row], part: &Part) -> Option<Standing>
     else {
         return None;
     };
-    let Format::First = format else {
-        return None;
-    };
     if *change > count_changes(rows) as u64 {
         return None;
     }
     Some(Standing {
+        format: *format,
         balance: *balance,
         change: *change,
         moment: *moment,
@@ -102,7 +102,7 @@ fn read_present(alloc: Global, rows: &[Row], setup: &Setup) -> Result<Standing, 
     requires { IsReadTo rows.now 1 (HasSetup setup.now.text (parts setup.now)) }
     ensures read { IfOk result (λ s.
         let made = standing setup.now.text (parts setup.now) s.balance s.change s.moment in
-        IsReadTo rows.now 2 (Stands made)) }
+        IsReadTo rows.now 2 (Stands s.format 0 made)) }
     ensures fault { IfErr result (IsFault rows.now) }
 {
     let Some(row) = wanted_at(rows, 1, PRESENT, 0) else {
@@ -123,10 +123,10 @@ fn read_present(alloc: Global, rows: &[Row], setup: &Setup) -> Result<Standing, 
     }
 }
 
-/// The tracker in the making by the first two rows.
-pub(crate) fn begin(alloc: Global, rows: &[Row]) -> Result<Making, LoadFault>
+/// What the first two rows tell.
+pub(crate) fn begin(alloc: Global, rows: &[Row]) -> Result<Progress, LoadFault>
     requires { InOrder rows.now }
-    ensures read { IfOk result (λ made. IsReadTo rows.now 2 (Stands made)) }
+    ensures read { IfOk result (λ read. IsReadTo rows.now 2 (gathered_in read)) }
     ensures fault { IfErr result (IsFault rows.now) }
 {
     let setup = read_setup(alloc, rows)?;
@@ -138,7 +138,11 @@ pub(crate) fn begin(alloc: Global, rows: &[Row]) -> Result<Making, LoadFault>
         standing.change,
         standing.moment,
     ) {
-        Ok(made) => Ok(made),
+        Ok(made) => Ok(Progress {
+            format: standing.format,
+            told: 0,
+            made,
+        }),
         Err(_) => Err(LoadFault::Memory),
     }
 }

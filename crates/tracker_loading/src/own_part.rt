@@ -4,7 +4,7 @@ ghost use Rattle.fields.specs.SetupParts.{parts};
 ghost use Rattle.tracker_keeper.specs.declared.part.Part.{Part};
 ghost use Rattle.tracker_keeper.specs.Kept.{IsRowOf};
 ghost use Rattle.tracker_rows.specs.Listed.{InOrder};
-ghost use Rattle.tracker_loading.specs.Reading.{StandsAt, IsOwnPart};
+ghost use Rattle.tracker_loading.specs.Reading.{StandsAt, IsOwnPart, IsOnlyPart};
 
 use crate::named_sprints::has_sprints_of;
 use crate::places::is_alone;
@@ -36,7 +36,7 @@ pub(crate) fn own_part(
     requires there { StandsAt rows.now place row.now }
     ensures { IfOk result (λ found. MatchOption found
         ((p : Part) → ¬ IsOwnPart rows.now (parts setup.now) row.now p)
-        (λ p. IsOwnPart rows.now (parts setup.now) row.now p)) }
+        (λ p. IsOnlyPart rows.now (parts setup.now) row.now p)) }
 {
     if !is_alone(rows, place, row) {
         return Ok(None);

@@ -1,5 +1,6 @@
 //! The parts of a tracker in the making, and of its state.
 
+use external_ids::ExternalIds;
 use field_values::Moment;
 use fields::Setup;
 use jql_bound::Context;
@@ -18,6 +19,7 @@ pub(crate) struct Base {
     pub(crate) change: u64,
     pub(crate) moment: Moment,
     pub(crate) issues: Issues,
+    pub(crate) externals: ExternalIds,
     pub(crate) boards: Boards,
 }
 
@@ -45,6 +47,7 @@ impl Base {
             change: _,
             moment: _,
             issues: _,
+            externals: _,
             boards: _,
         } = self;
     }

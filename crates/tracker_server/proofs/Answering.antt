@@ -32,6 +32,7 @@ refused_answers worker ahead r (refusal.SprintIs s) e = inl (refused_answer work
 refused_answers worker ahead r (refusal.Limit l) e = inl (refused_answer worker ahead (asked_of r) (refusal.Limit l) e)
 refused_answers worker ahead r (refusal.Earlier k) e = inl (refused_answer worker ahead (asked_of r) (refusal.Earlier k) e)
 refused_answers worker ahead r (refusal.BalanceIs k) e = inl (refused_answer worker ahead (asked_of r) (refusal.BalanceIs k) e)
+refused_answers worker ahead r (refusal.ExternalIs x k) e = inl (refused_answer worker ahead (asked_of r) (refusal.ExternalIs x k) e)
 refused_answers worker ahead r refusal.Keeper e = inl (refused_answer worker ahead (asked_of r) refusal.Keeper e)
 refused_answers worker ahead r refusal.Memory e = inr (refl, refl, refl)
 

@@ -1,10 +1,10 @@
 -- The members of groups, as queries ask of them.
-use Rattle.std.proofs.Common.{◌≡◌, ℕ, ◌≤◌, Bool, true, false, ◌&&◌, List, [], ◌∷◌, map, arith, refl}
+use Rattle.std.proofs.Common.{◌≡◌, ℕ, zero, suc, ◌≤◌, Bool, true, false, ◌&&◌, List, [], ◌∷◌, slice_set, map, arith, refl, ap}
 use Rattle.std.specs.Prelude.{nat_lt}
 use Rattle.std.specs.List.{list_all}
 use Rattle.field_values.specs.declared.numbers.UserNo.{UserNo}
 use Rattle.field_values.specs.declared.parts.Group.{Group}
-use Rattle.field_values.specs.GroupMembers.{is_user_list}
+use Rattle.field_values.specs.GroupMembers.{is_user_list, with_members}
 use Rattle.fields.specs.Sound.{has_members_in}
 
 both : (a b : Bool) → (a && b) ≡ true → (a ≡ true) × (b ≡ true)
@@ -27,3 +27,9 @@ members_in_order n l [] h = refl
 members_in_order n l (group ∷ groups) h =
     let parts = both (is_user_list n group.members) (list_all (has_members_in n) groups) h in
     rw (of_more n 65_536 l group.members parts.0) (members_in_order n l groups parts.1)
+
+-- where a group at a place has other members, so have queries
+pub members_set : (groups : List Group) (place : ℕ) (members : List UserNo) → slice_set (map (λ (g : Group). g.members) groups) place members ≡ map (λ (g : Group). g.members) (with_members groups place members)
+members_set [] place members = refl
+members_set (group ∷ groups) zero members = refl
+members_set (group ∷ groups) (suc place) members = ap (λ (rest : List (List UserNo)). group.members ∷ rest) (members_set groups place members)

@@ -3,4 +3,4 @@
 
 mod setting;
 
-pub use setting::{Setting, context_with};
+pub use setting::{Setting, context_with, copy_members};

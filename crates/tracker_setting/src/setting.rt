@@ -1,9 +1,11 @@
-ghost use Rattle.std.specs.Prelude.{◌≡◌, ◌<◌, ◌-◌, ◌∷◌, ◌++◌, [], IfOk, OnOk, length, map, slice_set, vec_capacity};
+ghost use Rattle.std.specs.Prelude.{◌≡◌, ◌≤◌, ◌<◌, ◌-◌, ◌∷◌, ◌++◌, [], IfOk, OnOk, length, map, slice_set, true, vec_capacity};
+ghost use Rattle.field_values.specs.GroupMembers.{is_user_list};
 ghost use Rattle.fields.specs.SetupParts.{parts};
 ghost use Rattle.jql_meaning.specs.Surroundings.{surroundings_of};
+ghost use Rattle.tracker_machine.specs.Effect.{regrouped};
 ghost use Rattle.tracker_machine.specs.Search.{surroundings_in};
 
-use fields::{Group, Memory, Sequence, Setup, SprintNo, UserNo};
+use fields::{Group, GroupNo, Memory, Sequence, Setup, SprintNo, UserNo};
 use jql_bound::{Context, Phase};
 use std::alloc::Global;
 
@@ -63,6 +65,29 @@ impl Setting {
     {
         self.context.sprints[sprint.0 as usize - 1] = phase;
     }
+
+    /// A group has these members from now on, in the setup's order of users and each once. They are given twice: `asked` goes into
+    /// what queries ask of. It takes no memory.
+    pub fn set_members(
+        &mut self,
+        group: GroupNo,
+        members: Sequence<UserNo>,
+        asked: Sequence<UserNo>,
+    )
+        requires from_one { 1 ≤ group.0 }
+        requires there { group.0 ≤ length self.old.setup.group }
+        requires in_order { is_user_list (length self.old.setup.users) members ≡ true }
+        requires same { asked ≡ members }
+        ensures parts { parts self.new.setup ≡ regrouped (parts self.old.setup) group members }
+        ensures text { self.new.setup.text ≡ self.old.setup.text }
+        ensures context { surroundings_of self.new.context
+            ≡ record (surroundings_in (parts self.new.setup) []) {
+              sprints = self.old.context.sprints.items;
+            } }
+    {
+        self.setup.set_members(group, members);
+        self.context.members[usize::from(group.0) - 1] = asked;
+    }
 }
 
 /// What queries ask of the setup, and these sprints by number from 1.
@@ -86,12 +111,13 @@ fn members_of(alloc: Global, groups: &[Group]) -> Result<Vec<Sequence<UserNo>>, 
 {
     let mut members = Vec::new(alloc);
     for group in groups {
-        members.push(copy_of(alloc, group.members.as_slice())?)?;
+        members.push(copy_members(alloc, group.members.as_slice())?)?;
     }
     Ok(members)
 }
 
-fn copy_of(alloc: Global, users: &[UserNo]) -> Result<Sequence<UserNo>, Memory>
+/// The same users in the same order.
+pub fn copy_members(alloc: Global, users: &[UserNo]) -> Result<Sequence<UserNo>, Memory>
     ensures { IfOk result (λ copy. copy ≡ users.now) }
 {
     let mut copy = Sequence::new(alloc);

@@ -1,7 +1,8 @@
 -- What the state keeps true of itself, after each change.
-use Rattle.std.proofs.Common.{◌≡◌, ℕ, ◌+◌, ◌-◌, ◌<◌, ◌≤◌, List, [], ◌∷◌, ◌++◌, length, slice_get, set, bytes_eq, Some, IfSome, refl, sym, ap, subst, ◌∙◌, arith}
+use Rattle.std.proofs.Common.{◌≡◌, ℕ, ◌+◌, ◌-◌, ◌<◌, ◌≤◌, List, [], ◌∷◌, ◌++◌, length, slice_get, set, bytes_eq, Option, Some, IfSome, refl, sym, ap, subst, ◌∙◌, arith}
 use Rattle.std.specs.Prelude.{sum_by}
 use Rattle.std.specs.List.{All}
+use Rattle.field_values.specs.declared.numbers.GroupNo.{GroupNo}
 use Rattle.field_values.specs.declared.numbers.UserNo.{UserNo}
 use Rattle.field_values.specs.Years.{last_second}
 use Rattle.change_history.specs.declared.entry.Entry.{Entry}
@@ -15,7 +16,7 @@ use Rattle.rank_balancer.specs.declared.balance.Balance.{Balance}
 use Rattle.tracker_ranks.specs.Ranked.{IsNext}
 use Rattle.tracker_machine.specs.Machine.{Machine}
 use Rattle.tracker_machine.specs.Saved.{SavedFilter}
-use Rattle.tracker_machine.specs.Effect.{with_issue, longer}
+use Rattle.tracker_machine.specs.Effect.{MayName, MayHave, with_issue, longer, regrouped, with_group_members}
 use Rattle.tracker_machine.specs.Search.{surroundings_in}
 use Rattle.tracker_machine.specs.SprintRules.{BringsSprints}
 use Rattle.fields.specs.Naming.{name_at}
@@ -33,8 +34,10 @@ use Rattle.tracker_state.specs.State.{IsState, IsBound}
 use Rattle.tracker_machine.specs.Tracker.{IsTracker, AllEntriesFit, AllSmall, MayOpen}
 use Rattle.tracker_machine.proofs.Chronicle.{few_groups}
 use Rattle.tracker_machine.proofs.Keepable.{number_at}
+use Rattle.tracker_machine.proofs.Saved.{all_then}
 use Rattle.tracker_machine.proofs.Settled.{from_found}
-use Rattle.tracker_machine.proofs.Tracker.{tracker_later, tracker_push, tracker_add}
+use Rattle.tracker_machine.proofs.Regrouped.{asked_regrouped}
+use Rattle.tracker_machine.proofs.Tracker.{tracker_later, tracker_push, tracker_add, tracker_regrouped}
 use Rattle.tracker_issues.specs.Counts.{counts_of}
 use Rattle.tracker_issues.specs.Issues.{with_entries}
 use Rattle.tracker_issues.proofs.Histories.{set_here, some_is}
@@ -77,13 +80,13 @@ state_beside m counts w seen work context order balance filters boards is tracke
 -- ---- an issue
 
 -- an issue comes, of the project at a place
-pub state_push : (m : Machine) (counts new : List ℕ) (w seen : WatchedFilters) (work told : TrackedWork) (context : Context) (h : History) (rank : RankParts) (place : ℕ) → IsSound m.setup → IsState m counts w work context
-    → MayOpen m h → IsNext m.order m.balance h.no rank → place < length m.setup.project
+pub state_push : (m : Machine) (counts new : List ℕ) (w seen : WatchedFilters) (work told : TrackedWork) (context : Context) (h : History) (rank : RankParts) (external : Option (List ℕ)) (place : ℕ) → IsSound m.setup → IsState m counts w work context
+    → MayOpen m h → IsNext m.order m.balance h.no rank → MayName m.externals external → place < length m.setup.project
     → h.key ≡ next_key m (name_at (project_keys m.setup) place) → IfSome (slice_get counts place) (λ n. new ≡ set counts place (n + 1))
     → See w (w.histories ++ h ∷ []) w.moment seen → seen.filters ≡ w.filters → told.seen ≡ with_histories work.seen (m.histories ++ h ∷ [])
-    → IsState (with_issue m h rank) new seen told context
-state_push m counts new w seen work told context h rank place sound is may next there key count see same tells =
-    let tracker = tracker_push m h rank is.tracker may next in
+    → IsState (with_issue m h rank external) new seen told context
+state_push m counts new w seen work told context h rank external place sound is may next named there key count see same tells =
+    let tracker = tracker_push m h rank external is.tracker may next named in
     let ps = m.setup.project in
     let hs = m.histories in
     let number = issues_of (name_at (project_keys m.setup) place) hs in
@@ -134,6 +137,23 @@ state_planned m counts w seen work told context new sprints is tracker histories
   seen = record { histories = histories ∙ is.seen.histories; around = beside ∙ around; moment = moment ∙ is.seen.moment };
   bound = subst (All (IsBound m.setup)) (sym filters) is.bound;
   worked = tells ∙ ap (λ (seen : Seen). record seen { sprints = sprints }) is.worked;
+  around = around;
+}
+
+-- ---- members
+
+-- a group comes to other members
+pub state_regrouped : (m : Machine) (counts : List ℕ) (w seen : WatchedFilters) (work : TrackedWork) (context new : Context) (group : GroupNo) (members : List UserNo) → IsState m counts w work context
+    → MayHave m.setup group members → seen.histories ≡ w.histories → seen.moment ≡ w.moment → seen.filters ≡ w.filters → seen.around ≡ surroundings_of new
+    → surroundings_of new ≡ surroundings_in (regrouped m.setup group members) m.sprints → IsState (with_group_members m group members) counts seen work new
+state_regrouped m counts w seen work context new group members is may histories moment filters beside around = record {
+  counted = is.counted;
+  few_changes = is.few_changes;
+  tracker = tracker_regrouped m group members is.tracker may;
+  seen = record { histories = histories ∙ is.seen.histories; around = beside ∙ around; moment = moment ∙ is.seen.moment };
+  bound = subst (All (IsBound (regrouped m.setup group members))) (sym filters)
+      (all_then (IsBound m.setup) (IsBound (regrouped m.setup group members)) w.filters (λ f bound. asked_regrouped m.setup group members f.owner.0 f.text ∙ bound) is.bound);
+  worked = is.worked;
   around = around;
 }
 

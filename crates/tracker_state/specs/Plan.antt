@@ -1,22 +1,21 @@
 -- What a prepared call has ready.
-use Rattle.std.specs.Prelude.{◌≡◌, ◌≢◌, ◌≤◌, ◌<◌, ℕ, List, length, sum_by, string_bytes, slice_get, IfSome, Option, Some, None, Result, Ok, Err}
+use Rattle.std.specs.Prelude.{◌≡◌, ◌≢◌, ◌≤◌, ◌<◌, ℕ, List, length, sum_by, string_bytes, slice_get, option_map, IfSome, Option, Some, None, Result, Ok, Err}
 use Rattle.tracker_calls.specs.declared.reply.Answer.{Answer}
 use Rattle.tracker_calls.specs.declared.reply.Refusal.{Refusal}
 use Rattle.tracker_calls.specs.declared.reply.Refusal.TheVariants as refusal
-use Rattle.board.specs.declared.board.Board.{Board}
 use Rattle.tracker_keeper.specs.declared.row.RowOp.{RowOp}
 use Rattle.change_history.specs.declared.entry.Entry.{Entry}
-use Rattle.change_history.specs.declared.entry.Group.{Group}
 use Rattle.change_history.specs.History.{History}
 use Rattle.fields.specs.Naming.{name_at}
 use Rattle.tracker_machine.specs.Known.{project_keys, next_key}
 use Rattle.tracker_machine.specs.Checks.{history_bytes, entry_bytes}
 use Rattle.tracker_machine.specs.Machine.{Machine}
 use Rattle.tracker_machine.specs.Effect.{Effect, IsAllowed}
-use Rattle.tracker_machine.specs.Effect.Effect.{NewMoment, NewIssue, NewGroup, NewRank, NewBalance, NewRanks, NewSprint, NewState, NewFilter, NoFilter, NewBoard, NoBoard}
+use Rattle.tracker_machine.specs.Effect.Effect.{NewMoment, NewIssue, NewGroup, NewRank, NewBalance, NewRanks, NewSprint, NewState, NewFilter, NoFilter, NewBoard, NoBoard, NewMembers}
 use Rattle.tracker_machine.specs.Meaning.{Meaning}
 use Rattle.tracker_machine.specs.Kept.{ops_of}
 use Rattle.tracker_machine.specs.Meaning.Meaning.{Refuses, Tells, Finds, Makes}
+use Rattle.tracker_state.specs.declared.plan.NewExternal.{NewExternal}
 use Rattle.tracker_state.specs.declared.plan.IssuePlan.{IssuePlan}
 use Rattle.tracker_state.specs.declared.plan.GroupPlan.{GroupPlan}
 use Rattle.tracker_state.specs.declared.plan.Plan.{Plan}
@@ -29,15 +28,20 @@ use Rattle.tracker_filters.specs.declared.ready.ReadyFilter.{ReadyFilter}
 use Rattle.tracker_filters.specs.Saved.{number, condition_of}
 use Rattle.tracker_filters.specs.Watched.{HasFilterRoom, HasIssueRoom}
 use Rattle.tracker_filters.specs.Ready.{AreVerdicts}
+use Rattle.tracker_filters.specs.Members.{members_cost}
 use Rattle.burndown.specs.ChartLaws.{with_entries}
 use Rattle.tracker_work.specs.Seen.{share_now}
 use Rattle.tracker_work.specs.Work.{HasRoomFor}
 use Rattle.tracker_machine.specs.SprintRules.{sum_in_sprint}
 use Rattle.tracker_state.specs.State.{Held, HasSprintRoom, IsBound, saved_as}
 
+-- the external id that a new issue comes with, if any
+abbrev pub id_of : Option NewExternal → Option (List ℕ)
+id_of external = option_map (λ e. e.id) external
+
 abbrev pub effect_of : Plan → Effect
 effect_of (plans.Moment to) = NewMoment to
-effect_of (plans.Issue new) = NewIssue new.issue.history new.rank
+effect_of (plans.Issue new) = NewIssue new.issue.history new.rank (id_of new.external)
 effect_of (plans.Group new) = NewGroup new.place new.group
 effect_of (plans.Rank new) = NewRank new.issue new.rank
 effect_of (plans.Balance balance) = NewBalance balance
@@ -48,6 +52,12 @@ effect_of (plans.Save ready) = NewFilter (saved_as ready.filter)
 effect_of (plans.DropFilter filter_no) = NoFilter filter_no
 effect_of (plans.Board b) = NewBoard b
 effect_of (plans.DropBoard board_no) = NoBoard board_no
+effect_of (plans.Members new) = NewMembers new.group new.members
+
+-- the text that leads to the issue is that of the id, and there is room for it
+pub record ExternalFits (s : Held) (new : NewExternal) : Type 0 where
+  pub same : string_bytes new.text ≡ new.id
+  pub room : 1 ≤ s.externals_room
 
 -- there is room for the issue, its key is the next one of its project, and what is kept beside it is its own
 pub record IssueFits (s : Held) (new : IssuePlan) : Type 0 where
@@ -57,6 +67,7 @@ pub record IssueFits (s : Held) (new : IssuePlan) : Type 0 where
   pub key : string_bytes new.key ≡ new.issue.history.key
   pub there : new.project.0 < length s.machine.setup.project
   pub next : new.issue.history.key ≡ next_key s.machine (name_at (project_keys s.machine.setup) new.project.0)
+  pub external : IfSome new.external (ExternalFits s)
   pub bytes : new.bytes ≡ history_bytes new.issue.history
   pub rows_room : HasRoomFor s.work (share_now s.work.seen new.issue.history).sprint
 
@@ -91,14 +102,17 @@ Fits s (plans.Save ready) = FilterFits s ready
 Fits s (plans.DropFilter filter_no) = Unit {0}
 Fits s (plans.Board b) = length s.machine.boards < s.boards_room
 Fits s (plans.DropBoard board_no) = Unit {0}
+Fits s (plans.Members new) = new.asked ≡ new.members
 
 -- how often it is asked whether a query holds of an issue as the plan is carried out: by each filter of a new or a changed issue, and
--- of each issue in a sprint that starts or is closed, and for each verdict that has come to its end
+-- of each issue in a sprint that starts or is closed, by each filter that asks for members of each issue as a group comes to others,
+-- and for each verdict that has come to its end
 abbrev pub cost_of : Plan → Held → ℕ
 cost_of (plans.Moment to) s = due s.watched.views to
 cost_of (plans.Issue new) s = length s.watched.filters
 cost_of (plans.Group new) s = length s.watched.filters
 cost_of (plans.State sprint state) s = sum_in_sprint (length s.watched.filters) sprint.0 s.machine.histories
+cost_of (plans.Members new) s = members_cost s.watched.filters (length s.machine.histories)
 cost_of _ s = 0
 
 -- and how often at most as a call is prepared: by a search, and by a filter that is saved

@@ -14,6 +14,7 @@ use Rattle.tracker_machine.specs.Sprints.{work_of}
 use Rattle.tracker_machine.specs.Tracker.{IsTracker}
 use Rattle.tracker_issues.specs.Counts.{counts_of}
 use Rattle.tracker_issues.specs.Issues.{Shelf}
+use Rattle.external_ids.specs.Ids.{IdList}
 use Rattle.tracker_ranks.specs.Ranked.{OrderedIssues}
 use Rattle.tracker_filters.specs.declared.filter.Filter.{Filter}
 use Rattle.tracker_filters.specs.Watched.{WatchedFilters}
@@ -34,26 +35,28 @@ abbrev pub saved_filters : List Filter → List SavedFilter
 saved_filters filters = map saved_as filters
 
 -- the abstract tracker's state that the parts of a state are
-abbrev pub machine_of : Setup → ℕ → ℕ → Shelf → OrderedIssues → WatchedFilters → BoardList → TrackedWork → Machine
-machine_of setup moment change issues ranks watched boards work = record {
+abbrev pub machine_of : Setup → ℕ → ℕ → Shelf → IdList → OrderedIssues → WatchedFilters → BoardList → TrackedWork → Machine
+machine_of setup moment change issues externals ranks watched boards work = record {
   text = setup.text;
   setup = parts setup;
   moment = moment;
   change = change;
   sprints = work.seen.sprints;
   histories = map (λ i. i.history) issues.kept;
+  externals = externals.ids;
   order = ranks.order;
   balance = ranks.balance;
   filters = saved_filters watched.filters;
   boards = boards.boards;
 }
 
--- the abstract tracker's state; how many issues there is room for, up to how many issues may have ranks, and for how many
--- entries there is room, issue by issue; the filters with their verdicts; for how many boards there is room; the sprints with what
+-- the abstract tracker's state; for how many issues there is room, for how many external ids, up to how many issues may have ranks,
+-- and for how many entries there is room, issue by issue; the filters with their verdicts; for how many boards there is room; the sprints with what
 -- remains of them; and of how many sprints the phases have room where queries ask for them
 pub record Held : Type 0 where
   pub machine : Machine
   pub room : ℕ
+  pub externals_room : ℕ
   pub ranks_room : ℕ
   pub rooms : List ℕ
   pub watched : WatchedFilters

@@ -1,19 +1,23 @@
 // Plans are carried out.
-ghost use Rattle.std.specs.Prelude.{◌≡◌, ◌<◌, ◌+◌, length, slice_get, IfSome};
+ghost use Rattle.std.specs.Prelude.{◌≡◌, ◌≤◌, ◌<◌, ◌+◌, None, length, slice_get, string_bytes, IfSome};
+ghost use Rattle.std.specs.List.{All};
+ghost use Rattle.external_ids.specs.Ids.{external_named};
 ghost use Rattle.filter_views.specs.Counts.{due};
+ghost use Rattle.tracker_filters.specs.Members.{members_cost};
 ghost use Rattle.sprints.specs.Sprint.{IsThere};
 ghost use Rattle.tracker_work.specs.Seen.{share_now, state_in, with_state};
-ghost use Rattle.tracker_machine.specs.Effect.{applied, IsAllowed};
-ghost use Rattle.tracker_machine.specs.Effect.Effect.{NewMoment, NewIssue, NewGroup, NewRank, NewBalance, NewRanks, NewSprint, NewState, NewFilter, NoFilter, NewBoard, NoBoard};
+ghost use Rattle.tracker_machine.specs.Effect.{applied, with_external, IsAllowed};
+ghost use Rattle.tracker_machine.specs.Effect.Effect.{NewMoment, NewIssue, NewGroup, NewRank, NewBalance, NewRanks, NewSprint, NewState, NewFilter, NoFilter, NewBoard, NoBoard, NewMembers};
 ghost use Rattle.tracker_machine.specs.SprintRules.{IsNextState, phase_of, sum_in_sprint};
-ghost use Rattle.tracker_state.specs.Plan.{effect_of, cost_of, IssueFits, GroupFits, FilterFits, Fits};
+ghost use Rattle.tracker_state.specs.Plan.{id_of, effect_of, cost_of, IssueFits, GroupFits, FilterFits, Fits};
 ghost use Rattle.tracker_state.specs.State.{saved_as, HasSprintRoom};
 
-use crate::plan::{GroupPlan, IssuePlan, Plan, RankPlan};
+use crate::plan::{GroupPlan, IssuePlan, MembersPlan, NewExternal, Plan, RankPlan};
 use crate::state::State;
 use board::Board;
 use burndown::Share;
-use fields::{BoardNo, FilterNo, Moment, SprintNo, Steps, Text};
+use external_ids::{ExternalId, ExternalIds};
+use fields::{BoardNo, FilterNo, IssueNo, Moment, SprintNo, Steps, Text};
 use jql_bound::Phase;
 use rank_balancer::{Balance, StepPlan};
 use sprints::SprintState;
@@ -24,7 +28,8 @@ use tracker_work::Work;
 
 impl State {
     /// Carries out a plan that was made for this state. It takes no memory, and can't fail. Of a new or a changed issue, and of each
-    /// issue in a sprint that starts or is closed, each filter is asked once, and as time moves on each verdict that has come to its end.
+    /// issue in a sprint that starts or is closed, each filter is asked once, as a group comes to other members each filter that asks for
+    /// members, of each issue, and as time moves on each verdict that has come to its end.
     pub fn install<L: Ledger>(&mut self, plan: Plan, steps: &mut Steps<L>)
         requires fits { Fits self.old plan }
         requires allowed { IsAllowed (effect_of plan) self.old.machine }
@@ -44,6 +49,7 @@ impl State {
             Plan::DropFilter(no) => self.drop_filter(no),
             Plan::Board(board) => self.put_board(board),
             Plan::DropBoard(no) => self.drop_board(no),
+            Plan::Members(new) => self.regroup(new, steps),
         }
     }
 
@@ -64,11 +70,14 @@ impl State {
     #[tactic(auto, unfolding(tracker_machine::specs::Effect::applied, tracker_machine::specs::Effect::IsAllowed))]
     fn push<L: Ledger>(&mut self, new: IssuePlan, steps: &mut Steps<L>)
         requires fits { IssueFits self.old new }
-        requires allowed { IsAllowed (NewIssue new.issue.history new.rank) self.old.machine }
-        ensures machine { self.new.machine ≡ applied (NewIssue new.issue.history new.rank) self.old.machine }
+        requires allowed { IsAllowed (NewIssue new.issue.history new.rank (id_of new.external))
+            self.old.machine }
+        ensures machine { self.new.machine
+            ≡ applied (NewIssue new.issue.history new.rank (id_of new.external)) self.old.machine }
         ensures steps { steps.new ≡ steps.old + length self.old.watched.filters }
     {
         self.change += 1;
+        put_external(&mut self.externals, new.issue.no(), new.external);
         self.ranks.add(new.issue.no(), new.rank);
         self.filters
             .see_new(&new.issue, &self.setting.context, self.moment, steps);
@@ -201,6 +210,39 @@ impl State {
         ensures { self.new.machine ≡ applied (NoBoard no) self.old.machine }
     {
         self.boards.remove(no);
+    }
+
+    // Gives a group other members: each filter that asks for members is asked once of each issue.
+    #[tactic(auto, unfolding(tracker_machine::specs::Effect::applied, tracker_machine::specs::Effect::IsAllowed))]
+    fn regroup<L: Ledger>(&mut self, new: MembersPlan, steps: &mut Steps<L>)
+        requires same { new.asked ≡ new.members }
+        requires allowed { IsAllowed (NewMembers new.group new.members) self.old.machine }
+        ensures machine { self.new.machine
+            ≡ applied (NewMembers new.group new.members) self.old.machine }
+        ensures steps { steps.new ≡ steps.old
+            + members_cost self.old.watched.filters (length self.old.machine.histories) }
+    {
+        self.setting.set_members(new.group, new.members, new.asked);
+        self.filters.see_members(
+            self.issues.as_slice(),
+            &self.setting.context,
+            self.moment,
+            steps,
+        );
+    }
+}
+
+// Has the external id of a new issue lead to it, if it has one.
+fn put_external(externals: &mut ExternalIds, issue: IssueNo, external: Option<NewExternal>)
+    requires same { IfSome external (λ e. string_bytes e.text ≡ e.id) }
+    requires room { IfSome external (λ e. 1 ≤ externals.old.room) }
+    requires free { IfSome external (λ e. external_named e.id externals.old.ids ≡ None) }
+    requires last { All (λ e. e.no.0 < issue.0) externals.old.ids }
+    requires positive { 1 ≤ issue.0 }
+    ensures { externals.new.ids ≡ with_external externals.old.ids issue (id_of external) }
+{
+    if let Some(NewExternal { id, text }) = external {
+        externals.add(ExternalId { no: issue, id }, text);
     }
 }
 

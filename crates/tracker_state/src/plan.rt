@@ -2,13 +2,23 @@
 
 use board::Board;
 use change_history::{Group, Issue};
-use fields::{BoardNo, FilterNo, IssueNo, Moment, ProjectNo, SprintNo, Text};
+use fields::{
+    BoardNo, FilterNo, GroupNo, IssueNo, Moment, ProjectNo, Sequence, SprintNo, Text, UserNo,
+};
 use rank_balancer::{Balance, StepPlan};
 use rank_strings::Rank;
 use sprints::SprintState;
 use tracker_calls::Answer;
 use tracker_filters::ReadyFilter;
 use tracker_keeper::RowOp;
+
+/// What a new issue is called where it came from.
+#[derive(Drop)]
+pub struct NewExternal {
+    pub id: Text,
+    /// The same text, by which the issue is found.
+    pub text: String,
+}
 
 /// A new issue with all that is kept of it.
 #[derive(Drop)]
@@ -22,6 +32,8 @@ pub struct IssuePlan {
     pub bytes: u64,
     /// Its rank, behind all others.
     pub rank: Rank,
+    /// Its external id, if it has one.
+    pub external: Option<NewExternal>,
 }
 
 /// A change group of the issue at a place.
@@ -38,6 +50,15 @@ pub struct GroupPlan {
 pub struct RankPlan {
     pub issue: IssueNo,
     pub rank: Rank,
+}
+
+/// Other members of a group, in the setup's order of users.
+#[derive(Drop)]
+pub struct MembersPlan {
+    pub group: GroupNo,
+    pub members: Sequence<UserNo>,
+    /// The same once more, for what queries ask of.
+    pub asked: Sequence<UserNo>,
 }
 
 /// An effect with all that was allocated for it.
@@ -66,6 +87,8 @@ pub enum Plan {
     Board(Board),
     /// A board is dropped.
     DropBoard(BoardNo),
+    /// A group comes to other members.
+    Members(MembersPlan),
 }
 
 /// What comes of preparing a call: an answer alone, or a plan with its answer and the operations that keep it.

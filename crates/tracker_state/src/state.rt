@@ -1,12 +1,15 @@
-ghost use Rattle.std.specs.Prelude.{◌≡◌, ◌≤◌, ◌<◌, ◌+◌, length, map, slice_get, slice_set, option_map, IfOk, IfSome, OnOk, OnErr, Some};
+ghost use Rattle.std.specs.Prelude.{◌≡◌, ◌≤◌, ◌<◌, ◌+◌, length, map, slice_get, slice_set, option_map, option_and_then, IfOk, IfSome, OnOk, OnErr, Some, None};
 ghost use Rattle.std.specs.List.{All};
+ghost use Rattle.external_ids.specs.Ids.{external_named};
 ghost use Rattle.field_forms.specs.Names.{place_named};
 ghost use Rattle.fields.specs.Naming.{name_at};
 ghost use Rattle.fields.specs.SetupParts.{parts, names_in, may};
 ghost use Rattle.jql_meaning.specs.Surroundings.{surroundings_of};
 ghost use Rattle.tracker_filters.specs.Watched.{AreRight, HasFilterRoom, HasIssueRoom};
 ghost use Rattle.tracker_work.specs.Work.{OnlyRoomGrows, HasRoomFor};
+ghost use Rattle.tracker_machine.specs.Create.{issue_called};
 ghost use Rattle.tracker_machine.specs.Machine.{opening};
+ghost use Rattle.tracker_machine.specs.Members.{group_names};
 ghost use Rattle.tracker_machine.specs.Search.{surroundings_in};
 ghost use Rattle.tracker_machine.specs.Sprints.{work_of};
 ghost use Rattle.tracker_machine.specs.Transition.{transition_names};
@@ -16,7 +19,8 @@ ghost use Rattle.tracker_machine.specs.Tracker.{IsSettled, IsTracker};
 ghost use Rattle.tracker_state.specs.State.{machine_of, saved_filters, HasSprintRoom, HaveSeen, IsBound, IsState};
 
 use change_history::Issue;
-use fields::{Memory, Moment, Permission, ProjectNo, Setup, SprintNo, UserNo};
+use external_ids::ExternalIds;
+use fields::{GroupNo, Memory, Moment, Permission, ProjectNo, Setup, SprintNo, UserNo};
 use jql_bound::Context;
 use rank_balancer::Balance;
 use std::alloc::Global;
@@ -34,6 +38,7 @@ pub struct State {
     pub(crate) moment: Moment,
     pub(crate) change: u64,
     pub(crate) issues: Issues,
+    pub(crate) externals: ExternalIds,
     pub(crate) ranks: Ranks,
     pub(crate) filters: Filters,
     pub(crate) boards: Boards,
@@ -48,6 +53,7 @@ impl Drop for State {
             moment: _,
             change: _,
             issues: _,
+            externals: _,
             ranks: _,
             filters: _,
             boards: _,
@@ -67,8 +73,9 @@ impl Model for State {
     ghost coded = { Prim.hlevel (codes, cond.the_row.coded) };
 
     ghost view = { λ s. record {
-      machine = machine_of s.setting.setup s.moment s.change s.issues s.ranks s.filters s.boards s.work;
+      machine = machine_of s.setting.setup s.moment s.change s.issues s.externals s.ranks s.filters s.boards s.work;
       room = s.issues.room;
+      externals_room = s.externals.room;
       ranks_room = s.ranks.room;
       rooms = map (λ i. i.room) s.issues.kept;
       watched = s.filters;
@@ -78,7 +85,7 @@ impl Model for State {
     } };
 
     ghost invariant = { λ s.
-        IsState (machine_of s.setting.setup s.moment s.change s.issues s.ranks s.filters s.boards s.work)
+        IsState (machine_of s.setting.setup s.moment s.change s.issues s.externals s.ranks s.filters s.boards s.work)
         s.issues.counts s.filters s.work s.setting.context };
 }
 
@@ -96,6 +103,7 @@ impl State {
             moment: Moment::first(),
             change: 0,
             issues,
+            externals: ExternalIds::new(alloc),
             ranks: Ranks::new(alloc),
             filters,
             boards: Boards::new(alloc),
@@ -109,20 +117,22 @@ impl State {
         moment: Moment,
         change: u64,
         issues: Issues,
+        externals: ExternalIds,
         ranks: Ranks,
         filters: Filters,
         boards: Boards,
         work: Work,
     ) -> State
-        requires { IsState (machine_of setting.setup moment change issues ranks filters boards work)
+        requires { IsState (machine_of setting.setup moment change issues externals ranks filters boards work)
             issues.counts filters work setting.context }
-        ensures { result.machine ≡ machine_of setting.setup moment change issues ranks filters boards work }
+        ensures { result.machine ≡ machine_of setting.setup moment change issues externals ranks filters boards work }
     {
         State {
             setting,
             moment,
             change,
             issues,
+            externals,
             ranks,
             filters,
             boards,
@@ -189,6 +199,16 @@ impl State {
         self.setting.setup.project_named(name)
     }
 
+    /// The group of that name, ASCII case ignored; `None` exactly where there is none. Groups count from 1.
+    pub fn group_named(&self, name: &str) -> Option<GroupNo>
+        ensures place { option_map (λ no. no.0) result
+            ≡ option_map (λ place. place + 1) (place_named name.now (group_names self.now.machine.setup)) }
+        ensures from_one { IfSome result (λ no. 1 ≤ no.0) }
+        ensures there { IfSome result (λ no. no.0 ≤ length self.now.machine.setup.group) }
+    {
+        self.setting.setup.group_named(name)
+    }
+
     /// The place of the transition of that name, ASCII case ignored; `None` exactly where there is none.
     pub fn transition_named(&self, name: &str) -> Option<usize>
         ensures place { result ≡ place_named name.now (transition_names self.now.machine.setup) }
@@ -232,6 +252,25 @@ impl State {
         ensures there { IfSome result (λ place. place < length self.now.machine.histories) }
     {
         self.issues.place_of(key)
+    }
+
+    /// The place of the issue of that external id, in exact letters; `None` exactly where there is none.
+    pub fn place_called(&self, id: &str) -> Option<usize>
+        ensures issue { option_and_then (λ place. slice_get self.now.machine.histories place) result
+            ≡ issue_called self.now.machine (Some id.now) }
+        ensures there { IfSome result (λ place. place < length self.now.machine.histories) }
+        ensures none { result ≡ None → external_named id.now self.now.machine.externals ≡ None }
+    {
+        let no = self.externals.find(id)?;
+        Some(no.0 as usize - 1)
+    }
+
+    /// The external ids of issues, lent.
+    pub fn externals(&self) -> &ExternalIds
+        ensures ids { result.now.ids ≡ self.now.machine.externals }
+        ensures room { result.now.room ≡ self.now.externals_room }
+    {
+        &self.externals
     }
 
     /// The issues by place, lent.
@@ -343,11 +382,20 @@ impl State {
         ensures filters { self.new.watched.filters ≡ self.old.watched.filters }
         ensures work { self.new.work ≡ self.old.work }
         ensures phases { self.new.phases_room ≡ self.old.phases_room }
+        ensures externals { self.new.externals_room ≡ self.old.externals_room }
         ensures err { OnErr result (self.new ≡ record self.old { ranks_room = self.new.ranks_room; watched = self.new.watched }) }
     {
         self.ranks.reserve()?;
         self.filters.reserve_issue()?;
         self.issues.reserve()
+    }
+
+    /// Makes room for one more external id, or leaves all as it is but for that room, which may have grown.
+    pub fn reserve_external(&mut self) -> Result<(), Memory>
+        ensures room { OnOk result (1 ≤ self.new.externals_room) }
+        ensures same { self.new ≡ record self.old { externals_room = self.new.externals_room } }
+    {
+        self.externals.reserve()
     }
 
     /// Makes room for one more filter, or leaves all as it is but for that room, which may have grown.
@@ -411,6 +459,7 @@ impl State {
         ensures watched { self.new.watched ≡ self.old.watched }
         ensures work { self.new.work ≡ self.old.work }
         ensures phases { self.new.phases_room ≡ self.old.phases_room }
+        ensures externals { self.new.externals_room ≡ self.old.externals_room }
         ensures err { OnErr result (self.new ≡ self.old) }
     {
         self.issues.reserve_entries(place, n)

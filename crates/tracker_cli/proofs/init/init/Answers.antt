@@ -6,5 +6,5 @@ use Rattle.tracker_cli.proofs.init.init.Goals as goal
 pub returns-in-Ok-clause-written : goal.returns-in-Ok-clause-written
 returns-in-Ok-clause-written g c = λ is.
     let made = c.make.ensures.written is in
-    let told = subst (λ text. IsInitText (Some text) (made.0.0 ++ made.0.1)) c.deref.ensures.value made.0.2 in
-    ((made.0.0, made.0.1, whole_text _ _ _ _ c.in-Ok.ensures.whole c.in-Ok.ensures.end told, made.0.3), made.1)
+    let told = subst (λ text. IsInitText _ (Some text) (made.0.0 ++ made.0.1)) c.deref.ensures.value made.0.2 in
+    ((made.0.0, made.0.1, whole_text _ _ _ _ _ c.in-Ok.ensures.whole c.in-Ok.ensures.end told, made.0.3), made.1)

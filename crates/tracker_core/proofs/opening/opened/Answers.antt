@@ -2,7 +2,7 @@ use Rattle.std.proofs.Common.{◌≡◌, [], List, ◌∙◌, sym, subst}
 use Rattle.tracker_keeper.specs.declared.row.Row.{Row}
 use Rattle.tracker_keeper.specs.Rows.{Rows, IsListing}
 use Rattle.tracker_core.specs.Desk.{HasNoRow}
-use Rattle.tracker_core.proofs.Kept.{no_row, without_rows, loaded_opens, loaded_keeps, new_opens, new_keeps, bad_opens}
+use Rattle.tracker_core.proofs.Kept.{no_row, without_rows, loaded_opens, new_opens, new_keeps, bad_opens}
 use Rattle.tracker_core.proofs.opening.opened.Goals as goal
 
 none : (rows : Rows) (list lent : List Row) → lent ≡ list → lent ≡ [] → IsListing rows list → HasNoRow rows
@@ -25,15 +25,16 @@ returns-then-has_none-clause-rows g c = λ rows kept.
 
 pub returns-in-Ok-clause-opened : goal.returns-in-Ok-clause-opened
 returns-in-Ok-clause-opened g c = λ rows kept.
-    loaded_opens (λ s. s.machine) c.loaded.result _ rows _
-    (λ told. subst (IsListing rows) (sym c.deref-else-has_none.ensures.value) (c.in-Ok.ensures.rows told rows kept)) c.loaded.ensures.loads
+    loaded_opens (λ s. s.machine) c.resumed.result _ rows _
+    (λ told. subst (IsListing rows) (sym c.deref-else-has_none.ensures.value) (c.in-Ok.ensures.rows (c.resumed.ensures.told told) rows kept)) c.resumed.ensures.loads
 
 pub returns-in-Ok-clause-rows : goal.returns-in-Ok-clause-rows
 returns-in-Ok-clause-rows g c = λ rows kept.
-    loaded_keeps (λ s. s.machine) c.loaded.result (g.P.Keeper.keeps c.rows.new.self) rows _
-    (λ told. subst (IsListing rows) (sym c.deref-else-has_none.ensures.value) (c.in-Ok.ensures.rows told rows kept)) c.loaded.ensures.loads (c.in-Ok.ensures.same rows kept)
+    new_keeps c.resumed.result _
+    (λ told. subst (IsListing rows) (sym c.deref-else-has_none.ensures.value) (c.in-Ok.ensures.rows (c.resumed.ensures.told told) rows kept))
+    (c.resumed.ensures.rows rows (c.in-Ok.ensures.same rows kept))
 
 pub returns-in-Ok-clause-fault : goal.returns-in-Ok-clause-fault
 returns-in-Ok-clause-fault g c =
-    bad_opens c.loaded.result g.P.Keeper.keeps g.P.Keeper.tells c.args.keeper.now c.rows.new.self _
-    (λ told rows kept. subst (IsListing rows) (sym c.deref-else-has_none.ensures.value) (c.in-Ok.ensures.rows told rows kept)) c.loaded.ensures.fault
+    bad_opens c.resumed.result g.P.Keeper.keeps g.P.Keeper.tells c.args.keeper.now c.resumed.new.keeper _
+    (λ told rows kept. subst (IsListing rows) (sym c.deref-else-has_none.ensures.value) (c.in-Ok.ensures.rows (c.resumed.ensures.told told) rows kept)) c.resumed.ensures.fault

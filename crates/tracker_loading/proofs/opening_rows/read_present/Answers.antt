@@ -17,7 +17,7 @@ returns-in_default-found-clause-fault c =
 pub returns-in-Some-standing_of-clause-read : goal.returns-in-Some-standing_of-clause-read
 returns-in-Some-standing_of-clause-read c =
     let s = c.in-Some-standing_of.standing in
-    present_leads c.args.rows.now c.args.setup.now.text (parts c.args.setup.now) c.requires c.in-Some.row.now c.in-Some-found.part s.balance s.change s.moment
+    present_leads c.args.rows.now c.args.setup.now.text (parts c.args.setup.now) c.requires c.in-Some.row.now c.in-Some-found.part s.format s.balance s.change s.moment
     c.in-Some.ensures.0 c.in-Some.ensures.1 (rw c.in-Some-found.is at c.in-Ok.ensures) c.in-Some-standing_of.ensures
 
 pub returns-clause-fault : goal.returns-clause-fault

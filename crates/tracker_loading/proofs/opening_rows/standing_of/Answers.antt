@@ -9,21 +9,15 @@ use Rattle.tracker_loading.proofs.opening_rows.standing_of.Goals as goal
 pub returns-in_default : goal.returns-in_default
 returns-in_default c = λ text setup may. only_present c.args.rows.now text setup c.args.part.now c.in_default.not-Present may
 
-pub returns-in_default-format : goal.returns-in_default-format
-returns-in_default-format c = λ text setup may.
-    let p = c.in-Present in
-    let counted = present_counted c.args.rows.now text setup p.balance p.change p.format p.moment (subst (MayFollow c.args.rows.now (HasSetup text setup)) p.is may) in
-    c.in_default-format.not-First counted.0
-
 pub returns-then-change-count_changes : goal.returns-then-change-count_changes
 returns-then-change-count_changes c = λ text setup may.
     let p = c.in-Present in
     let counted = present_counted c.args.rows.now text setup p.balance p.change p.format p.moment (subst (MayFollow c.args.rows.now (HasSetup text setup)) p.is may) in
-    omega (arith, counted.1, c.count_changes.ensures)
+    omega (arith, counted, c.count_changes.ensures)
 
 pub returns : goal.returns
 returns c = λ text setup.
     let p = c.in-Present in
     let counted : p.change ≤ changes_in c.args.rows.now = omega (arith, c.count_changes.ensures) in
-    subst (λ q. IsStanding c.args.rows.now text setup q p.balance p.change p.moment) (sym p.is)
-    (present_stands c.args.rows.now text setup p.balance p.change p.format p.moment c.in-First.is counted)
+    subst (λ q. IsStanding c.args.rows.now text setup q p.format p.balance p.change p.moment) (sym p.is)
+    (present_stands c.args.rows.now text setup p.balance p.change p.format p.moment counted)

@@ -1,6 +1,8 @@
 use Rattle.std.proofs.Common.{◌≡◌, sym, ◌∙◌, subst}
 use Rattle.std.proofs.lemmas.Bool.{false≢true}
+use Rattle.fields.specs.SetupParts.{parts}
 use Rattle.tracker_keeper.specs.declared.part.Part.{Part}
+use Rattle.tracker_keeper.specs.Kept.{IsRowOf}
 use Rattle.tracker_rows.specs.Listed.{HasSprintsOf}
 use Rattle.tracker_loading.proofs.own_part.own_part.Goals as goal
 
@@ -11,11 +13,14 @@ pub returns-in-None : goal.returns-in-None
 returns-in-None c = λ p own. (rw c.in-None.is at c.in_ok-part.ensures) p own.tells
 
 pub returns-then-has_sprints_of : goal.returns-then-has_sprints_of
-returns-then-has_sprints_of c = record {
-  alone = c.is_alone.ensures.0 c.if-not-is_alone.false;
-  tells = rw c.in-Some.is at c.in_ok-part.ensures;
-  sprints = c.has_sprints_of.ensures.0 c.if-has_sprints_of.true;
-}
+returns-then-has_sprints_of c =
+    let row = c.args.row.now in
+    let part : Part = c.in-Some.part in
+    let tells : IsRowOf (parts c.args.setup.now) row.kind row.no row.body part = rw c.in-Some.is at c.in_ok-part.ensures in
+    record {
+      own = record { alone = c.is_alone.ensures.0 c.if-not-is_alone.false; tells = tells; sprints = c.has_sprints_of.ensures.0 c.if-has_sprints_of.true };
+      only = λ q own. c.bodies_tell_their_parts.ensures row.kind row.no row.body q part own.tells tells;
+    }
 
 pub returns-else-has_sprints_of : goal.returns-else-has_sprints_of
 returns-else-has_sprints_of c = λ p own.

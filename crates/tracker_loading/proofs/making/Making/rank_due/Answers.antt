@@ -3,7 +3,7 @@ use Rattle.std.proofs.lemmas.List.{length-map}
 use Rattle.change_history.specs.History.{RoomyHistory}
 use Rattle.tracker_machine.specs.Machine.{Machine}
 use Rattle.tracker_loading.specs.Making.{order_of}
-use Rattle.tracker_loading.proofs.Faults.{rank_wanted, none_wanted, as_many_ranked}
+use Rattle.tracker_loading.proofs.Faults.{rank_wanted, no_rank_wanted, as_many_ranked}
 use Rattle.tracker_loading.proofs.making.Making.rank_due.Goals as goal
 
 pub returns-then-ranked-len : goal.returns-then-ranked-len
@@ -28,4 +28,4 @@ returns-else-ranked-len c =
     let histories : length m.histories ≡ c.len.result =
     ap (λ (n : Machine). length n.histories) (sym c.self.view_is)
     ∙ (length-map own.issues.kept (λ (i : RoomyHistory). i.history) ∙ sym c.len.ensures) in
-    none_wanted m (length c.as_slice-ranked.result.now) c.len.result order histories c.if-ranked-len.false
+    no_rank_wanted m (length c.as_slice-ranked.result.now) c.len.result order histories c.if-ranked-len.false

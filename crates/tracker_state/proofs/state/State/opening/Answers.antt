@@ -6,6 +6,7 @@ use Rattle.tracker_issues.specs.Issues.{Shelf}
 use Rattle.tracker_ranks.specs.Ranked.{OrderedIssues}
 use Rattle.tracker_issues.specs.Counts.{counts_of}
 use Rattle.tracker_boards.specs.Boards.{BoardList}
+use Rattle.tracker_machine.proofs.Regrouped.{users_of_sound, groups_of_sound}
 use Rattle.tracker_machine.proofs.Tracker.{tracker_opening}
 use Rattle.field_values.specs.declared.status.Status.{Status}
 use Rattle.jql_bound.specs.declared.context.Phase.{Phase}
@@ -23,10 +24,11 @@ invariant_of-result c =
     let work = c.in_ok-work.ensures in
     let around : surroundings_of setting.context ≡ surroundings_in (parts setting.setup) [] =
     setting.agree ∙ ap (λ (ps : List Phase). record (surroundings_in (parts setting.setup) []) { sprints = ps }) c.in_ok-setting.ensures.sprints in
-    rw (none, ap (λ (r : OrderedIssues). r.order) c.new-3.ensures, ap (λ (r : OrderedIssues). r.balance) c.new-3.ensures, filters.filters, ap (λ (b : BoardList). b.boards) c.new-4.ensures, work) (record {
+    let sound = setting.setup.sound in
+    rw (none, c.new-3.ensures, ap (λ (r : OrderedIssues). r.order) c.new-4.ensures, ap (λ (r : OrderedIssues). r.balance) c.new-4.ensures, filters.filters, ap (λ (b : BoardList). b.boards) c.new-5.ensures, work) (record {
       counted = ap (λ (s : Shelf). s.counts) c.in_ok-issues.ensures ∙ ap (λ ps. counts_of ps []) (c.as_slice.ensures ∙ ap (λ (s : Setup). (parts s).project) (sym c.in_ok-setting.ensures.setup));
       few_changes = omega arith;
-      tracker = tracker_opening _ _ _ (omega (arith, c.first-2.ensures));
+      tracker = tracker_opening _ _ _ (omega (arith, c.first-2.ensures)) (users_of_sound (parts setting.setup) sound) (groups_of_sound (parts setting.setup) sound);
       seen = record {
         histories = filters.histories;
         around = filters.around ∙ around;

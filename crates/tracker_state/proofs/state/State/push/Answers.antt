@@ -3,12 +3,13 @@ use Rattle.field_values.specs.declared.numbers.IssueNo.{IssueNo}
 use Rattle.tracker_ranks.specs.Ranked.{OrderedIssues, IsNext, with_last}
 use Rattle.fields.specs.Naming.{name_at}
 use Rattle.tracker_machine.specs.Machine.{Machine}
-use Rattle.tracker_machine.specs.Effect.{IsAllowed}
+use Rattle.tracker_machine.specs.Effect.{IsAllowed, MayName, with_external}
 use Rattle.tracker_machine.specs.Known.{project_keys, next_key}
 use Rattle.tracker_machine.specs.Tracker.{MayOpen}
 use Rattle.tracker_issues.specs.Issues.{histories_of}
 use Rattle.tracker_issues.proofs.Counts.{counted_at, few_counted}
 use Rattle.tracker_issues.proofs.Histories.{histories_push}
+use Rattle.tracker_state.specs.Plan.{id_of}
 use Rattle.tracker_state.specs.State.{Held, IsState, saved_filters}
 use Rattle.tracker_state.specs.contracts.state.State.{the_view}
 use Rattle.tracker_work.specs.Seen.{Seen, share_now, with_histories}
@@ -51,17 +52,21 @@ invariant_of-self g c =
     let histories : histories_of c.push.new.self.kept ≡ m.histories ++ h ∷ [] = ap histories_of c.push.ensures.kept ∙ histories_push c.self.inside.issues.kept c.args.new.issue in
     let rank = c.args.new.rank in
     let counts = c.push.new.self.counts in
-    let order : c.add.new.self.order ≡ with_last m.order h.no rank = ap (λ (r : OrderedIssues). r.order) c.add.ensures ∙ ap (λ (no : IssueNo). with_last m.order no rank) c.no.ensures in
+    let order : c.add.new.self.order ≡ with_last m.order h.no rank = ap (λ (r : OrderedIssues). r.order) c.add.ensures ∙ ap (λ (no : IssueNo). with_last m.order no rank) c.no-2.ensures in
+    let external = id_of c.args.new.external in
+    let externals : c.put_external.new.externals.ids ≡ with_external m.externals h.no external =
+    c.put_external.ensures ∙ ap (λ (no : IssueNo). with_external m.externals no external) c.no.ensures in
     let balance : c.add.new.self.balance ≡ m.balance = ap (λ (r : OrderedIssues). r.balance) c.add.ensures in
     let w = c.self.inside.filters in
     let seen = c.see_new.new.self in
     let is = c.see_new.ensures in
-    let next = machine_pushed m h rank (histories_of c.push.new.self.kept) c.add.new.self.order c.add.new.self.balance c.see_issue.new.self.seen.sprints (saved_filters seen.filters)
-    histories order balance (ap (λ (s : Seen). s.sprints) c.see_issue.ensures.seen) (ap saved_filters is.filters) in
+    let next = machine_pushed m h rank external (histories_of c.push.new.self.kept) c.put_external.new.externals.ids c.add.new.self.order c.add.new.self.balance c.see_issue.new.self.seen.sprints (saved_filters seen.filters)
+    histories externals order balance (ap (λ (s : Seen). s.sprints) c.see_issue.ensures.seen) (ap saved_filters is.filters) in
     subst (λ (n : Machine). IsState n counts seen c.see_issue.new.self c.self.inside.setting.context) (sym next)
-    (state_push m c.self.inside.issues.counts counts w seen c.self.inside.work c.see_issue.new.self c.self.inside.setting.context h rank place c.self.inside.setting.setup.sound c.self.invariant
+    (state_push m c.self.inside.issues.counts counts w seen c.self.inside.work c.see_issue.new.self c.self.inside.setting.context h rank external place c.self.inside.setting.setup.sound c.self.invariant
     (subst (λ (s : Held). MayOpen s.machine h) back c.requires.allowed.0)
     (subst (λ (s : Held). IsNext s.machine.order s.machine.balance h.no rank) back c.requires.allowed.1)
+    (subst (λ (s : Held). MayName s.machine.externals external) back c.requires.allowed.2)
     (subst (λ (s : Held). place < length s.machine.setup.project) back c.requires.fits.there)
     (subst (λ (s : Held). h.key ≡ next_key s.machine (name_at (project_keys s.machine.setup) place)) back c.requires.fits.next)
     c.push.ensures.counts (record { known = is.histories; beside = is.around; now = is.moment }) is.filters

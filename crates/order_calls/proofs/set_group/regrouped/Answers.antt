@@ -1,0 +1,14 @@
+use Rattle.std.proofs.Common.{◌∷◌, [], List, length, ap, ◌∙◌}
+use Rattle.field_values.specs.declared.numbers.UserNo.{UserNo}
+use Rattle.tracker_state.specs.Rows.{members_op}
+use Rattle.order_calls.proofs.Members.{members_ready}
+use Rattle.order_calls.proofs.set_group.regrouped.Goals as goal
+
+pub returns : goal.returns
+returns c =
+    let setup = c.args.state.now.machine.setup in
+    let new = c.in-Ok-members_plan.new in
+    let is = c.in-Ok-members_plan.ensures in
+    members_ready c.args.state.now c.args.group c.args.names.now new _ _ _ c.requires.from_one c.requires.there c.in-Ok.ensures
+    is.group is.members is.listed is.asked (ap length c.as_slice-2.ensures)
+    (c.in-Ok-members_ops.ensures ∙ ap (λ (us : List UserNo). members_op setup c.args.group us ∷ []) c.as_slice.ensures)
