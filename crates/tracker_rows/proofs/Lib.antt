@@ -14,3 +14,10 @@ pub mod Steps
 pub mod Walk
 pub mod Loaded
 pub mod WorkedRows
+pub mod Cuts
+pub mod Agreeing
+pub mod Joins
+pub mod IssueJoins
+pub mod GroupJoins
+pub mod EachPart
+pub mod TrackersLoad

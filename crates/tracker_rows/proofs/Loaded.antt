@@ -288,11 +288,11 @@ module _ (rows : List Row) (format : Format) (told : ℕ) (m : Machine) where
   brings_of [] same changed = tt
   brings_of (e ∷ es) same changed = (of_sprints e.to same changed.1, brings_of es same changed.2)
 
-either_of : (count : ℕ) (b : Bool) (v w : Value) → is_of_sprints count v ≡ true → is_of_sprints count w ≡ true → is_of_sprints count (if b then v else w) ≡ true
+pub either_of : (count : ℕ) (b : Bool) (v w : Value) → is_of_sprints count v ≡ true → is_of_sprints count w ≡ true → is_of_sprints count (if b then v else w) ≡ true
 either_of count true v w one other = one
 either_of count false v w one other = other
 
-opening_of : (count : ℕ) (cs : List Change) (f : FieldNo) → OpensInSprints count cs → is_of_sprints count (opening_value cs f) ≡ true
+pub opening_of : (count : ℕ) (cs : List Change) (f : FieldNo) → OpensInSprints count cs → is_of_sprints count (opening_value cs f) ≡ true
 opening_of count [] f opened = refl
 opening_of count (c ∷ cs) f opened = either_of count (c.field.0 == f.0) c.to (opening_value cs f) opened.0 (opening_of count cs f opened.1)
 

@@ -4,6 +4,7 @@ use Rattle.std.proofs.Common.{◌≡◌, ℕ, zero, suc, ◌+◌, ◌-◌, ◌<�
 use Rattle.std.specs.Prelude.{if◌then◌else◌}
 use Rattle.std.proofs.lemmas.Bool.{cases_eq, cases_lt, le-leb}
 use Rattle.std.proofs.lemmas.Bool.Decides.{nat_tests}
+use Rattle.std.proofs.lemmas.Option.{slice_get_past}
 use mathlib.Core.Path.{fun_ext}
 use Rattle.field_values.specs.declared.numbers.GroupNo.{GroupNo}
 use Rattle.field_values.specs.declared.numbers.UserNo.{UserNo}
@@ -93,11 +94,6 @@ members_told groups told group members n next there =
     by (inr differ) (inr le) is =
         rw (le-leb n (told + 1) (omega (arith, le)), le-leb n told le) is
 
-none_past : (groups : List UserGroup) (place : ℕ) → length groups ≤ place → slice_get groups place ≡ None
-none_past [] place past = refl
-none_past (g ∷ gs) zero past = absurd (omega (arith, past))
-none_past (g ∷ gs) (suc place) past = none_past gs place (omega (arith, past))
-
 -- all groups have told theirs
 pub members_all_told : (groups : List UserGroup) (told n : ℕ) → length groups ≤ told → members_to told groups n ≡ members_numbered groups n
 members_all_told groups told n all = by (cases_lt told n)
@@ -108,7 +104,7 @@ members_all_told groups told n all = by (cases_lt told n)
     past : (n : ℕ) → told < n → members_numbered groups n ≡ None
     past zero more = absurd (omega (arith, more))
     past (suc k) more =
-        ap (option_map (λ g. members_part (record { 0 = suc k }) g.members)) (at_place groups k ∙ none_past groups k (omega (arith, all, more)))
+        ap (option_map (λ g. members_part (record { 0 = suc k }) g.members)) (at_place groups k ∙ slice_get_past groups k (omega (arith, all, more)))
 
     by : (told < n) ⊎ (n ≤ told) → members_to told groups n ≡ members_numbered groups n
     by (inl more) = rw (not_up_to told n more) (sym (past n more))

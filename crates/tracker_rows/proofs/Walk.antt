@@ -39,7 +39,7 @@ pub record IsMade (rows front : List Row) (format : Format) (told : ℕ) (m : Ma
 abbrev pub is_change : ℕ → Bool
 is_change kind = (kind == 3) || (kind == 4)
 
-changes_of_kind : (p : Part) → counts_one (is_change (part_kind p)) ≡ changes_by p
+pub changes_of_kind : (p : Part) → counts_one (is_change (part_kind p)) ≡ changes_by p
 changes_of_kind (part.Setup text) = refl
 changes_of_kind (part.Present balance change format moment) = refl
 changes_of_kind (part.Issue issue key change at author values) = refl

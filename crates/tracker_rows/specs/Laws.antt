@@ -45,6 +45,12 @@ abbrev pub MigratedRowsAreTheirs : Type 0
 MigratedRowsAreTheirs =
     (rows : List Row) (kept : Rows) (m : Machine) → Loads First rows m → IsListing kept rows → with_ops (migrating_ops m) kept ≡ rows_of m
 
+-- ---- what loads
+
+-- the rows of each tracker load it
+abbrev pub TrackersLoad : Type 0
+TrackersLoad = (m : Machine) (rows : List Row) → IsTracker m → IsSetupOf m.text m.setup → IsListing (rows_of m) rows → Loads Second rows m
+
 -- ---- one or the other
 
 -- rows load one tracker at most

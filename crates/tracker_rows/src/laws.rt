@@ -1,5 +1,5 @@
 //! What is proved of all lists of rows. These functions do nothing: each clause is a law.
-ghost use Rattle.tracker_rows.specs.Laws.{GoodRowsLeadOn, LoadedAreTrackers, LoadedSetupsAreTheirTexts, FirstRowsHaveTheirMembers, LoadedRowsAreTheirs, MigratedRowsAreTheirs, RowsLoadOne, FirstBadIsOne, LoadedHaveNoBad};
+ghost use Rattle.tracker_rows.specs.Laws.{GoodRowsLeadOn, LoadedAreTrackers, LoadedSetupsAreTheirTexts, FirstRowsHaveTheirMembers, LoadedRowsAreTheirs, MigratedRowsAreTheirs, TrackersLoad, RowsLoadOne, FirstBadIsOne, LoadedHaveNoBad};
 
 /// Good rows and one more lead to what was gathered with its part, which is what a loop over rows needs.
 pub fn good_rows_lead_on()
@@ -19,6 +19,11 @@ pub fn loaded_rows_are_a_tracker()
 pub fn first_rows_are_migrated()
     ensures members { FirstRowsHaveTheirMembers }
     ensures rows { MigratedRowsAreTheirs }
+{}
+
+/// The rows of each tracker load it.
+pub fn trackers_load()
+    ensures { TrackersLoad }
 {}
 
 /// Rows load one tracker at most, or have one first bad row, and never both.

@@ -6,4 +6,5 @@ mod laws;
 
 pub use laws::{
     first_rows_are_migrated, good_rows_lead_on, loaded_rows_are_a_tracker, rows_load_or_are_bad,
+    trackers_load,
 };
