@@ -21,3 +21,4 @@ pub mod IssueJoins
 pub mod GroupJoins
 pub mod EachPart
 pub mod TrackersLoad
+pub mod Setups

@@ -1,5 +1,6 @@
 -- What is proved of all lists of rows.
 use Rattle.std.specs.Prelude.{◌≡◌, ◌++◌, ◌∷◌, [], ℕ, List, Ok}
+use Rattle.field_values.specs.Parts.{Parts}
 use Rattle.setup_reading.specs.Reading.{setup_in}
 use Rattle.tracker_keeper.specs.declared.row.Row.{Row}
 use Rattle.tracker_keeper.specs.declared.part.Part.{Part}
@@ -7,6 +8,7 @@ use Rattle.tracker_keeper.specs.declared.part.Format.{Format}
 use Rattle.tracker_keeper.specs.declared.part.Format.TheVariants.{First, Second}
 use Rattle.tracker_keeper.specs.Rows.{Rows, IsListing, with_ops}
 use Rattle.tracker_machine.specs.Machine.{Machine}
+use Rattle.tracker_machine.specs.Effect.{Effect, applied}
 use Rattle.tracker_machine.specs.Tracker.{IsTracker}
 use Rattle.tracker_machine.specs.Kept.{rows_of, migrating_ops}
 use Rattle.tracker_machine.specs.Members.{IsSetupOf}
@@ -50,6 +52,14 @@ MigratedRowsAreTheirs =
 -- the rows of each tracker load it
 abbrev pub TrackersLoad : Type 0
 TrackersLoad = (m : Machine) (rows : List Row) → IsTracker m → IsSetupOf m.text m.setup → IsListing (rows_of m) rows → Loads Second rows m
+
+-- what the law asks of a tracker's setup holds of a new tracker, and stays with each effect
+abbrev pub NewTrackersHaveTheirSetups : Type 0
+NewTrackersHaveTheirSetups = (text : List ℕ) (setup : Parts) → setup_in text ≡ Ok setup → IsSetupOf text setup
+
+abbrev pub EffectsKeepSetups : Type 0
+EffectsKeepSetups =
+    (effect : Effect) (m : Machine) → IsSetupOf m.text m.setup → IsSetupOf (applied effect m).text (applied effect m).setup
 
 -- ---- one or the other
 

@@ -1,5 +1,5 @@
 //! What is proved of all lists of rows. These functions do nothing: each clause is a law.
-ghost use Rattle.tracker_rows.specs.Laws.{GoodRowsLeadOn, LoadedAreTrackers, LoadedSetupsAreTheirTexts, FirstRowsHaveTheirMembers, LoadedRowsAreTheirs, MigratedRowsAreTheirs, TrackersLoad, RowsLoadOne, FirstBadIsOne, LoadedHaveNoBad};
+ghost use Rattle.tracker_rows.specs.Laws.{GoodRowsLeadOn, LoadedAreTrackers, LoadedSetupsAreTheirTexts, FirstRowsHaveTheirMembers, LoadedRowsAreTheirs, MigratedRowsAreTheirs, TrackersLoad, NewTrackersHaveTheirSetups, EffectsKeepSetups, RowsLoadOne, FirstBadIsOne, LoadedHaveNoBad};
 
 /// Good rows and one more lead to what was gathered with its part, which is what a loop over rows needs.
 pub fn good_rows_lead_on()
@@ -21,9 +21,12 @@ pub fn first_rows_are_migrated()
     ensures rows { MigratedRowsAreTheirs }
 {}
 
-/// The rows of each tracker load it.
+/// The rows of each tracker load it, where its setup is that of its text but for who is in its groups. So it is in a new tracker, and stays
+/// with each effect.
 pub fn trackers_load()
-    ensures { TrackersLoad }
+    ensures all { TrackersLoad }
+    ensures opening { NewTrackersHaveTheirSetups }
+    ensures later { EffectsKeepSetups }
 {}
 
 /// Rows load one tracker at most, or have one first bad row, and never both.
