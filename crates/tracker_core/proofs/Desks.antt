@@ -9,8 +9,8 @@ use Rattle.tracker_keeper.specs.Rows.{Rows, no_rows, with_ops, number_of, found,
 use Rattle.tracker_machine.specs.Machine.{Machine, opening}
 use Rattle.tracker_machine.specs.Tracker.{IsTracker}
 use Rattle.tracker_machine.specs.Effect.{Effect, applied, IsAllowed}
-use Rattle.tracker_machine.specs.Kept.{rows_of, ops_of, opening_ops}
-use Rattle.tracker_machine.proofs.Kept.{rows_applied, rows_opening, ops_small, opening_small}
+use Rattle.tracker_machine.specs.Kept.{rows_of, ops_of, opening_ops, migrating_ops}
+use Rattle.tracker_machine.proofs.Kept.{rows_applied, rows_opening, ops_small, opening_small, migrating_small}
 use Rattle.tracker_core.specs.Desk.{HasRow}
 
 -- a list that shows the rows and has one
@@ -24,8 +24,11 @@ listed_row rows (row ∷ more) some is = (row.kind, row.no, row.body, sym (is.sa
 pub small_ops : (ops : List RowOp) (effect : Effect) (m : Machine) → ops ≡ ops_of effect m → IsAllowed effect m → IsTracker m → All (λ op. number_of op < 2 ^ 63) ops
 small_ops ops effect m is may tracker = subst (λ (os : List RowOp). All (λ op. number_of op < 2 ^ 63) os) (sym is) (ops_small effect m may tracker)
 
-pub small_opening : (ops : List RowOp) (m : Machine) → ops ≡ opening_ops m → All (λ op. number_of op < 2 ^ 63) ops
-small_opening ops m is = subst (λ (os : List RowOp). All (λ op. number_of op < 2 ^ 63) os) (sym is) (opening_small m)
+pub small_opening : (ops : List RowOp) (m : Machine) → ops ≡ opening_ops m → IsTracker m → All (λ op. number_of op < 2 ^ 63) ops
+small_opening ops m is tracker = subst (λ (os : List RowOp). All (λ op. number_of op < 2 ^ 63) os) (sym is) (opening_small m tracker.few_groups)
+
+pub small_migrating : (ops : List RowOp) (m : Machine) → ops ≡ migrating_ops m → IsTracker m → All (λ op. number_of op < 2 ^ 63) ops
+small_migrating ops m is tracker = subst (λ (os : List RowOp). All (λ op. number_of op < 2 ^ 63) os) (sym is) (migrating_small m tracker)
 
 -- the rows after what is put are those of the next state
 pub rows_after : (ops : List RowOp) (effect : Effect) (m next : Machine) → ops ≡ ops_of effect m → IsAllowed effect m → IsTracker m → next ≡ applied effect m

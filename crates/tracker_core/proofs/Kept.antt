@@ -1,15 +1,15 @@
 -- What a desk finds kept when it opens.
-use Rattle.std.proofs.Common.{◌≡◌, ℕ, inl, inr, Result, Ok, Err, IfOk, IfErr, List, [], sym, subst, ◌∙◌, arith}
+use Rattle.std.proofs.Common.{◌≡◌, ℕ, inl, inr, Result, Ok, Err, IfOk, IfErr, OnOk, List, [], sym, ap, subst, ◌∙◌, arith}
 use Rattle.std.specs.Prelude.{slice_index_or}
 use Rattle.tracker_keeper.specs.declared.row.Row.{Row}
-use Rattle.tracker_keeper.specs.Rows.{Rows, no_rows, IsBelow, IsListing}
+use Rattle.tracker_keeper.specs.Rows.{Rows, no_rows, with_ops, IsBelow, IsListing}
 use Rattle.tracker_machine.specs.Machine.{Machine}
-use Rattle.tracker_machine.specs.Kept.{rows_of}
+use Rattle.tracker_machine.specs.Kept.{rows_of, migrating_ops}
 use Rattle.tracker_rows.specs.Listed.{InOrder}
 use Rattle.tracker_rows.specs.Loading.{Loads, IsFirstBad}
-use Rattle.tracker_rows.proofs.Loaded.{loaded_rows_are_theirs}
+use Rattle.tracker_rows.proofs.Loaded.{loaded_rows_are_theirs, migrated_rows_are_theirs}
 use Rattle.tracker_keeper.specs.declared.part.Format.TheVariants.{First, Second}
-use Rattle.tracker_core.specs.Desk.{HasBadRow, HasNoRow, IsMadeOf, IsNew, IsOpened, IsOpenFault}
+use Rattle.tracker_core.specs.Desk.{HasBadRow, HasNoRow, IsKeepersOwn, IsMadeOf, IsNew, IsOpened, IsOpenFault}
 use Rattle.tracker_core.specs.declared.desk.OpenFault.{OpenFault}
 use Rattle.tracker_core.specs.declared.desk.OpenFault.TheVariants.{Keeper, Held, BadRow, Memory}
 use mathlib.Core.Path.{fun_ext}
@@ -46,6 +46,21 @@ pub loaded_opens : {S E T : Type 0} (machine : S → Machine) (r : Result S E) (
     → (InOrder list → IfOk r (λ s. IsMadeOf list (machine s))) → IfOk r (λ s. T → IsOpened text rows (machine s))
 loaded_opens machine (Ok s) text rows list is loads = λ told. inl (list, is told, loads (in_order rows list (is told)))
 loaded_opens machine (Err e) text rows list is loads = tt
+
+-- the rows of the tracker that rows of the first format make, once they are migrated
+pub migrated_keeps : {S E : Type 0} (machine : S → Machine) (r : Result S E) (keeps : Rows → Type 0) (m : Machine) (kept : Rows) (list : List Row) → IsListing kept list
+    → (InOrder list → Loads First list m) → IfOk r (λ s. machine s ≡ m) → OnOk r (keeps (with_ops (migrating_ops m) kept)) → IfOk r (λ s. keeps (rows_of (machine s)))
+migrated_keeps machine (Ok s) keeps m kept list is loads same has =
+    subst keeps (migrated_rows_are_theirs list kept m (loads (in_order kept list is)) is ∙ ap rows_of (sym same)) has
+migrated_keeps machine (Err e) keeps m kept list is loads same has = tt
+
+-- a fault that rows have no part in tells no bad one
+pub own_fault : {S : Type 0} (r : Result S OpenFault) (Bad : ℕ → ℕ → Type 0) → IfErr r IsKeepersOwn → IfErr r (IsOpenFault Bad)
+own_fault (Ok s) Bad own = tt
+own_fault (Err Keeper) Bad own = tt
+own_fault (Err Held) Bad own = own
+own_fault (Err (BadRow kind number)) Bad own = absurd own
+own_fault (Err Memory) Bad own = tt
 
 -- a new tracker, where the keeper told none
 pub new_opens : {S E T : Type 0} (machine : S → Machine) (r : Result S E) (text : List ℕ) (rows : Rows) → (T → HasNoRow rows)

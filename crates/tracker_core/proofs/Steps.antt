@@ -1,5 +1,5 @@
 -- From what is prepared to a step of the tracker.
-use Rattle.std.proofs.Common.{◌≡◌, ◌≢◌, ◌+◌, ◌≤◌, ℕ, List, Some, length, refl, sym, ap, ◌∙◌, subst, arith}
+use Rattle.std.proofs.Common.{◌≡◌, ◌≢◌, ◌+◌, ◌*◌, ◌≤◌, ℕ, List, Some, length, refl, sym, ap, ◌∙◌, subst, arith}
 use Rattle.std.proofs.lemmas.List.{length-map}
 use Rattle.tracker_calls.specs.declared.reply.Answer.{Answer}
 use Rattle.tracker_calls.specs.declared.reply.Refusal.{Refusal}
@@ -11,6 +11,8 @@ use Rattle.tracker_machine.specs.Meaning.{Meaning, IsDue, Performs, allowance}
 use Rattle.tracker_machine.specs.Meaning.Meaning.{Refuses, Tells, Finds, Makes}
 use Rattle.filter_views.specs.Cell.{FilterCells}
 use Rattle.filter_views.specs.Counts.{due}
+use Rattle.tracker_filters.specs.Members.{members_cost}
+use Rattle.tracker_filters.proofs.Regrouping.{members_cost_most}
 use Rattle.tracker_core.specs.Desk.{due_in}
 use Rattle.tracker_state.specs.declared.plan.Plan.{Plan}
 use Rattle.tracker_state.specs.declared.plan.Plan.TheVariants as plans
@@ -48,6 +50,11 @@ cost_adds s a (plans.Save ready) same = omega arith
 cost_adds s a (plans.DropFilter filter_no) same = omega arith
 cost_adds s a (plans.Board b) same = omega arith
 cost_adds s a (plans.DropBoard board_no) same = omega arith
+cost_adds s a (plans.Members new) same =
+    let issues = length s.machine.histories in
+    let most : members_cost s.watched.filters issues ≤ length s.machine.filters * issues =
+    subst (λ (n : ℕ). members_cost s.watched.filters issues ≤ n * issues) (sym (many s same)) (members_cost_most s.watched.filters issues) in
+    omega (arith, most)
 
 -- from the state before to that in which the call is prepared, and on: no more is asked than the call may cost
 pub counted : (old s : Held) (meant : Meaning) (a : Answer) (plan : Plan) (before middle after : ℕ) → s.machine ≡ old.machine

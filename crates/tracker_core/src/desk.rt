@@ -198,6 +198,7 @@ pub(crate) fn begun<P: Keeper>(
     let Ok(state) = State::opening(alloc, setup) else {
         return Err(OpenFault::Memory);
     };
+    state.is_tracker();
     match keeper.commit(&ops) {
         Ok(()) => Ok(state),
         Err(fault) => Err(OpenFault::of(fault)),

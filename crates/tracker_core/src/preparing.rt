@@ -1,5 +1,6 @@
 // What is done before anything is kept: looks, refusals, and all memory.
 ghost use Rattle.std.specs.Prelude.{◌≡◌, ◌≤◌, ◌<◌, ◌+◌, None, length, option_map, IfOk};
+ghost use Rattle.std.specs.Option.{option_copied};
 ghost use Rattle.tracker_calls.specs.Part.{part_fault};
 ghost use Rattle.tracker_machine.specs.Checks.{or_then, count_refusal, external_refusal, few_refusal, other_refusal, title_refusal, twins_refusal};
 ghost use Rattle.tracker_machine.specs.Step.{meaning, meaning_for, form_refusal};
@@ -192,7 +193,7 @@ fn external_fault(external: &Option<Text>) -> Option<&'static str>
 
 // The text of an external id, lent.
 fn text_of(external: &Option<Text>) -> Option<&str>
-    ensures { option_map (λ id. id.now) result ≡ external.now }
+    ensures { option_copied result ≡ external.now }
 {
     match external {
         Some(id) => Some(id.as_str()),

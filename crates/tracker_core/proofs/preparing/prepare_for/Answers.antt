@@ -5,7 +5,7 @@ use Rattle.tracker_calls.specs.declared.reply.Refusal.TheVariants as refusal
 use Rattle.tracker_machine.specs.Step.{meaning_for, form_refusal}
 use Rattle.tracker_machine.specs.Checks.{only_if, other_refusal, title_refusal}
 use Rattle.tracker_machine.proofs.Placed.{apart}
-use Rattle.tracker_core.proofs.Forms.{in_range}
+use Rattle.tracker_core.proofs.Forms.{in_range, formed}
 use Rattle.tracker_state.specs.Plan.{IsPrepared}
 use Rattle.tracker_core.proofs.preparing.prepare_for.Goals as goal
 
@@ -51,12 +51,17 @@ make_sprint-requires g c =
     let none : title_refusal c.in-MakeSprint.name ≡ None = subst (λ call. form_refusal call ≡ None) c.in-MakeSprint.is c.requires.form in
     record { title = rw c.as_str-in-MakeSprint.ensures (is_named c.in-MakeSprint.name none) }
 
+pub create-requires-clause-external : goal.create-requires-clause-external
+unfolding form_refusal
+create-requires-clause-external g c =
+    formed c.in-Create.set c.in-Create.external c.text_of.result c.text_of.ensures (subst (λ call. form_refusal call ≡ None) c.in-Create.is c.requires.form)
+
 pub returns-in-Create-clause-prepared : goal.returns-in-Create-clause-prepared
 unfolding meaning_for
 returns-in-Create-clause-prepared g c =
     let m = c.args.state.now.machine in
     subst (λ call. IsPrepared (meaning_for m c.args.user.0 call) c.create.new.state c.create.result) (sym c.in-Create.is)
-    (rw (← c.as_str.ensures, ← c.as_str-in-Create.ensures, ← c.as_str-in-Create-2.ensures, ← c.as_slice.ensures) c.create.ensures.prepared)
+    (rw (← c.as_str.ensures, ← c.as_str-in-Create.ensures, ← c.as_str-in-Create-2.ensures, ← c.as_slice.ensures, ← c.text_of.ensures) c.create.ensures.prepared)
 
 pub returns-in-Transition-clause-prepared : goal.returns-in-Transition-clause-prepared
 unfolding meaning_for
