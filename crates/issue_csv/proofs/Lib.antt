@@ -1,0 +1,6 @@
+pub mod Fields
+pub mod Readings
+pub mod Stepping
+pub mod Holding
+pub mod WorkedReading
+pub mod WorkedWriting
