@@ -1,5 +1,5 @@
 -- What fields hold.
-use Rattle.std.proofs.Common.{◌≡◌, ◌⊎◌, ℕ, true, inl, inr}
+use Rattle.std.proofs.Common.{◌≡◌, ◌⊎◌, true, inl, inr}
 use Rattle.field_values.specs.declared.numbers.FieldNo.{FieldNo}
 use Rattle.field_values.specs.declared.numbers.Day.{Day}
 use Rattle.field_values.specs.declared.value.Value.TheVariants as value

@@ -1,6 +1,8 @@
 pub mod Fields
 pub mod Readings
 pub mod Stepping
+pub mod Whole
+pub mod Ends
 pub mod Holding
 pub mod WorkedReading
 pub mod WorkedWriting

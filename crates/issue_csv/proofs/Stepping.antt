@@ -1,5 +1,5 @@
 -- What a record that was read makes of a step.
-use Rattle.std.proofs.Common.{◌≡◌, List, [], ℕ, Some, ◌&&◌, false, option_map, refl}
+use Rattle.std.proofs.Common.{◌≡◌, [], Some, option_map, refl}
 use Rattle.csv.specs.Records.{fields_of}
 use Rattle.issue_csv.specs.Reading.{all_done, bad_at, batch_from, batch_of}
 use Rattle.issue_csv.specs.Steps.{Asks, MetOther, Steps, TookText, batch_left, left_of}

@@ -9,7 +9,7 @@ use Rattle.tracker_calls.specs.declared.call.Call.{Call}
 use Rattle.tracker_calls.specs.declared.call.Call.TheVariants.{Create}
 use Rattle.tracker_calls.specs.declared.given.Given.TheVariants.{Text}
 use Rattle.tracker_calls.specs.declared.given.GivenField.{GivenField}
-use Rattle.issue_csv.specs.Reading.{Batch, all_done, bad_at, batch_in, batch_from, call_of, with_call}
+use Rattle.issue_csv.specs.Reading.{all_done, bad_at, batch_in, batch_from, call_of, with_call}
 
 -- what computes
 unfoldable on_literals : ⊤

@@ -1,5 +1,6 @@
 -- Records and their texts.
-use Rattle.std.proofs.Common.{◌≡◌, ◌++◌, List, [], ◌∷◌, ℕ, codes, Some, None, ◌==◌, pos, refl}
+use Rattle.std.proofs.Common.{◌≡◌, List, [], ◌∷◌, ℕ, codes, Some, None, pos, refl}
+use Rattle.std.specs.Fmt.{digits}
 use Rattle.csv.specs.Writing.{escaped, fields_text, is_blank}
 use Rattle.field_values.specs.declared.numbers.FieldNo.{FieldNo}
 use Rattle.field_values.specs.declared.numbers.TheConstants.FieldNo as number
@@ -39,20 +40,22 @@ moved summary = record {
   at = 0;
   author = record { 0 = 0 };
   opening =
-    opened number.TYPE (value.Choice (record { 0 = 0 })) ∷ opened number.SUMMARY (value.Text summary)
-    ∷ opened number.STATUS (value.Choice (record { 0 = 0 })) ∷ opened number.ASSIGNEE (value.User (record { 0 = 1 }))
-    ∷ opened number.REPORTER (value.User (record { 0 = 0 })) ∷ opened number.PRIORITY (value.Choice (record { 0 = 0 }))
-    ∷ opened number.POINTS (value.Number (pos 1000)) ∷ [];
+      opened number.TYPE (value.Choice (record { 0 = 0 })) ∷ opened number.SUMMARY (value.Text summary)
+      ∷ opened number.STATUS (value.Choice (record { 0 = 0 })) ∷ opened number.ASSIGNEE (value.User (record { 0 = 1 }))
+      ∷ opened number.REPORTER (value.User (record { 0 = 0 })) ∷ opened number.PRIORITY (value.Choice (record { 0 = 0 }))
+      ∷ opened number.POINTS (value.Number (pos 1000)) ∷ opened number.DUE (value.Date (record { 0 = pos 19_814 })) ∷ [];
   entries = [];
 }
 
-pub an_issue : record_text (issue_record names (moved (codes "Move desks")) (Some (codes "X-1")))
-    ≡ codes "OPS-1,X-1,OPS,Task,Move desks,Open,bo,anna,High,,1,\n"
-unfolding fields_text escaped is_blank choices_of number_text
-an_issue = refl
+pub an_issue : date_text (pos 19_814) ≡ codes "2024-04-01"
+    → record_text (issue_record names (moved (codes "Move desks")) (Some (codes "X-1")))
+    ≡ codes "OPS-1,X-1,OPS,Task,Move desks,Open,bo,anna,High,,1,2024-04-01\n"
+unfolding fields_text escaped is_blank choices_of number_text digits
+an_issue day = rw day refl
 
 -- in quotes only where needed
-pub in_quotes : record_text (issue_record names (moved (codes "Move \"old\" desks, chairs")) None)
-    ≡ codes "OPS-1,,OPS,Task,\"Move \"\"old\"\" desks, chairs\",Open,bo,anna,High,,1,\n"
-unfolding fields_text escaped is_blank choices_of number_text
-in_quotes = refl
+pub in_quotes : date_text (pos 19_814) ≡ codes "2024-04-01"
+    → record_text (issue_record names (moved (codes "Move \"old\" desks, chairs")) None)
+    ≡ codes "OPS-1,,OPS,Task,\"Move \"\"old\"\" desks, chairs\",Open,bo,anna,High,,1,2024-04-01\n"
+unfolding fields_text escaped is_blank choices_of number_text digits
+in_quotes day = rw day refl

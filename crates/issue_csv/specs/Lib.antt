@@ -1,3 +1,4 @@
 pub mod Reading
 pub mod Steps
 pub mod Writing
+pub mod Laws

@@ -61,7 +61,7 @@ given_by fields =
 unfoldable pub call_of : List (List ℕ) → Call
 call_of fields =
     calls.Create (column fields 1) (column fields 2) (column fields 3) (given_by fields)
-        (external_of (column fields 0))
+    (external_of (column fields 0))
 
 -- ---- the calls of an input
 

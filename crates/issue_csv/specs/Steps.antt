@@ -23,7 +23,7 @@ use Rattle.issue_csv.specs.Reading.{Batch, all_done, bad_at, batch_from, batch_o
 abbrev pub left_of : Records → Option (List (List (List ℕ)))
 left_of r =
     option_map (records_from default_config (r.most - r.number) (reader_state r.reader))
-        (source_of (λ s. Some s.now) r.reader)
+    (source_of (λ s. Some s.now) r.reader)
 
 -- it reads text by the defaults, and the bytes that are left are known
 pub record IsOpen (r : Records) : Type 0 where

@@ -16,7 +16,8 @@ fn header() -> &'static [&'static str]
     ensures { map (λ name. name.now) result.now ≡ header }
 {
     &[
-        "external", "project", "type", "summary", "assignee", "reporter", "priority", "points", "due",
+        "external", "project", "type", "summary", "assignee", "reporter", "priority", "points",
+        "due",
     ]
 }
 

@@ -13,8 +13,18 @@ fn header() -> &'static [&'static str]
     ensures { map (λ name. name.now) result.now ≡ export_header }
 {
     &[
-        "key", "external", "project", "type", "summary", "status", "assignee", "reporter", "priority",
-        "resolution", "points", "due",
+        "key",
+        "external",
+        "project",
+        "type",
+        "summary",
+        "status",
+        "assignee",
+        "reporter",
+        "priority",
+        "resolution",
+        "points",
+        "due",
     ]
 }
 

@@ -4,6 +4,7 @@
 mod columns;
 mod csv_records;
 mod issue_record;
+pub mod laws;
 mod record_call;
 mod record_reader;
 mod record_step;

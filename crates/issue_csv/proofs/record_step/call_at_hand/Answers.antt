@@ -1,4 +1,4 @@
-use Rattle.std.proofs.Common.{◌≡◌, ◌∙◌, length, rules, refl, sym}
+use Rattle.std.proofs.Common.{◌≡◌, length, rules, refl}
 use Rattle.csv.specs.Records.{fields_of}
 use Rattle.issue_csv.proofs.Fields.{text_is}
 use Rattle.issue_csv.proofs.record_step.call_at_hand.Goals as goal
