@@ -81,15 +81,16 @@ left_by old at_hand lt rows e =
     rw (at_hand.source, fuel) (ap Some e)
 
 pub takes_text : (old : Records) (reader : Reader (Bor (List ℕ))) (row : Row) (at_hand : IsOpen old) → old.number < old.most
-    → ReadRecord lent old.reader reader true (fields_of row) → reader.first ≡ true → AllText (fields_of row)
+    → ReadRecord lent old.reader reader true (fields_of row) → reader.first ≡ true → reader.flexible ≡ old.reader.flexible → AllText (fields_of row)
     → TookText old (record { reader = reader; row = row; number = old.number + 1; most = old.most })
-takes_text old reader row at_hand lt r first text =
+takes_text old reader row at_hand lt r first flexible text =
     let g = found_first (old.most - (old.number + 1)) old.reader reader at_hand.bytes (fields_of row) at_hand.defaults at_hand.source r in
     record {
       goes_on = record {
         plain = r.3 ∙ at_hand.plain;
         ready = inl first;
         defaults = r.2 ∙ at_hand.defaults;
+        flexible = flexible ∙ at_hand.flexible;
         bytes = g.0;
         source = g.1;
       };

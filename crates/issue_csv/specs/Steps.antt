@@ -3,7 +3,7 @@ use Rattle.std.specs.Prelude.{ℕ, ◌≡◌, ◌+◌, ◌-◌, List, [], ◌∷
 use Rattle.std.specs.List.{list_all}
 use Rattle.std.specs.Str.{is_utf8}
 use Rattle.csv.specs.Records.{AllText, fields_of}
-use Rattle.csv.specs.Reading.{Ready, default_config, reader_config, reader_state, reader_trim, records_from, source_of}
+use Rattle.csv.specs.Reading.{Ready, default_config, is_flexible, reader_config, reader_state, reader_trim, records_from, source_of}
 use Rattle.csv.specs.declared.reader.Trim.TheVariants as trim
 use Rattle.tracker_calls.specs.declared.call.Call.{Call}
 use Rattle.issue_csv.specs.declared.csv_records.Records.{Records}
@@ -25,11 +25,12 @@ left_of r =
     option_map (records_from default_config (r.most - r.number) (reader_state r.reader))
     (source_of (λ s. Some s.now) r.reader)
 
--- it reads text by the defaults, and the bytes that are left are known
+-- it reads text by the defaults and records of any length, and the bytes that are left are known
 pub record IsOpen (r : Records) : Type 0 where
   pub plain : reader_trim r.reader ≡ trim.None
   pub ready : Ready r.reader
   pub defaults : reader_config r.reader ≡ default_config
+  pub flexible : is_flexible r.reader ≡ true
   pub bytes : List ℕ
   pub source : source_of (λ s. Some s.now) r.reader ≡ Some bytes
 

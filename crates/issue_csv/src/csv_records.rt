@@ -95,7 +95,9 @@ impl<'a> Records<'a> {
             Ok(false) => Found::End,
             Err(error) => match error.kind() {
                 ErrorKind::Utf8 { .. } => Found::Other,
-                _ => Found::Failed,
+                ErrorKind::Io(_) | ErrorKind::OutOfMemory => Found::Failed,
+                // Records of any length are read, and nothing else is done with them.
+                _ => unreachable!(),
             },
         }
     }

@@ -11,7 +11,7 @@ returns-in-Ok-true c =
     let lt : c.args.self.now.number < c.args.self.now.most = omega (arith, c.if-self.false) in
     let r = rw c.in-Ok-true.field-0-test at (c.in-Ok-true.ensures.reads c.requires.plain c.requires.ready) in
     takes_text c.args.self.now c.read_record.new.self c.read_record.new.row c.requires lt r
-    (c.in-Ok-true.ensures.ready c.requires.plain) (c.in-Ok-true.ensures.text c.requires.plain)
+    (c.in-Ok-true.ensures.ready c.requires.plain) c.in-Ok-true.ensures.flexible (c.in-Ok-true.ensures.text c.requires.plain)
 
 pub returns-in-Ok-false : goal.returns-in-Ok-false
 returns-in-Ok-false c =
