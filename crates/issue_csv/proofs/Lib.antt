@@ -1,6 +1,6 @@
 pub mod Fields
 pub mod Readings
-pub mod Stepping
+pub mod NextCalls
 pub mod Whole
 pub mod Ends
 pub mod Holding

@@ -6,7 +6,7 @@ use Rattle.csv.specs.declared.parser.Config.{Config}
 use Rattle.csv.specs.declared.parser.State.{State}
 use Rattle.csv.specs.declared.reader.Reader.{Reader}
 use Rattle.csv.specs.Records.{AllText, Row, fields_of}
-use Rattle.issue_csv.specs.Steps.{IsOpen, MetOther, TookText, left_of}
+use Rattle.issue_csv.specs.Reader.{IsOpen, MetOther, TookText, left_of}
 use Rattle.issue_csv.specs.declared.csv_records.Records.{Records}
 use Rattle.issue_csv.proofs.Fields.{other_text}
 use Rattle.csv.proofs.ReadFacts.{rows-end, strip-short}

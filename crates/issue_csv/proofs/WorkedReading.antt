@@ -49,7 +49,7 @@ pub a_mark : batch_in (0xEF ∷ 0xBB ∷ 0xBF ∷ (codes "\"external\",\"project
 unfolding on_literals
 a_mark = refl
 
--- commas, quotes and line ends in quotes; project, type and summary that are empty stand, and no other field is given
+-- commas, quotes and line ends in quotes; project, type and summary that are empty phase, and no other field is given
 pub in_quotes : batch_in (head ++ (codes "\n\"\",,,\"a, \"\"b\"\"\r\nc\",,,,,\n,,,,,,,,"))
     ≡ with_call (Create [] [] (codes "a, \"b\"\r\nc") [] None) (with_call (Create [] [] [] [] None) all_done)
 unfolding on_literals

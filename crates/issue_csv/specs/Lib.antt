@@ -1,4 +1,4 @@
 pub mod Reading
-pub mod Steps
+pub mod Reader
 pub mod Writing
 pub mod Laws

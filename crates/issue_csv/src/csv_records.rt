@@ -2,7 +2,7 @@
 ghost use Rattle.std.specs.Prelude.{◌≡◌, ◌≤◌, Some, length};
 ghost use Rattle.csv.specs.Reading.{is_bom, strip_bom};
 ghost use Rattle.issue_csv.specs.Reading.{records_of};
-ghost use Rattle.issue_csv.specs.Steps.{IsOpen, Finds, left_of};
+ghost use Rattle.issue_csv.specs.Reader.{IsOpen, IsNextRecord, left_of};
 
 use csv::{ErrorKind, Reader, ReaderBuilder, StringRecord};
 use std::alloc::Global;
@@ -31,7 +31,7 @@ impl<'a> Drop for Records<'a> {
 
 /// What a reading of the next record finds.
 #[derive(Clone, Copy)]
-pub enum Found {
+pub enum NextRecord {
     /// A record of UTF-8, which is now at hand.
     Text,
     /// A record that has other bytes.
@@ -82,20 +82,20 @@ impl<'a> Records<'a> {
     }
 
     /// Reads the next record.
-    pub fn read(&mut self) -> Found
+    pub fn read(&mut self) -> NextRecord
         requires { IsOpen self.old }
-        ensures { Finds self.old result self.new }
+        ensures { IsNextRecord self.old result self.new }
     {
         if self.number >= self.most {
-            return Found::End;
+            return NextRecord::End;
         }
         self.number += 1;
         match self.reader.read_record(&mut self.row) {
-            Ok(true) => Found::Text,
-            Ok(false) => Found::End,
+            Ok(true) => NextRecord::Text,
+            Ok(false) => NextRecord::End,
             Err(error) => match error.kind() {
-                ErrorKind::Utf8 { .. } => Found::Other,
-                ErrorKind::Io(_) | ErrorKind::OutOfMemory => Found::Failed,
+                ErrorKind::Utf8 { .. } => NextRecord::Other,
+                ErrorKind::Io(_) | ErrorKind::OutOfMemory => NextRecord::Failed,
                 // Records of any length are read, and nothing else is done with them.
                 _ => unreachable!(),
             },

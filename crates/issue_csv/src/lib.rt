@@ -5,9 +5,9 @@ mod columns;
 mod csv_records;
 mod issue_record;
 pub mod laws;
+mod next_call;
 mod record_call;
 mod record_reader;
-mod record_step;
 mod record_text;
 mod told;
 

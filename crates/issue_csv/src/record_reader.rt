@@ -1,9 +1,9 @@
 ghost use Rattle.std.specs.Prelude.{◌≡◌, Some, IfOk, IfErr};
 ghost use Rattle.issue_csv.specs.Reading.{batch_in};
-ghost use Rattle.issue_csv.specs.Steps.{HandsOut, Refuses};
+ghost use Rattle.issue_csv.specs.Reader.{HandsOut, TellsFault};
 
 use crate::csv_records::Records;
-use crate::record_step::{Stand, Step, stand_after, take_step};
+use crate::next_call::{NextCall, ReaderPhase, phase_after, take_call};
 use std::alloc::Global;
 use std::marker::Model;
 use tracker_calls::Call;
@@ -16,12 +16,12 @@ pub enum ImportFault {
     Memory,
 }
 
-/// Hands out the calls that the records of a CSV ask for, one after the other. Contracts see it as the calls to come,
-/// and the number of the record behind them that is bad, if there is one; `None` where memory lacked.
+/// Hands out the calls that the records of a CSV ask for, one after the other. Contracts see it as the calls to come and the
+/// number of the bad record behind them, if there is one; `None` once memory lacked.
 pub struct RecordReader<'a> {
     alloc: Global,
     records: Records<'a>,
-    stand: Stand,
+    phase: ReaderPhase,
 }
 
 // Written by hand, so that whoever lets one go makes one call, and its proof takes one step there.
@@ -30,7 +30,7 @@ impl<'a> Drop for RecordReader<'a> {
         let RecordReader {
             alloc: _,
             records: _,
-            stand: _,
+            phase: _,
         } = self;
     }
 }
@@ -38,13 +38,13 @@ impl<'a> Drop for RecordReader<'a> {
 impl<'a> Model for RecordReader<'a> {
     ghost use Rattle.std.specs.Prelude.{Option};
     ghost use Rattle.issue_csv.specs.Reading.{Batch};
-    ghost use Rattle.issue_csv.specs.Steps.{IsStanding, to_come};
+    ghost use Rattle.issue_csv.specs.Reader.{IsInPhase, to_come};
 
     ghost Value = { Option Batch };
 
-    ghost view = { λ r. to_come r.stand r.records };
+    ghost view = { λ r. to_come r.phase r.records };
 
-    ghost invariant = { λ r. IsStanding r.stand r.records };
+    ghost invariant = { λ r. IsInPhase r.phase r.records };
 }
 
 impl<'a> RecordReader<'a> {
@@ -55,23 +55,23 @@ impl<'a> RecordReader<'a> {
         RecordReader {
             alloc,
             records: Records::of(alloc, bytes),
-            stand: Stand::Header,
+            phase: ReaderPhase::Header,
         }
     }
 
-    /// Hands out the next call; `None` where no record is left. A bad record is told again at each call, and so is want of
-    /// memory.
+    /// Hands out the next call; `None` where no record is left. The end, a bad record and want of memory are told again
+    /// at each further call.
     pub fn next_call(&mut self) -> Result<Option<Call>, ImportFault>
         ensures ok { IfOk result (λ call. HandsOut self.old call self.new) }
-        ensures err { IfErr result (λ fault. Refuses self.old fault self.new) }
+        ensures err { IfErr result (λ fault. TellsFault self.old fault self.new) }
     {
-        let step = take_step(self.alloc, self.stand, &mut self.records);
-        self.stand = stand_after(&step);
-        match step {
-            Step::Gives(call) => Ok(Some(call)),
-            Step::Ends => Ok(None),
-            Step::Bad(number) => Err(ImportFault::BadRecord(number as u64)),
-            Step::Fails => Err(ImportFault::Memory),
+        let next = take_call(self.alloc, self.phase, &mut self.records);
+        self.phase = phase_after(&next);
+        match next {
+            NextCall::Gives(call) => Ok(Some(call)),
+            NextCall::Ends => Ok(None),
+            NextCall::Bad(number) => Err(ImportFault::BadRecord(number as u64)),
+            NextCall::Fails => Err(ImportFault::Memory),
         }
     }
 }

@@ -1,7 +1,7 @@
 use Rattle.std.proofs.Common.{◌≡◌, length, rules, refl}
 use Rattle.csv.specs.Records.{fields_of}
 use Rattle.issue_csv.proofs.Fields.{text_is}
-use Rattle.issue_csv.proofs.record_step.call_at_hand.Goals as goal
+use Rattle.issue_csv.proofs.next_call.call_at_hand.Goals as goal
 
 pub returns-in-Ok : goal.returns-in-Ok
 returns-in-Ok c =
