@@ -11,11 +11,11 @@ use Rattle.field_forms.specs.Numbers.{number_text}
 use Rattle.civil_dates.specs.DateText.{date_text}
 use Rattle.change_history.specs.declared.change.Change.{Change}
 use Rattle.change_history.specs.History.{History}
-use Rattle.issue_csv.specs.Writing.{export_header, issue_record, record_text}
+use Rattle.issue_csv.specs.Writing.{header_text, issue_text}
 
-pub header_text : record_text export_header ≡ codes "key,external,project,type,summary,status,assignee,reporter,priority,resolution,points,due\n"
+pub the_header : header_text ≡ codes "key,external,project,type,summary,status,assignee,reporter,priority,resolution,points,due\n"
 unfolding fields_text escaped is_blank
-header_text = refl
+the_header = refl
 
 abbrev names : Names
 names = record {
@@ -48,14 +48,14 @@ moved summary = record {
 }
 
 pub an_issue : date_text (pos 19_814) ≡ codes "2024-04-01"
-    → record_text (issue_record names (moved (codes "Move desks")) (Some (codes "X-1")))
+    → issue_text names (moved (codes "Move desks")) (Some (codes "X-1"))
     ≡ codes "OPS-1,X-1,OPS,Task,Move desks,Open,bo,anna,High,,1,2024-04-01\n"
 unfolding fields_text escaped is_blank choices_of number_text digits
 an_issue day = rw day refl
 
 -- in quotes only where needed
 pub in_quotes : date_text (pos 19_814) ≡ codes "2024-04-01"
-    → record_text (issue_record names (moved (codes "Move \"old\" desks, chairs")) None)
+    → issue_text names (moved (codes "Move \"old\" desks, chairs")) None
     ≡ codes "OPS-1,,OPS,Task,\"Move \"\"old\"\" desks, chairs\",Open,bo,anna,High,,1,2024-04-01\n"
 unfolding fields_text escaped is_blank choices_of number_text digits
 in_quotes day = rw day refl

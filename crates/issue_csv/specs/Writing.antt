@@ -46,14 +46,20 @@ column_of names h f = column_text names f.0 (present h f)
 abbrev pub project_of : List ℕ → List ℕ
 project_of key = before_first (λ byte. byte == 45) key
 
--- the fields of an issue's record; it may have no external id
-abbrev pub issue_record : Names → History → Option (List ℕ) → List (List ℕ)
-issue_record names h external =
-    h.key ∷ unwrap_or external [] ∷ project_of h.key ∷ map (column_of names h) exported_fields
+-- the fields of an issue's record, where this text stands for its external id
+abbrev pub columns_of : Names → History → List ℕ → List (List ℕ)
+columns_of names h external = h.key ∷ external ∷ project_of h.key ∷ map (column_of names h) exported_fields
 
 -- the text of a record: in quotes only where needed, and a line feed alone at its end
 abbrev pub record_text : List (List ℕ) → List ℕ
 record_text fields = row_text default_writer fields
+
+abbrev pub header_text : List ℕ
+header_text = record_text export_header
+
+-- the record of an issue, which may have no external id
+abbrev pub issue_text : Names → History → Option (List ℕ) → List ℕ
+issue_text names h external = record_text (columns_of names h (unwrap_or external []))
 
 -- each field holds nothing or a value that fits it
 abbrev pub HoldsFitting : Names → History → Type 0

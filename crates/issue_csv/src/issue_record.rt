@@ -1,7 +1,7 @@
 // The records of an export.
-ghost use Rattle.std.specs.Prelude.{◌≡◌, ◌++◌, ◌∷◌, [], map, option_map, IfOk, OnErr, OnOk, unwrap_or};
-ghost use Rattle.fields.specs.SetupParts.{parts, names_in};
-ghost use Rattle.issue_csv.specs.Writing.{HoldsFitting, column_of, export_header, exported_fields, issue_record, project_of, record_text};
+ghost use Rattle.std.specs.Prelude.{◌≡◌, ◌++◌, ◌∷◌, [], map, option_map, IfOk, OnErr, OnOk};
+ghost use Rattle.fields.specs.SetupParts.{names};
+ghost use Rattle.issue_csv.specs.Writing.{HoldsFitting, column_of, columns_of, export_header, exported_fields, header_text, issue_text};
 
 use crate::record_text::write_record;
 use crate::told::{column_text, project_of};
@@ -40,7 +40,7 @@ fn copies(alloc: Global, names: &[&str]) -> Result<Names, Memory>
 
 /// Writes the header of an export behind what stands there, or leaves all as it is.
 pub fn write_header(alloc: Global, out: &mut Vec<u8>) -> Result<(), Memory>
-    ensures ok { OnOk result (out.new.items ≡ out.old.items ++ record_text export_header) }
+    ensures ok { OnOk result (out.new.items ≡ out.old.items ++ header_text) }
     ensures err { OnErr result (out.new.items ≡ out.old.items) }
 {
     let names = copies(alloc, header())?;
@@ -55,24 +55,19 @@ pub fn write_issue(
     external: Option<&str>,
     out: &mut Vec<u8>,
 ) -> Result<(), Memory>
-    requires { HoldsFitting (names_in (parts setup.now)) issue.now.history }
+    requires { HoldsFitting (names setup.now) issue.now.history }
     ensures ok { OnOk result (out.new.items ≡ out.old.items
-        ++ record_text (issue_record (names_in (parts setup.now)) issue.now.history (option_map (λ id. id.now) external.entry))) }
+        ++ issue_text (names setup.now) issue.now.history (option_map (λ id. id.now) external.entry)) }
     ensures err { OnErr result (out.new.items ≡ out.old.items) }
 {
-    let record = issue_record(alloc, setup, issue, external.unwrap_or(""))?;
-    write_record(alloc, record.as_slice(), out)
+    let columns = columns_of(alloc, setup, issue, external.unwrap_or(""))?;
+    write_record(alloc, columns.as_slice(), out)
 }
 
-fn issue_record(
-    alloc: Global,
-    setup: &Setup,
-    issue: &Issue,
-    external: &str,
-) -> Result<Names, Memory>
-    requires { HoldsFitting (names_in (parts setup.now)) issue.now.history }
-    ensures { IfOk result (λ columns. columns ≡ issue.now.history.key ∷ external.now ∷ project_of issue.now.history.key
-        ∷ map (column_of (names_in (parts setup.now)) issue.now.history) exported_fields) }
+fn columns_of(alloc: Global, setup: &Setup, issue: &Issue, external: &str) -> Result<Names, Memory>
+    requires { HoldsFitting (names setup.now) issue.now.history }
+    ensures { IfOk result (λ columns. columns
+        ≡ columns_of (names setup.now) issue.now.history external.now) }
 {
     let mut columns = Names::new(alloc);
     put_text(alloc, issue.key().as_str(), &mut columns)?;
@@ -112,8 +107,9 @@ fn put_fields(
     fields: &[FieldNo],
     columns: &mut Names,
 ) -> Result<(), Memory>
-    requires { HoldsFitting (names_in (parts setup.now)) issue.now.history }
-    ensures { OnOk result (columns.new ≡ columns.old ++ map (column_of (names_in (parts setup.now)) issue.now.history) fields.now) }
+    requires { HoldsFitting (names setup.now) issue.now.history }
+    ensures { OnOk result (columns.new
+        ≡ columns.old ++ map (column_of (names setup.now) issue.now.history) fields.now) }
 {
     for field in fields {
         columns.push(column_text(alloc, setup, *field, issue.value(*field))?)?;

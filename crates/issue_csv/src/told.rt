@@ -1,7 +1,7 @@
 // Values as the columns of an export tell them.
 ghost use Rattle.std.specs.Prelude.{◌≡◌, ◌⊎◌, true, IfOk};
 ghost use Rattle.field_forms.specs.Known.{fits};
-ghost use Rattle.fields.specs.SetupParts.{parts, names_in};
+ghost use Rattle.fields.specs.SetupParts.{names};
 ghost use Rattle.civil_dates.specs.Days.{is_day};
 ghost use Rattle.civil_dates.specs.DateText.{date_text};
 ghost use Rattle.issue_csv.specs.Writing.{column_text, project_of};
@@ -26,8 +26,8 @@ pub fn column_text(
     field: FieldNo,
     value: &Value,
 ) -> Result<Text, Memory>
-    requires { (value.now ≡ Value.Empty) ⊎ (fits (names_in (parts setup.now)) field.0 value.now ≡ true) }
-    ensures { IfOk result (λ text. text ≡ column_text (names_in (parts setup.now)) field.0 value.now) }
+    requires { (value.now ≡ Value.Empty) ⊎ (fits (names setup.now) field.0 value.now ≡ true) }
+    ensures { IfOk result (λ text. text ≡ column_text (names setup.now) field.0 value.now) }
 {
     match value {
         Value::Text(text) => text.copy(alloc),
