@@ -1,0 +1,8 @@
+pub mod Fields
+pub mod Readings
+pub mod NextCalls
+pub mod Whole
+pub mod Ends
+pub mod Holding
+pub mod WorkedReading
+pub mod WorkedWriting
