@@ -1,7 +1,6 @@
 //! What calls that list issues prepare, and those that keep what is listed: searches, filters and boards.
 #![tactic(auto)]
 
-mod asking;
 pub mod board_issues;
 mod check;
 pub mod drop_board;

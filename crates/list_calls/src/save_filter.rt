@@ -14,7 +14,6 @@ ghost use Rattle.tracker_state.specs.Check.{Checks};
 ghost use Rattle.tracker_state.specs.State.{query_of, IsBound, saved_as};
 ghost use Rattle.tracker_state.specs.Plan.{IsPrepared, cost_to_prepare};
 
-use crate::asking::asked;
 use crate::listing::may_browse;
 use crate::rows::filter_ops;
 use change_history::Issue;
@@ -24,7 +23,7 @@ use std::alloc::Global;
 use std::sync::ledger::Ledger;
 use tracker_calls::{Answer, Limit, Refusal};
 use tracker_filters::{Filter, MOST_FILTERS, ReadyFilter};
-use tracker_state::{Plan, Prepared, State};
+use tracker_state::{Plan, Prepared, State, asked};
 
 /// Prepares that the caller's filter of that name has this text, or says why not.
 #[tactic(auto, unfolding(tracker_machine::specs::Filters::save_filter_meaning))]

@@ -6,7 +6,6 @@ ghost use Rattle.tracker_machine.specs.Search.{found, is_found, search_meaning, 
 ghost use Rattle.tracker_state.specs.Plan.{IsPrepared, cost_to_prepare};
 ghost use Rattle.tracker_state.specs.State.{query_of};
 
-use crate::asking::asked;
 use crate::listing::{count_of, keys_of, may_browse, put_in_order};
 use change_history::Issue;
 use fields::{Memory, Steps, UserNo};
@@ -15,7 +14,7 @@ use jql_eval::evaluate;
 use std::alloc::Global;
 use std::sync::ledger::Ledger;
 use tracker_calls::{Answer, Part, Refusal};
-use tracker_state::{Prepared, State, part_of};
+use tracker_state::{Prepared, State, asked, part_of};
 
 /// Tells a part of the issues of which the query holds and which the caller may browse, in the query's order.
 #[tactic(auto, unfolding(tracker_machine::specs::Search::search_meaning))]
