@@ -315,17 +315,21 @@ fn a_keeper_that_fails_at_first_leaves_nothing(rt: HostRuntime) -> Result<(), Fa
     Ok(())
 }
 
-// Keeps rows of these kinds, numbers and bodies.
+// Keeps a row.
 fn keep(
     alloc: Global,
     keeper: &mut MemoryKeeper,
-    rows: &[(u8, u64, &str)],
+    kind: u8,
+    no: u32,
+    body: &str,
 ) -> Result<(), AllocError> {
+    let body = text(alloc, body)?;
     let mut ops = Vec::new(alloc);
-    for &(kind, no, body) in rows {
-        let body = text(alloc, body)?;
-        ops.push(RowOp::Put(Row { kind, no, body }))?;
-    }
+    ops.push(RowOp::Put(Row {
+        kind,
+        no: u64::from(no),
+        body,
+    }))?;
     let _ = keeper.commit(&ops);
     Ok(())
 }
@@ -334,7 +338,7 @@ fn keep(
 const FIRST: &str = "{\"balance\":[0],\"change\":0,\"format\":1,\"moment\":0}";
 
 // At which call the keeper fails, with which status the run ends, and the kinds of the rows that are kept then. Its calls: to keep the
-// rows of the first format, to tell them, to keep those of the second, and to tell these.
+// two rows of the first format, to tell them, to keep those of the second, and to tell these.
 const MIGRATIONS: [(u64, u8, &[u8]); 2] = [(9, 0, b"\x01\x02\x0a\x0a\x0a"), (3, 4, b"\x01\x02")];
 
 #[test]
@@ -343,7 +347,8 @@ fn rows_of_the_first_format_are_migrated_at_once(rt: HostRuntime) -> Result<(), 
     let mut right = true;
     for &(failing, status, kinds) in &MIGRATIONS {
         let mut keeper = failing_keeper(alloc, [failing].to_vec(alloc)?)?;
-        keep(alloc, &mut keeper, &[(1, 0, BUILT_IN), (2, 0, FIRST)])?;
+        keep(alloc, &mut keeper, 1, 0, BUILT_IN)?;
+        keep(alloc, &mut keeper, 2, 0, FIRST)?;
         let (ended, out, mut kept) = ran(alloc, "exec", "", keeper)?;
         right = right && ended == status && out.is_empty();
         right = right && kinds_of(alloc, &mut kept)?.as_slice() == kinds;
@@ -356,7 +361,7 @@ fn rows_of_the_first_format_are_migrated_at_once(rt: HostRuntime) -> Result<(), 
 fn rows_that_are_no_trackers_are_left(rt: HostRuntime) -> Result<(), Fail> {
     let alloc = rt.alloc();
     let mut keeper = keeper(alloc)?;
-    keep(alloc, &mut keeper, &[(6, 1, "OPS-1")])?;
+    keep(alloc, &mut keeper, 6, 1, "OPS-1")?;
     let (status, out, kinds) = three_creates(alloc, keeper)?;
     assert_eq!(rt; status, 5);
     assert_eq!(rt; out.as_slice(), b"kept 1 0\n".as_slice());
