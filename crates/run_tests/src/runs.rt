@@ -339,7 +339,7 @@ const FIRST: &str = "{\"balance\":[0],\"change\":0,\"format\":1,\"moment\":0}";
 
 // At which call the keeper fails, with which status the run ends, and the kinds of the rows that are kept then. Its calls: to keep the
 // two rows of the first format, to tell them, to keep those of the second, and to tell these.
-const MIGRATIONS: [(u64, u8, &[u8]); 2] = [(9, 0, b"\x01\x02\x0a\x0a\x0a"), (3, 4, b"\x01\x02")];
+const MIGRATIONS: [(u64, u8, &[u8]); 2] = [(9, 0, b"\x01\x02\x0a\x0a\x0a"), (4, 4, b"\x01\x02")];
 
 #[test]
 fn rows_of_the_first_format_are_migrated_at_once(rt: HostRuntime) -> Result<(), Fail> {
