@@ -6,11 +6,14 @@ usage: python3 bench/lines.py PROGRAM [LINES]
 
 PROGRAM is the built tracker, as crates/tracker/out/tracker after `rt run` there. Each kind is timed by the processor time of runs of its own
 (user and system), less that of runs without its lines; of three runs the fastest counts. The lines have about 120 bytes. Peak memory is
-that of the run.
+that of the run. How often a line has memory allocated is counted in runs of their own, by a library in front of the C library's, which
+takes a C compiler (`cc`).
 """
 import json
 import os
+import pathlib
 import random
+import subprocess
 import sys
 import tempfile
 
@@ -35,6 +38,35 @@ def move(by):
     return line('anna', by.choice(['move_before', 'move_after']), issue=f'OPS-{one}', other=f'OPS-{other}')
 
 
+# Counts in a file of eight bytes, since a program may end without a word to its libraries.
+COUNTER = r"""
+#include <fcntl.h>
+#include <stddef.h>
+#include <stdlib.h>
+#include <sys/mman.h>
+#include <unistd.h>
+
+extern void *__libc_malloc(size_t);
+extern void *__libc_calloc(size_t, size_t);
+extern void *__libc_realloc(void *, size_t);
+extern void *__libc_memalign(size_t, size_t);
+
+static unsigned long before, *count = &before;
+
+__attribute__((constructor)) static void begin(void) {
+    const char *path = getenv("ALLOCATIONS");
+    int file = path ? open(path, O_RDWR) : -1;
+    void *page = file < 0 ? MAP_FAILED : mmap(NULL, 8, PROT_READ | PROT_WRITE, MAP_SHARED, file, 0);
+    if (page != MAP_FAILED) count = page;
+}
+
+void *malloc(size_t size) { ++*count; return __libc_malloc(size); }
+void *calloc(size_t n, size_t size) { ++*count; return __libc_calloc(n, size); }
+void *realloc(void *old, size_t size) { ++*count; return __libc_realloc(old, size); }
+void *aligned_alloc(size_t align, size_t size) { ++*count; return __libc_memalign(align, size); }
+int posix_memalign(void **room, size_t align, size_t size) { ++*count; *room = __libc_memalign(align, size); return *room ? 0 : 12; }
+"""
+
 RANKED = 10_000
 LOTS = random.Random(7)
 LOAD = [create(number) for number in range(ISSUES)]
@@ -49,8 +81,8 @@ KINDS = [
 ]
 
 
-def run(program, lines):
-    """The processor seconds and the peak memory, in megabytes, of a run over these lines."""
+def run(program, lines, **beside):
+    """The processor seconds and the peak memory, in megabytes, of a run over these lines, with this beside its environment."""
     with tempfile.TemporaryFile() as source, tempfile.TemporaryFile() as out:
         source.write('\n'.join(lines).encode())
         source.seek(0)
@@ -58,7 +90,7 @@ def run(program, lines):
         if child == 0:
             os.dup2(source.fileno(), 0)
             os.dup2(out.fileno(), 1)
-            os.execv(program, [program, ':memory:', 'exec'])
+            os.execve(program, [program, ':memory:', 'exec'], os.environ | beside)
         _, status, used = os.wait4(child, 0)
         out.seek(0)
         text = out.read()
@@ -67,8 +99,22 @@ def run(program, lines):
         return used.ru_utime + used.ru_stime, used.ru_maxrss / 1024
 
 
-for name, load, lines in KINDS:
-    base = min(run(sys.argv[1], load)[0] for _ in range(3)) if load else 0
-    runs = [run(sys.argv[1], load + lines) for _ in range(3)]
-    took = min(it[0] for it in runs) - base
-    print(f'{name}: {len(lines) / took:,.0f} lines a second of processor time, {1e6 * took / len(lines):.1f} us each; {runs[0][1]:.0f} MB at most')
+def allocations(program, lines, folder):
+    """How often a run over these lines has memory allocated."""
+    count = folder / 'count'
+    count.write_bytes(bytes(8))
+    run(program, lines, LD_PRELOAD=str(folder / 'counter.so'), ALLOCATIONS=str(count))
+    return int.from_bytes(count.read_bytes(), sys.byteorder)
+
+
+with tempfile.TemporaryDirectory() as place:
+    folder = pathlib.Path(place)
+    (folder / 'counter.c').write_text(COUNTER)
+    subprocess.run(['cc', '-O1', '-fno-builtin', '-shared', '-fPIC', '-o', folder / 'counter.so', folder / 'counter.c'], check=True)
+    for name, load, lines in KINDS:
+        base = min(run(sys.argv[1], load)[0] for _ in range(3)) if load else 0
+        runs = [run(sys.argv[1], load + lines) for _ in range(3)]
+        took = min(it[0] for it in runs) - base
+        calls = allocations(sys.argv[1], load + lines, folder) - allocations(sys.argv[1], load, folder)
+        print(f'{name}: {len(lines) / took:,.0f} lines a second of processor time, {1e6 * took / len(lines):.1f} us and {calls / len(lines):.1f} allocations each; '
+              f'{runs[0][1]:.0f} MB at most')
