@@ -3,14 +3,14 @@
 
 usage: python3 bench/bad_rows.py PROGRAM [large]
 
-PROGRAM is the built tracker, as crates/tracker/out/tracker after `rt run` there. One file is made by `init` and `exec`; its rows are ROWS below.
-Each case is a copy of it with some rows changed, and is opened by a run without lines, which has to end with status 5, name the first bad row
-or the first missing one, and leave all rows as they are. What it has to name stands beside each case, as docs/ROWS.md has it. Each kind of row
-has bodies that are nearly of its form, numbers that are none of its own, and each rule broken once. Then come rows that are a tracker's, which a
-run has to open. Each difference is told, and the status is 1. The last lines count the cases of each group.
+PROGRAM is the built tracker, as crates/tracker/out/tracker after `rt run` there. One file is made by `init` and `exec`; its rows have to be
+GOOD below. Each case is a copy of it with some rows changed, and is opened by a run without lines, which has to end with status 5, name the
+first row that is bad or missing, and leave all rows as they are. What it has to name is written beside each case, as docs/ROWS.md has it:
+bodies that are nearly of a kind's form, numbers that are none of a kind's, each rule broken once, missing rows, and the first of two. Then
+come rows that are a tracker's, which a run has to open. Each difference is told, and the status is 1. The last two lines count the cases.
 
-With the word `large` there are also histories past the greatest number of entries and of bytes of text, and just at them. These
-files have up to 510 MB.
+With the word `large` there are also histories of just as many entries and bytes of text as there may be, and of one more. These files have
+up to 510 MB, and opening one takes up to 1.5 GB of memory.
 """
 import contextlib
 import json
