@@ -6,7 +6,7 @@ use Rattle.tracker_keeper.specs.Rows.{Rows}
 use Rattle.tracker_machine.specs.Machine.{Machine}
 use Rattle.tracker_machine.specs.Run.{Mark, failures_at, reply_line}
 use Rattle.tracker_core.specs.Desk.{DeskParts}
-use Rattle.tracker_import.specs.Calls.{MarkedCall, reply_under, next_under, text_of_calls, end_of_calls, failures_of, AreMade, AreCutCalls, RoseBy, IsKept}
+use Rattle.tracker_import.specs.Calls.{MarkedCall, reply_under, next_under, text_of_calls, end_of_calls, failures_of, AreMade, AreCutCalls, RoseBy, HasKept}
 
 -- ---- one call more
 
@@ -90,11 +90,11 @@ rose_again : (a b c n k : ℕ) → RoseBy a b n → RoseBy b c k → RoseBy a c 
 rose_again a b c n k one other = omega arith
 
 module _ {P : Type 0} (keeps : P → Rows → Type 0) (tells : P → Type 0) (faults : P → ℕ) where
-  pub kept_same : (desk : DeskParts P) → IsKept keeps tells faults desk desk 0
+  pub kept_same : (desk : DeskParts P) → HasKept keeps tells faults desk desk 0
   kept_same desk = record { rows = λ kept. kept; told = λ told. told; counted = rose_none (faults desk.keeper) }
 
-  pub kept_on : (old middle new : DeskParts P) (n k : ℕ) → IsKept keeps tells faults old middle n → IsKept keeps tells faults middle new k
-      → IsKept keeps tells faults old new (n + k)
+  pub kept_on : (old middle new : DeskParts P) (n k : ℕ) → HasKept keeps tells faults old middle n → HasKept keeps tells faults middle new k
+      → HasKept keeps tells faults old new (n + k)
   kept_on old middle new n k one other = record {
     rows = λ kept. other.rows (one.rows kept);
     told = λ told. one.told (other.told told);

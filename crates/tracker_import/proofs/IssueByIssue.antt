@@ -17,26 +17,26 @@ use Rattle.tracker_machine.specs.Machine.{Machine}
 use Rattle.tracker_machine.specs.Tracker.{RunsFrom}
 use Rattle.tracker_machine.proofs.Keepable.{number_at}
 use Rattle.issue_csv.specs.Writing.{header_text, issue_text}
-use Rattle.tracker_import.specs.Export.{external_of, issues_text, export_text, GrewByFront}
+use Rattle.tracker_import.specs.Export.{external_at, issues_text, export_text, WritesFront}
 
 -- ---- external ids
 
 -- the first one has this number, or none has it
-pub first_id : (e : ExternalId) (es : List ExternalId) (n : ℕ) → e.no.0 ≡ n → external_of (e ∷ es) n ≡ Some e.id
+pub first_id : (e : ExternalId) (es : List ExternalId) (n : ℕ) → e.no.0 ≡ n → external_at (e ∷ es) n ≡ Some e.id
 first_id e es n is = grind (arith, nat_tests, is)
 
-pub no_id : (es : List ExternalId) (least n : ℕ) → RiseFrom external_number least es → n < least → external_of es n ≡ None
+pub no_id : (es : List ExternalId) (least n : ℕ) → RiseFrom external_number least es → n < least → external_at es n ≡ None
 no_id es least n rising below = ap (option_map (λ (e : ExternalId). e.id)) (none_below external_number least n es rising below)
 
 -- one of an issue before has no part in what is found
-pub behind_first : (e : ExternalId) (es : List ExternalId) (n : ℕ) → e.no.0 < n → external_of es n ≡ external_of (e ∷ es) n
+pub behind_first : (e : ExternalId) (es : List ExternalId) (n : ℕ) → e.no.0 < n → external_at es n ≡ external_at (e ∷ es) n
 behind_first e es n below = grind (arith, nat_tests, below)
 
 pub no_first : (ids : List ExternalId) (e : ExternalId) (es : List ExternalId) (n : ℕ) → RiseFrom external_number n ids → ids ≡ e ∷ es → e.no.0 ≢ n
-    → None ≡ external_of ids n
+    → None ≡ external_at ids n
 no_first ids e es n rising is other =
     let rises = subst (RiseFrom external_number n) is rising in
-    sym (ap (λ l. external_of l n) is ∙ no_id (e ∷ es) (e.no.0) n (omega arith, rises.1) (omega (arith, rises.0, other)))
+    sym (ap (λ l. external_at l n) is ∙ no_id (e ∷ es) (e.no.0) n (omega arith, rises.1) (omega (arith, rises.0, other)))
 
 -- ---- issues
 
@@ -57,7 +57,7 @@ pub record IsExporting (names : Names) (all : List ExternalId) (hs : List Histor
   pub text_is : text ≡ written ++ (pending ++ issues_text names all (drop place hs))
   pub appended : Appends t u written
   pub rising : RiseFrom external_number (place + 1) ids
-  pub same : (n : ℕ) → place < n → external_of ids n ≡ external_of all n
+  pub same : (n : ℕ) → place < n → external_at ids n ≡ external_at all n
 
 module _ (names : Names) (all : List ExternalId) (hs : List History) where
   pub exporting_none : (t : Option (List ℕ)) (pending : List ℕ) → RiseFrom external_number 1 all
@@ -67,11 +67,11 @@ module _ (names : Names) (all : List ExternalId) (hs : List History) where
 
   -- what is left at a place begins with that issue's record
   left_at : (place : ℕ) (h : History) (external : Option (List ℕ)) (ids : List ExternalId) → slice_get hs place ≡ Some h → h.no.0 ≡ place + 1
-      → external ≡ external_of ids (place + 1) → external_of ids (place + 1) ≡ external_of all (place + 1)
+      → external ≡ external_at ids (place + 1) → external_at ids (place + 1) ≡ external_at all (place + 1)
       → issues_text names all (drop place hs) ≡ issue_text names h external ++ issues_text names all (drop (place + 1) hs)
   left_at place h external ids there number found same =
       ap (issues_text names all) (drop_at hs place h there)
-      ∙ ap (λ e. issue_text names h e ++ issues_text names all (drop (place + 1) hs)) (ap (external_of all) number ∙ sym same ∙ sym found)
+      ∙ ap (λ e. issue_text names h e ++ issues_text names all (drop (place + 1) hs)) (ap (external_at all) number ∙ sym same ∙ sym found)
 
   -- so it is all pending once the issue's record is
   put_at : (text written pending pending' first : List ℕ) (place : ℕ) → text ≡ written ++ (pending ++ issues_text names all (drop place hs))
@@ -83,7 +83,7 @@ module _ (names : Names) (all : List ExternalId) (hs : List History) where
 
   pub exporting_more : (text : List ℕ) (t u v : Option (List ℕ)) (pending pending' later : List ℕ) (ids behind : List ExternalId) (place : ℕ) (h : History)
       (external : Option (List ℕ)) → IsExporting names all hs text t u pending ids place → slice_get hs place ≡ Some h → h.no.0 ≡ place + 1
-      → external ≡ external_of ids (place + 1) → RiseFrom external_number (place + 1 + 1) behind → ((n : ℕ) → place + 1 < n → external_of behind n ≡ external_of ids n)
+      → external ≡ external_at ids (place + 1) → RiseFrom external_number (place + 1 + 1) behind → ((n : ℕ) → place + 1 < n → external_at behind n ≡ external_at ids n)
       → pending' ≡ pending ++ issue_text names h external → (piece : List ℕ) × (pending' ≡ piece ++ later) × Appends u v piece
       → IsExporting names all hs text t v later behind (place + 1)
   exporting_more text t u v pending pending' later ids behind place h external so_far there number found rising same put (piece, parts, appended) =
@@ -101,7 +101,7 @@ module _ (names : Names) (all : List ExternalId) (hs : List History) where
 
   pub exporting_cut : (text : List ℕ) (t u v : Option (List ℕ)) (pending pending' : List ℕ) (ids : List ExternalId) (place : ℕ) (h : History)
       (external : Option (List ℕ)) → IsExporting names all hs text t u pending ids place → slice_get hs place ≡ Some h → h.no.0 ≡ place + 1
-      → external ≡ external_of ids (place + 1) → pending' ≡ pending ++ issue_text names h external → (front : List ℕ) × (back : List ℕ) × (pending' ≡ front ++ back) × Appends u v front
+      → external ≡ external_at ids (place + 1) → pending' ≡ pending ++ issue_text names h external → (front : List ℕ) × (back : List ℕ) × (pending' ≡ front ++ back) × Appends u v front
       → (front : List ℕ) × (back : List ℕ) × (text ≡ front ++ back) × Appends t v front
   exporting_cut text t u v pending pending' ids place h external so_far there number found put (front, back, parts, appended) =
       let written = so_far.written in
@@ -134,7 +134,7 @@ module _ (names : Names) (all : List ExternalId) (hs : List History) where
       exporting_ends {T = Unit {0}} {E = Unit {0}} text t u v pending ids place (Ok tt) so_far end written
 
   pub exporting_halts : (text : List ℕ) (t u v : Option (List ℕ)) (pending : List ℕ) (ids : List ExternalId) (place : ℕ) → IsExporting names all hs text t u pending ids place
-      → place ≡ length hs → GrewByFront u v pending → GrewByFront t v text
+      → place ≡ length hs → WritesFront u v pending → WritesFront t v text
   exporting_halts text t u v pending ids place so_far end written =
       exporting_ends {T = Unit {0}} {E = Unit {0}} text t u v pending ids place (Err tt) so_far end written
 
@@ -174,9 +174,9 @@ whole_text m n start pending same none is =
 
 -- a front of that is one of the whole
 pub front_of_whole : (m n : Machine) (start pending : List ℕ) (t u : Option (List ℕ)) → n ≡ m → start ≡ [] → pending ≡ start ++ header_text
-    → GrewByFront t u (pending ++ issues_text (names_in n.setup) n.externals n.histories) → GrewByFront t u (export_text m)
-front_of_whole m n start pending t u same none is cut = subst (GrewByFront t u) (whole_text m n start pending same none is) cut
+    → WritesFront t u (pending ++ issues_text (names_in n.setup) n.externals n.histories) → WritesFront t u (export_text m)
+front_of_whole m n start pending t u same none is cut = subst (WritesFront t u) (whole_text m n start pending same none is) cut
 
 -- nothing was written yet
-pub unbegun : (text : List ℕ) (t : Option (List ℕ)) → GrewByFront t t text
+pub unbegun : (text : List ℕ) (t : Option (List ℕ)) → WritesFront t t text
 unbegun text t = ([], text, refl, Appends-nil t)

@@ -79,7 +79,7 @@ abbrev pub RoseBy : ℕ → ℕ → ℕ → Type 0
 RoseBy before now n = min (before + n) (2 ^ 64 - 1) ≤ now
 
 -- the keeper has the tracker's rows, if it had them before, and its count rose by so many failures
-pub record IsKept {P : Type 0} (keeps : P → Rows → Type 0) (tells : P → Type 0) (faults : P → ℕ) (old new : DeskParts P) (failures : ℕ) : Type 0 where
+pub record HasKept {P : Type 0} (keeps : P → Rows → Type 0) (tells : P → Type 0) (faults : P → ℕ) (old new : DeskParts P) (failures : ℕ) : Type 0 where
   pub rows : keeps old.keeper (rows_of old.machine) → keeps new.keeper (rows_of new.machine)
   pub told : tells new.keeper → tells old.keeper
   pub counted : RoseBy (faults old.keeper) (faults new.keeper) failures

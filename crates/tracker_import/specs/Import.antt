@@ -9,7 +9,7 @@ use Rattle.tracker_keeper.specs.Rows.{Rows}
 use Rattle.tracker_machine.specs.Run.{Mark, failures_at, reply_line}
 use Rattle.tracker_core.specs.Desk.{DeskParts}
 use Rattle.issue_csv.specs.Reading.{Batch, batch_in}
-use Rattle.tracker_import.specs.Calls.{reply_under, next_under, AreMade, AreCutCalls, IsKept}
+use Rattle.tracker_import.specs.Calls.{reply_under, next_under, AreMade, AreCutCalls, HasKept}
 use Rattle.tracker_import.specs.declared.halt.Halt.{Halt}
 use Rattle.tracker_import.specs.declared.halt.Halt.TheVariants as halt
 use Rattle.tracker_import.specs.declared.import.ImportEnd.{ImportEnd}
@@ -18,16 +18,16 @@ use Rattle.tracker_import.specs.declared.import.ImportEnd.TheVariants.{Done, Bad
 -- ---- one call
 
 -- a call is made under some mark, this is its reply, and the keeper has what it leaves
-pub record IsMade {P : Type 0} (keeps : P → Rows → Type 0) (tells : P → Type 0) (faults : P → ℕ) (caller : List ℕ) (old : DeskParts P) (c : Call) (r : Reply) (new : DeskParts P) : Type 0 where
+pub record IsMadeCall {P : Type 0} (keeps : P → Rows → Type 0) (tells : P → Type 0) (faults : P → ℕ) (caller : List ℕ) (old : DeskParts P) (c : Call) (r : Reply) (new : DeskParts P) : Type 0 where
   pub mark : Mark
   pub reply_is : r ≡ reply_under mark old.machine caller c
   pub new_is : new.machine ≡ next_under mark old.machine caller c
-  pub kept : IsKept keeps tells faults old new (failures_at mark)
+  pub kept : HasKept keeps tells faults old new (failures_at mark)
 
 -- a call is made, and the sink has the line of its reply or only a front of it
-pub record IsAnswered {P T E : Type 0} (keeps : P → Rows → Type 0) (tells : P → Type 0) (faults : P → ℕ) (caller : List ℕ) (old : DeskParts P) (c : Call) (taken_old taken_new : Option (List ℕ)) (result : Result T E) (new : DeskParts P) : Type 0 where
+pub record AnswersCall {P T E : Type 0} (keeps : P → Rows → Type 0) (tells : P → Type 0) (faults : P → ℕ) (caller : List ℕ) (old : DeskParts P) (c : Call) (taken_old taken_new : Option (List ℕ)) (result : Result T E) (new : DeskParts P) : Type 0 where
   pub reply : Reply
-  pub made : IsMade keeps tells faults caller old c reply new
+  pub made : IsMadeCall keeps tells faults caller old c reply new
   pub written : WritesAll taken_old taken_new result (reply_line reply)
 
 -- a fault of writing is told only where the sink's count rose
@@ -43,7 +43,7 @@ pub record HasImported {P : Type 0} (keeps : P → Rows → Type 0) (tells : P �
   pub text : List ℕ
   pub failures : ℕ
   pub made : AreMade caller old.machine calls text new.machine failures
-  pub kept : IsKept keeps tells faults old new failures
+  pub kept : HasKept keeps tells faults old new failures
   pub written : Appends taken_old taken_new text
 
 -- the first of the calls were made, and the sink has the lines of their replies, where the last one may be cut
@@ -51,7 +51,7 @@ pub record HasBegun {P : Type 0} (keeps : P → Rows → Type 0) (tells : P → 
   pub text : List ℕ
   pub failures : ℕ
   pub made : AreCutCalls caller old.machine calls text new.machine failures
-  pub kept : IsKept keeps tells faults old new failures
+  pub kept : HasKept keeps tells faults old new failures
   pub written : Appends taken_old taken_new text
 
 -- how the import of these records ends: where all are good, each call is made; where one is bad, each call of those before it

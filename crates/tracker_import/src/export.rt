@@ -7,7 +7,7 @@ ghost use Rattle.request_lines.specs.Bytes.{WritesAll};
 ghost use Rattle.request_lines.specs.Causes.{HasCause, Rose};
 ghost use Rattle.issue_csv.specs.Writing.{issue_text};
 ghost use Rattle.tracker_import.specs.Import.{IsHaltCause};
-ghost use Rattle.tracker_import.specs.Export.{EndsExport, PassesOn, export_text, external_of, issues_text};
+ghost use Rattle.tracker_import.specs.Export.{EndsExport, PassesOn, export_text, external_at, issues_text};
 
 use crate::halt::Halt;
 use external_ids::ExternalId;
@@ -40,7 +40,8 @@ pub fn export_rows<P: Keeper + Drop, T: Sink>(
     desk: &Desk<P>,
     out: &mut T,
 ) -> ExportEnd
-    ensures run { EndsExport (export_text desk.now.machine) (T.taken out.old) (T.taken out.new) result }
+    ensures run { EndsExport (export_text desk.now.machine)
+        (T.taken out.old) (T.taken out.new) result }
     ensures write_cause { result ≡ ExportEnd.WriteFault → Rose (T.faults out.old) (T.faults out.new) }
     ensures write_later { T.faults out.old ≤ T.faults out.new }
 {
@@ -63,7 +64,8 @@ fn export_issues<T: Sink>(
     out: &mut T,
 ) -> Result<(), Halt>
     ensures bytes { WritesAll (T.taken out.old) (T.taken out.new) result (pending.old.items
-        ++ issues_text (names_in state.now.machine.setup) state.now.machine.externals state.now.machine.histories) }
+        ++ issues_text (names_in state.now.machine.setup) state.now.machine.externals
+        state.now.machine.histories) }
     ensures later { T.faults out.old ≤ T.faults out.new }
     ensures cause { IsHaltCause (T.faults out.old) (T.faults out.new) result }
 {
@@ -86,13 +88,14 @@ fn export_issues<T: Sink>(
     }
 }
 
-// The external id of the issue of that number, if it has one, where these are of issues from that number on; and those of the
-// issues behind it.
+// The external id of the issue of that number, if it has one, where these are of issues from that
+// number on; and those of the issues behind it.
 fn take_external<'a>(ids: &'a [ExternalId], number: u32) -> (Option<&'a str>, &'a [ExternalId])
     requires { RiseFrom external_number number ids.now }
-    ensures id { option_map (λ id. id.now) result.0 ≡ external_of ids.now number }
+    ensures id { option_map (λ id. id.now) result.0 ≡ external_at ids.now number }
     ensures rising { RiseFrom external_number (number + 1) result.1.now }
-    ensures behind { (n : ℕ) → number < n → external_of result.1.now n ≡ external_of ids.now n }
+    ensures behind { (n : ℕ) → number < n →
+        external_at result.1.now n ≡ external_at ids.now n }
 {
     match ids.split_first() {
         Some((first, rest)) => {
@@ -114,8 +117,9 @@ fn put_issue(
     external: Option<&str>,
     pending: &mut Vec<u8>,
 ) -> Result<(), Memory>
-    ensures ok { OnOk result (IfSome (slice_get state.now.machine.histories place) (λ h. pending.new.items
-        ≡ pending.old.items ++ issue_text (names_in state.now.machine.setup) h (option_map (λ id. id.now) external.entry))) }
+    ensures ok { OnOk result (IfSome (slice_get state.now.machine.histories place) (λ h.
+        pending.new.items ≡ pending.old.items ++ issue_text (names_in state.now.machine.setup) h
+        (option_map (λ id. id.now) external.entry))) }
     ensures err { OnErr result (pending.new.items ≡ pending.old.items) }
 {
     match state.issue_at(place) {

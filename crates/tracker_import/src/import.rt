@@ -2,7 +2,7 @@
 ghost use Rattle.std.specs.Prelude.{◌≡◌, ◌≤◌, Some};
 ghost use Rattle.request_lines.specs.Causes.{Rose};
 ghost use Rattle.issue_csv.specs.Reading.{Batch, batch_in};
-ghost use Rattle.tracker_import.specs.Import.{EndsBatch, EndsImport, IsAnswered, IsHaltCause, IsMade};
+ghost use Rattle.tracker_import.specs.Import.{EndsBatch, EndsImport, AnswersCall, IsHaltCause, IsMadeCall};
 
 use crate::halt::Halt;
 use crate::reply_line::put_reply_line;
@@ -33,8 +33,8 @@ pub enum ImportEnd {
     Memory,
 }
 
-/// Creates an issue for each record of the CSV by the caller, one after another, up to the first bad record, and writes the line of
-/// each reply before the next record is looked at.
+/// Creates an issue for each record of the CSV by the caller, one after another, up to the first bad
+/// record, and writes the line of each reply before the next record is looked at.
 pub fn import_rows<L: Ledger, P: Keeper + Drop, T: Sink>(
     alloc: Global,
     bytes: &[u8],
@@ -66,7 +66,8 @@ fn import_each<L: Ledger, P: Keeper + Drop, T: Sink>(
     answer: &mut Vec<u8>,
 ) -> ImportEnd
     ensures run { (batch : Batch) → reader.old ≡ Some batch →
-        EndsBatch P.keeps P.tells P.faults caller.now desk.old batch (T.taken out.old) (T.taken out.new) result desk.new }
+        EndsBatch P.keeps P.tells P.faults caller.now desk.old batch
+        (T.taken out.old) (T.taken out.new) result desk.new }
     ensures write_cause { result ≡ ImportEnd.WriteFault → Rose (T.faults out.old) (T.faults out.new) }
     ensures write_later { T.faults out.old ≤ T.faults out.new }
 {
@@ -96,7 +97,7 @@ fn answer_call<L: Ledger, P: Keeper + Drop, T: Sink>(
     steps: &mut Steps<L>,
     answer: &mut Vec<u8>,
 ) -> Result<(), Halt>
-    ensures run { IsAnswered P.keeps P.tells P.faults caller.now desk.old call.now
+    ensures run { AnswersCall P.keeps P.tells P.faults caller.now desk.old call.now
         (T.taken out.old) (T.taken out.new) result desk.new }
     ensures later { T.faults out.old ≤ T.faults out.new }
     ensures cause { IsHaltCause (T.faults out.old) (T.faults out.new) result }
@@ -117,7 +118,7 @@ fn make_call<L: Ledger, P: Keeper + Drop>(
     desk: &mut Desk<P>,
     steps: &mut Steps<L>,
 ) -> Reply
-    ensures { IsMade P.keeps P.tells P.faults caller.now desk.old call.now result desk.new }
+    ensures { IsMadeCall P.keeps P.tells P.faults caller.now desk.old call.now result desk.new }
 {
     desk.call(caller, call, steps)
 }

@@ -6,8 +6,9 @@ use field_values::Memory;
 use std::alloc::{AllocError, Global};
 use tracker_calls::{KEEPER_TEXT, MEMORY_TEXT, Refusal, Reply, reply_text};
 
-/// Puts a reply's text and a line feed in place of what `answer` held. The refusals for want of memory and of a keeper that failed
-/// are copied from their constants, so that they find room where the answer had some before.
+/// Puts a reply's text and a line feed in place of what `answer` held. The refusals for want of memory
+/// and of a keeper that failed are copied from their constants, so that they find room where the
+/// answer had some before.
 pub fn put_reply_line(alloc: Global, reply: &Reply, answer: &mut Vec<u8>) -> Result<(), AllocError>
     ensures { OnOk result (answer.new.items ≡ reply_line reply.now) }
 {
