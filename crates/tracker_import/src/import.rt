@@ -112,6 +112,7 @@ fn answer_call<L: Ledger, P: Keeper + Drop, T: Sink>(
     }
 }
 
+// Makes a call, under some mark.
 fn make_call<L: Ledger, P: Keeper + Drop>(
     caller: &UserName,
     call: &Call,
