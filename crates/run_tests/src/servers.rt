@@ -52,10 +52,10 @@ fn served<R: Wait>(
 }
 
 // At which calls the links fail and at which the keeper does, the status, and the kinds of the rows: setup and moment, then the
-// issues, and the rank of each.
+// issues, the rank of each, and the members of three groups.
 const ROWS: [(&[u64], &[u64], u8, &[u8]); 4] = [
-    (&[], &[], 0, b"\x01\x02\x03\x03\x05\x05"),
-    (&[2], &[], 2, b"\x01\x02\x03\x05"),
+    (&[], &[], 0, b"\x01\x02\x03\x03\x05\x05\x0a\x0a\x0a"),
+    (&[2], &[], 2, b"\x01\x02\x03\x05\x0a\x0a\x0a"),
     (&[], &[1], 4, b""),
     (&[], &[2], 4, b""),
 ];
