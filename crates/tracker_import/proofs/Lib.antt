@@ -1,0 +1,4 @@
+pub mod Calls
+pub mod CallByCall
+pub mod IssueByIssue
+pub mod Worked
