@@ -123,7 +123,7 @@ fn words_that_are_no_command_are_a_usage_error(rt: HostRuntime) -> Result<(), Fa
             keeper(alloc)?,
         );
         assert_eq!(rt; status, 1);
-        assert_eq!(rt; sink.taken(), b"usage: exec, check, init\n".as_slice());
+        assert_eq!(rt; sink.taken(), b"usage: exec, check, init, import USER, export\n".as_slice());
     }
     Ok(())
 }

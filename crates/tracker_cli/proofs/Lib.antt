@@ -1,3 +1,5 @@
+pub mod Commands
 pub mod Counted
 pub mod Outcomes
 pub mod Served
+pub mod Words

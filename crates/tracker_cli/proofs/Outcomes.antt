@@ -293,7 +293,7 @@ pub bad_front : (Bad : ℕ → ℕ → Type 0) (fault : OpenFault) (kind number 
 bad_front Bad fault kind number t s u bad is same one =
     (one.0, one.1, (kind, number, subst (IsOpenFault Bad) is bad, one.2), subst (λ o. Appends o u one.0) same one.3)
 
-was_all : (all rest bytes : List ℕ) → Consumes (Some all) (Some rest) bytes → IsAtEnd (Some rest) → bytes ≡ all
+pub was_all : (all rest bytes : List ℕ) → Consumes (Some all) (Some rest) bytes → IsAtEnd (Some rest) → bytes ≡ all
 was_all all rest bytes read end = sym (append-nil bytes) ∙ ap (λ list. bytes ++ list) (sym end) ∙ sym read
 
 -- what was read to its end was the whole input

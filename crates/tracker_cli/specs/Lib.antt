@@ -1,4 +1,5 @@
 pub mod Answering
+pub mod Commands
 pub mod Numerals
 pub mod Outcome
 pub mod Serving

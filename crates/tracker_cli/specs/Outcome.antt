@@ -1,5 +1,5 @@
 -- What the command line writes, by its status.
-use Rattle.std.specs.Prelude.{◌≡◌, ◌≢◌, ◌⊎◌, ◌<◌, ◌≤◌, ℕ, List, [], ◌∷◌, ◌++◌, length, codes, Option, Some, IfSome, Ok}
+use Rattle.std.specs.Prelude.{◌≡◌, ◌≢◌, ◌⊎◌, ◌<◌, ◌≤◌, ◌==◌, ℕ, Bool, true, not, IsTrue, List, [], ◌∷◌, ◌++◌, length, codes, Option, Some, IfSome, Ok}
 use Rattle.std.specs.Str.{IsUtf8}
 use Rattle.std.specs.Io.KnownBytes.{Appends, Consumes, IsAtEnd}
 use Rattle.field_values.specs.Parts.{Parts}
@@ -33,14 +33,29 @@ IsInit words = words ≡ codes "init" ∷ []
 abbrev pub IsOfLines : List (List ℕ) → Type 0
 IsOfLines words = IsExec words ⊎ IsCheck words
 
+abbrev pub IsExport : List (List ℕ) → Type 0
+IsExport words = words ≡ codes "export" ∷ []
+
+-- the word doesn't begin with a hyphen
+abbrev pub is_plain : List ℕ → Bool
+is_plain [] = true
+is_plain (byte ∷ rest) = not (byte == 45)
+
+-- the words are `import` and this user
+abbrev pub IsImport : List (List ℕ) → List ℕ → Type 0
+IsImport words user = (words ≡ codes "import" ∷ user ∷ []) × IsTrue (is_plain user)
+
+abbrev pub IsImportOfSome : List (List ℕ) → Type 0
+IsImportOfSome words = (user : List ℕ) × IsImport words user
+
 -- the words are a command's
 abbrev pub IsCommand : List (List ℕ) → Type 0
-IsCommand words = IsOfLines words ⊎ IsInit words
+IsCommand words = IsOfLines words ⊎ IsInit words ⊎ IsExport words ⊎ IsImportOfSome words
 
 -- ---- texts
 
 abbrev pub usage : List ℕ
-usage = codes "usage: exec, check, init\n"
+usage = codes "usage: exec, check, init, import USER, export\n"
 
 abbrev pub held : List ℕ
 held = codes "held\n"

@@ -7,6 +7,10 @@ use Rattle.setup_drafts.specs.Faults.{fault_kind, name_of}
 abbrev pub kept_line : ℕ → ℕ → List ℕ
 kept_line kind number = codes "kept " ++ (decimal kind ++ (32 ∷ decimal number) ++ 10 ∷ [])
 
+-- the number of a bad record, the header being 0
+abbrev pub csv_line : ℕ → List ℕ
+csv_line number = codes "csv " ++ (decimal number ++ 10 ∷ [])
+
 -- the kind of a fault, and the key, name or text that it tells
 abbrev pub named_line : ℕ → List ℕ → List ℕ
 named_line kind name = codes "setup " ++ (decimal kind ++ (32 ∷ name) ++ 10 ∷ [])

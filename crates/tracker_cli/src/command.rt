@@ -1,9 +1,12 @@
 // The top call.
-ghost use Rattle.std.specs.Prelude.{◌≡◌, ◌∷◌, [], ◌≤◌, ◌↔◌, map, string_bytes, codes, IsTrue};
+ghost use Rattle.std.specs.Prelude.{◌≡◌, ◌∷◌, [], ◌≤◌, ◌↔◌, List, ℕ, map, string_bytes, codes, IsTrue, IfSome, IfNone};
 ghost use Rattle.request_lines.specs.Causes.{Rose};
 ghost use Rattle.tracker_core.specs.Desk.{HasBadRow};
-ghost use Rattle.tracker_cli.specs.Outcome.{IsExec, IsCheck, IsInit, IsOfLines, IsCommand, AreRepliesOf, AreCutRepliesOf, BeginsIn, HasRowsOf, HasItsRows, HasSomeRow, IsCreated, UsageEnd, LinesEnd, InitEnd};
+ghost use Rattle.tracker_cli.specs.Outcome.{IsExec, IsCheck, IsInit, IsExport, IsImport, IsImportOfSome, IsOfLines, IsCommand, is_plain, AreRepliesOf, AreCutRepliesOf, BeginsIn, HasRowsOf, HasItsRows, HasSomeRow, IsCreated, UsageEnd, LinesEnd, InitEnd};
+ghost use Rattle.tracker_cli.specs.Commands.{Stands, IsExported, AreImported, AreCutImported, ExportedEnd, ImportedEnd};
 
+use crate::export::export;
+use crate::import::import;
 use crate::init::init;
 use crate::lines::run_lines;
 use fields::BUILT_IN;
@@ -13,7 +16,8 @@ use tracker_keeper::Keeper;
 
 /// Carries out a command, answers the status and hands the keeper back: 0 all was done; 1 the words are no command's; 2 the
 /// source failed; 3 the sink failed; 4 the keeper failed before any call; 5 a row that is kept is bad; 6 want of memory; 7 a line,
-/// the number of lines or a whole input passes its limit; 8 the input of `init` is no setup; 9 the keeper of `init` has rows already.
+/// the number of lines or a whole input passes its limit; 8 the input of `init` is no setup, or that of `import` has a
+/// bad record; 9 the keeper of `init` has rows already.
 pub fn run<S: Source, T: Sink, P: Keeper + Drop>(
     alloc: Global,
     words: &[String],
@@ -42,8 +46,23 @@ pub fn run<S: Source, T: Sink, P: Keeper + Drop>(
         (HasItsRows P.keeps keeper result.1) (HasSomeRow P.keeps P.tells keeper result.1)
         result.0 (S.left input.old) (S.left input.new) (T.taken out.old) (T.taken out.new) }
 
+    // `export` writes all issues of the tracker whose rows the keeper has.
+    ensures export { IsExport (map string_bytes words.now) → ExportedEnd
+        (IsExported P.keeps P.tells P.faults BUILT_IN.now keeper result.1)
+        (HasItsRows P.keeps keeper result.1) (HasBadRow P.keeps P.tells keeper result.1)
+        result.0 (S.left input.old) (S.left input.new) (T.taken out.old) (T.taken out.new) }
+
+    // `import` creates an issue for each record of a CSV.
+    ensures import { (user : List ℕ) → IsImport (map string_bytes words.now) user → ImportedEnd
+        (AreImported P.keeps P.tells P.faults BUILT_IN.now keeper result.1 user)
+        (AreCutImported P.keeps P.tells P.faults BUILT_IN.now keeper result.1 user)
+        (Stands P.keeps P.tells P.faults BUILT_IN.now keeper result.1)
+        (HasItsRows P.keeps keeper result.1) (HasBadRow P.keeps P.tells keeper result.1)
+        result.0 (S.left input.old) (S.left input.new) (T.taken out.old) (T.taken out.new) }
+
     // Where no desk is opened, the keeper has the rows that it had.
     ensures untouched { ¬ (IsExec (map string_bytes words.now)) → ¬ (IsInit (map string_bytes words.now)) →
+        ¬ (IsExport (map string_bytes words.now)) → ¬ (IsImportOfSome (map string_bytes words.now)) →
         HasItsRows P.keeps keeper result.1 }
 
     // A fault of the outside is told only where the outside counted one.
@@ -60,7 +79,13 @@ pub fn run<S: Source, T: Sink, P: Keeper + Drop>(
     if is_only_word(words, "init") {
         return init(alloc, input, out, keeper);
     }
-    match write_all(out, b"usage: exec, check, init\n") {
+    if is_only_word(words, "export") {
+        return export(alloc, out, keeper);
+    }
+    if let Some(user) = user_in(words) {
+        return import(alloc, user, input, out, keeper);
+    }
+    match write_all(out, b"usage: exec, check, init, import USER, export\n") {
         Ok(()) => (1, keeper),
         Err(Failed) => (3, keeper),
     }
@@ -91,5 +116,31 @@ fn is_only_word(words: &[String], name: &str) -> bool
     match words {
         [word] => word.as_str() == name,
         _ => false,
+    }
+}
+
+// The user of the words `import USER`; `None` exactly where the words are others.
+fn user_in(words: &[String]) -> Option<&str>
+    ensures some { IfSome result (λ user. IsImport (map string_bytes words.now) user.now) }
+    ensures none { IfNone result ((user : List ℕ) → ¬ IsImport (map string_bytes words.now) user) }
+{
+    match words {
+        [word, user] => {
+            if word.as_str() == "import" && is_plain(user.as_str()) {
+                return Some(user.as_str());
+            }
+            None
+        }
+        _ => None,
+    }
+}
+
+// Whether the word doesn't begin with a hyphen.
+fn is_plain(word: &str) -> bool
+    ensures { result ≡ is_plain word.now }
+{
+    match word.as_bytes() {
+        [] => true,
+        [first, ..] => *first != b'-',
     }
 }

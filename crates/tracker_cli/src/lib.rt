@@ -2,9 +2,12 @@
 #![tactic(auto)]
 
 mod adapters;
+mod bad_row;
 mod check;
 mod command;
 mod exec;
+mod export;
+mod import;
 mod init;
 mod lines;
 mod network;

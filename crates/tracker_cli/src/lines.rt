@@ -5,12 +5,11 @@ ghost use Rattle.request_lines.specs.Causes.{Rose};
 ghost use Rattle.request_lines.specs.Lines.{lines, whole_lines, AreWithinLimits};
 ghost use Rattle.tracker_core.specs.Desk.{HasBadRow, IsOpenFault};
 ghost use Rattle.tracker_cli.specs.Outcome.{IsExec, IsOfLines, AreReplies, AreCutReplies, AreChecked, AreCutChecks, AreRepliesOf, AreCutRepliesOf, BeginsIn, HasRowsOf, HasItsRows, GrewBy, GrewByFront, IsKeptText, IsLimitText, IsCutLimitText, EndsRun};
-ghost use Rattle.tracker_cli.specs.Texts.{kept_line};
 
+use crate::bad_row::tell_row;
 use crate::check::Checks;
 use crate::command::is_check;
 use crate::exec::RequestLines;
-use crate::texts::kept_line;
 use fields::{BUILT_IN, Steps};
 use request_lines::{End, answer_lines};
 use std::alloc::Global;
@@ -78,24 +77,6 @@ pub(crate) fn run_lines<S: Source, T: Sink, P: Keeper + Drop>(
         Err((OpenFault::BadRow { kind, no }, keeper)) => (tell_row(alloc, out, kind, no), keeper),
         Err((OpenFault::Memory, keeper)) => (6, keeper),
         Err((OpenFault::Held, _keeper)) => unreachable!(),
-    }
-}
-
-// Writes which row is bad: 5, or 3 where the sink failed on it, or 6 where there was no memory for it and nothing was written.
-fn tell_row<T: Sink>(alloc: Global, out: &mut T, kind: u8, no: u64) -> u8
-    ensures told { result ≡ 5 → Appends (T.taken out.old) (T.taken out.new) (kept_line kind no) }
-    ensures written { result ≡ 3 → GrewByFront (T.taken out.old) (T.taken out.new) (λ due. due ≡ kept_line kind no) }
-    ensures memory { result ≡ 6 → T.taken out.new ≡ T.taken out.old }
-    ensures write_cause { result ≡ 3 → Rose (T.faults out.old) (T.faults out.new) }
-    ensures later { T.faults out.old ≤ T.faults out.new }
-    ensures statuses { (result ≡ 3) ⊎ (result ≡ 5) ⊎ (result ≡ 6) }
-{
-    let Ok(text) = kept_line(alloc, kind, no) else {
-        return 6;
-    };
-    match write_all(out, text.as_str().as_bytes()) {
-        Ok(()) => 5,
-        Err(Failed) => 3,
     }
 }
 

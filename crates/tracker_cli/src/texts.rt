@@ -1,6 +1,6 @@
 // What is written beside the replies where a status tells something.
 ghost use Rattle.std.specs.Prelude.{◌≡◌, IfOk};
-ghost use Rattle.tracker_cli.specs.Texts.{kept_line, named_line, setup_line};
+ghost use Rattle.tracker_cli.specs.Texts.{csv_line, kept_line, named_line, setup_line};
 
 use field_values::{Memory, Text};
 use fields::SetupFault;
@@ -11,6 +11,13 @@ pub fn kept_line(alloc: Global, kind: u8, no: u64) -> Result<Text, Memory>
     ensures { IfOk result (λ text. text ≡ kept_line kind no) }
 {
     Ok(Text::of(format!(in alloc; "kept {kind} {no}\n")?))
+}
+
+/// Which record of a CSV is bad.
+pub fn csv_line(alloc: Global, number: u64) -> Result<Text, Memory>
+    ensures { IfOk result (λ text. text ≡ csv_line number) }
+{
+    Ok(Text::of(format!(in alloc; "csv {number}\n")?))
 }
 
 /// Why a text is no setup.

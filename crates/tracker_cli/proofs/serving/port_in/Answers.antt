@@ -1,16 +1,10 @@
-use Rattle.std.proofs.Common.{◌≡◌, ℕ, ◌<◌, ◌≤◌, List, [], ◌∷◌, length, map, get_or, string_bytes, String, Global, codes, arith, refl, sym, ◌∙◌}
+use Rattle.std.proofs.Common.{◌≡◌, ℕ, List, [], ◌∷◌, codes, refl, sym, ◌∙◌}
 use Rattle.std.proofs.lemmas.Option.{IfSome_then}
 use Rattle.std.proofs.lemmas.Slice.Eq.{bytes_eq-Decides}
 use Rattle.tracker_cli.specs.Numerals.{IsPort}
 use Rattle.tracker_cli.specs.Serving.{IsServe}
+use Rattle.tracker_cli.proofs.Words.{two_words}
 use Rattle.tracker_cli.proofs.serving.port_in.Goals as goal
-
-two_words : (xs : List (String Global)) (v w : String Global) → 2 ≤ length xs → length xs < 3 → v ≡ get_or xs 0 v → w ≡ get_or xs 1 w
-    → map string_bytes xs ≡ string_bytes v ∷ string_bytes w ∷ []
-two_words [] v w some few one two = absurd (omega arith)
-two_words (x ∷ []) v w some few one two = absurd (omega arith)
-two_words (x ∷ y ∷ []) v w some few one two = rw (one, two) refl
-two_words (x ∷ y ∷ z ∷ zs) v w some few one two = absurd (omega arith)
 
 serves : (words : List (List ℕ)) (first second text : List ℕ) (port : ℕ) → words ≡ first ∷ second ∷ [] → first ≡ codes "serve" → text ≡ second
     → IsPort text port → IsServe words port
