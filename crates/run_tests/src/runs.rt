@@ -15,6 +15,15 @@ const REPLIES: &[u8] =
 /// The bytes of the first reply, of the first two, and of the first three, with their line feeds.
 const ENDS: [usize; 3] = [20, 51, 88];
 
+const CSV: &[u8] =
+    b"external,project,type,summary,assignee,reporter,priority,points,due\nX-1,OPS,Task,Move desks,,,,,\nX-1,OPS,Task,Move desks,,,,,\nX-2\n";
+
+const IMPORTED: &[u8] =
+    b"{\"ok\":{\"already\":false,\"change\":1,\"issue\":\"OPS-1\"}}\n{\"ok\":{\"already\":true,\"change\":1,\"issue\":\"OPS-1\"}}\ncsv 3\n";
+
+const EXPORTED: &[u8] =
+    b"key,external,project,type,summary,status,assignee,reporter,priority,resolution,points,due\nOPS-1,X-1,OPS,Task,Move desks,";
+
 fn words(alloc: Global, word: &str) -> Result<Vec<String>, AllocError> {
     let mut words = Vec::new(alloc);
     words.push(String::from_str(alloc, word)?)?;
@@ -109,10 +118,64 @@ fn a_write_that_fails_leaves_a_front(rt: HostRuntime) -> Result<(), Fail> {
     Ok(())
 }
 
+// `import` and this word.
+fn import_words(alloc: Global, user: &str) -> Result<Vec<String>, AllocError> {
+    let mut words = words(alloc, "import")?;
+    words.push(String::from_str(alloc, user)?)?;
+    Ok(words)
+}
+
+#[test]
+fn what_is_imported_up_to_a_bad_record_is_exported(rt: HostRuntime) -> Result<(), Fail> {
+    let alloc = rt.alloc();
+    let mut source = MemorySource::new(CSV.to_vec(alloc)?, Vec::new(alloc), Vec::new(alloc));
+    let mut sink = MemorySink::new(alloc, 1_000, Vec::new(alloc))?;
+    let (status, keeper) = run(
+        alloc,
+        &import_words(alloc, "anna")?,
+        &mut source,
+        &mut sink,
+        keeper(alloc)?,
+    );
+    assert_eq!(rt; status, 8);
+    assert_eq!(rt; sink.taken(), IMPORTED);
+    let mut sink = MemorySink::new(alloc, 1_000, Vec::new(alloc))?;
+    let (status, _) = run(
+        alloc,
+        &words(alloc, "export")?,
+        &mut source,
+        &mut sink,
+        keeper,
+    );
+    assert_eq!(rt; status, 0);
+    assert!(rt; sink.taken().starts_with(EXPORTED));
+    Ok(())
+}
+
+#[test]
+fn import_takes_a_user_that_is_no_option(rt: HostRuntime) -> Result<(), Fail> {
+    let alloc = rt.alloc();
+    for (user, due) in [("-h", 1), ("-", 1), ("", 8), ("anna", 8)] {
+        let mut source = MemorySource::new(Vec::new(alloc), Vec::new(alloc), Vec::new(alloc));
+        let mut sink = MemorySink::new(alloc, 100, Vec::new(alloc))?;
+        let (status, _) = run(
+            alloc,
+            &import_words(alloc, user)?,
+            &mut source,
+            &mut sink,
+            keeper(alloc)?,
+        );
+        assert_eq!(rt; status, due);
+    }
+    Ok(())
+}
+
 #[test]
 fn words_that_are_no_command_are_a_usage_error(rt: HostRuntime) -> Result<(), Fail> {
     let alloc = rt.alloc();
-    for word in ["", "Exec", "exec ", "Check", "help", "-h"] {
+    for word in [
+        "", "Exec", "exec ", "Check", "help", "-h", "import", "Export",
+    ] {
         let mut source = MemorySource::new(Vec::new(alloc), Vec::new(alloc), Vec::new(alloc));
         let mut sink = MemorySink::new(alloc, 100, Vec::new(alloc))?;
         let (status, _) = run(
@@ -123,7 +186,10 @@ fn words_that_are_no_command_are_a_usage_error(rt: HostRuntime) -> Result<(), Fa
             keeper(alloc)?,
         );
         assert_eq!(rt; status, 1);
-        assert_eq!(rt; sink.taken(), b"usage: exec, check, init, import USER, export\n".as_slice());
+        assert_eq!(rt;
+            sink.taken(),
+            b"usage: exec, check, init, import USER, export\n".as_slice()
+        );
     }
     Ok(())
 }
