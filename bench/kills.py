@@ -21,7 +21,6 @@ import tempfile
 import threading
 import time
 
-KILLS = int(sys.argv[2]) if len(sys.argv) > 2 else 200
 AT_ONCE = 400
 
 
@@ -82,10 +81,11 @@ def quiet_run(program, store, lines):
 
 def main():
     program, by = sys.argv[1], random.Random(sys.argv[3] if len(sys.argv) > 3 else 'kills')
+    kills = int(sys.argv[2]) if len(sys.argv) > 2 else 200
     wrong, more, done, numbers = 0, 0, 0, iter(range(1, 10_000_000))
     with tempfile.TemporaryDirectory() as room:
         store, other = f'{room}/killed', f'{room}/quiet'
-        for kill in range(KILLS):
+        for kill in range(kills):
             lines = [line(by, next(numbers)) for _ in range(AT_ONCE)]
             answered, was_killed = killed_run(program, store, lines, by)
             found = rows_of(store)
@@ -105,7 +105,7 @@ def main():
                 print(f'kill {kill}: the run ended by itself')
             done += answered
         quiet_run(program, store, [])
-    print(f'{KILLS} kills, {done} lines answered, {more} times one more was kept, {wrong} wrong')
+    print(f'{kills} kills, {done} lines answered, {more} times one more was kept, {wrong} wrong')
     return 1 if wrong else 0
 
 
