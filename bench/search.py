@@ -1,18 +1,19 @@
 #!/usr/bin/env python3
-"""Times searches: 10,000 issues with three changes each, and then 200 searches of ten kinds.
+"""Times searches: 10,000 issues, or so many, with three changes each, and then 200 searches of ten kinds.
 
-usage: python3 bench/search.py PROGRAM
+usage: python3 bench/search.py PROGRAM [ISSUES]
 
-PROGRAM is the built tracker, as crates/tracker/out/tracker after `rt run` there. Each kind is timed in runs of its own over the
-same issues, less the time of runs without searches; of three runs the fastest counts.
+PROGRAM is the built tracker, as crates/tracker/out/tracker after `rt run` there. Each kind is timed by the processor time of runs of its
+own (user and system) over the same issues, less that of runs without searches; of three runs the fastest counts. Peak memory is that of
+the run.
 """
 import json
-import resource
-import subprocess
+import os
 import sys
-import time
+import tempfile
 
-ISSUES, EACH = 10_000, 20
+ISSUES = int(sys.argv[2]) if len(sys.argv) > 2 else 10_000
+EACH = 20
 START = 1_709_251_200
 
 KINDS = [
@@ -47,30 +48,40 @@ def load():
         yield line('root', 'edit', issue=key, set={'labels': ['web', 'desk'] if number % 2 else None})
 
 
-def seconds(program, lines):
-    return min(one_run(program, lines) for _ in range(3))
+def run(program, lines):
+    """The processor seconds and the peak memory, in megabytes, of a run over these lines."""
+    with tempfile.TemporaryFile() as source, tempfile.TemporaryFile() as out:
+        source.write('\n'.join(lines).encode())
+        source.seek(0)
+        child = os.fork()
+        if child == 0:
+            os.dup2(source.fileno(), 0)
+            os.dup2(out.fileno(), 1)
+            os.execv(program, [program, ':memory:', 'exec'])
+        _, status, used = os.wait4(child, 0)
+        out.seek(0)
+        text = out.read()
+        if status or text.count(b'\n') != len(lines) or b'refused' in text:
+            sys.exit(f'status {status}, {text.count(bytes([10]))} replies to {len(lines)} lines, or one was refused')
+        return used.ru_utime + used.ru_stime, used.ru_maxrss / 1024
 
 
-def one_run(program, lines):
-    begin = time.monotonic()
-    ran = subprocess.run([program, ':memory:', 'exec'], input='\n'.join(lines).encode(), stdout=subprocess.PIPE, check=True)
-    took = time.monotonic() - begin
-    replies = ran.stdout.count(b'\n')
-    if replies != len(lines) or b'refused' in ran.stdout:
-        sys.exit(f'{replies} replies to {len(lines)} lines, or one was refused')
-    return took
+def fastest(program, lines):
+    runs = [run(program, lines) for _ in range(3)]
+    return min(it[0] for it in runs), max(it[1] for it in runs)
 
 
 def main():
     program = sys.argv[1]
     issues = list(load())
-    alone = seconds(program, issues)
-    print(f'{len(issues)} lines for {ISSUES} issues: {alone:.2f} s, {len(issues) / alone:,.0f} calls a second')
+    alone, memory = fastest(program, issues)
+    print(f'{len(issues)} lines for {ISSUES} issues: {alone:.2f} s of processor time, {len(issues) / alone:,.0f} lines a second; {memory:.0f} MB at most')
+    total = 0
     for jql in KINDS:
-        took = seconds(program, issues + [line('cy', 'search', jql=jql)] * EACH) - alone
-        rate = f'{EACH / took:,.0f} calls a second' if took > 0.005 else 'too fast to tell'
-        print(f'{EACH} searches: {took:.3f} s, {rate}: {jql or "(all)"}')
-    print(f'peak memory: {resource.getrusage(resource.RUSAGE_CHILDREN).ru_maxrss / 1024:.0f} MB')
+        took, memory = fastest(program, issues + [line('cy', 'search', jql=jql)] * EACH)
+        total += took - alone
+        print(f'{1e3 * (took - alone) / EACH:.2f} ms a search, {memory:.0f} MB at most: {jql or "(all)"}')
+    print(f'{1e3 * total / EACH / len(KINDS):.2f} ms a search in the mean')
 
 
 if __name__ == '__main__':

@@ -39,7 +39,7 @@ decides_at true s h t conds k cond inside is so = some_at s h t conds k cond ins
 decides_at false s h t conds k cond inside is so = not_all_at s h t conds k cond inside is so
 
 -- nothing is decided by none, nor by one more that isn't so
-none_joined : (deciding : Bool) (s : Surroundings) (h : History) (t : ℕ) → joined deciding s h t no_conditions ≡ not deciding
+pub none_joined : (deciding : Bool) (s : Surroundings) (h : History) (t : ℕ) → joined deciding s h t no_conditions ≡ not deciding
 unfolding holds
 none_joined true s h t = refl
 none_joined false s h t = refl
@@ -69,6 +69,13 @@ all_more s h t (first ∷ conds) cond before so =
 undecided_at : (deciding : Bool) (s : Surroundings) (h : History) (t : ℕ) (conds : List Cond) (cond : Cond) → joined deciding s h t (views conds) ≡ not deciding → holds s h t (view cond) ≡ not deciding → joined deciding s h t (views (conds ++ cond ∷ [])) ≡ not deciding
 undecided_at true s h t conds cond before so = none_more s h t conds cond before so
 undecided_at false s h t conds cond before so = all_more s h t conds cond before so
+
+-- the step of a loop that looks at one after the other, as long as none decides
+pub undecided_on : (deciding : Bool) (s : Surroundings) (h : History) (t : ℕ) (conds : List Cond) (i : ℕ) (cond : Cond) → i < length conds → cond ≡ get_or conds i cond →
+    joined deciding s h t (views (take i conds)) ≡ not deciding → holds s h t (view cond) ≡ not deciding → joined deciding s h t (views (take (i + 1) conds)) ≡ not deciding
+undecided_on deciding s h t conds i cond inside is before so =
+    let front : take i conds ++ cond ∷ [] ≡ take (i + 1) conds = ap (λ c. take i conds ++ c ∷ []) is ∙ sym (take_more conds i cond inside) in
+    subst (λ (l : List Cond). joined deciding s h t (views l) ≡ not deciding) front (undecided_at deciding s h t (take i conds) cond before so)
 
 module _ (deciding : Bool) (s : Surroundings) (h : History) where
   -- ---- one that is so decides

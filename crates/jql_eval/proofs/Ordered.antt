@@ -13,7 +13,7 @@ use Rattle.change_history.specs.History.{History, present}
 use Rattle.jql_bound.specs.declared.order.SortField.{SortField}
 use Rattle.jql_bound.specs.declared.order.Direction.{Direction}
 use Rattle.jql_bound.specs.declared.order.OrderKey.{OrderKey}
-use Rattle.jql_meaning.specs.Order.{standing, category_standing, field_cmp, directed, issue_cmp}
+use Rattle.jql_meaning.specs.Order.{Standing, standing, standing_cmp, category_standing, field_cmp, directed, issue_cmp}
 use Rattle.jql_eval.specs.Laws.{list_cmp}
 use Rattle.jql_eval.proofs.Standings.{standing_cmp-total}
 
@@ -61,14 +61,19 @@ one_number_ties parts (sort ∷ sorts) ranks one other e =
 
 -- ---- it is total
 
+reversed_total : {X : Type 0} {cmp : X → X → Ordering} → IsTotalOrder cmp → IsTotalOrder (λ one other. ordering_reverse (cmp one other))
+reversed_total {X} {cmp} o = subst (λ (c : X → X → Ordering). IsTotalOrder c) (λ i one other. (o.antisymm other one) i) (back_total o)
+
+-- so is the order of standings in a direction
+pub directed_cmp-total : (direction : Direction) → IsTotalOrder (λ (one other : Standing). directed direction (standing_cmp one other))
+directed_cmp-total Direction.Ascending = standing_cmp-total
+directed_cmp-total Direction.Descending = reversed_total standing_cmp-total
+
 module _ (parts : Parts) (ranks : History → History → Ordering) (total : IsTotalOrder ranks) where
   field_total : (field : SortField) → IsTotalOrder (λ one other. field_cmp parts (ranks one other) one other field)
   field_total (SortField.Subject subject) = on_total (λ h. standing parts h subject) standing_cmp-total
   field_total SortField.StatusCategory = on_total (λ h. category_standing parts (present h number.STATUS)) standing_cmp-total
   field_total SortField.Rank = total
-
-  reversed_total : {cmp : History → History → Ordering} → IsTotalOrder cmp → IsTotalOrder (λ one other. ordering_reverse (cmp one other))
-  reversed_total {cmp} o = subst (λ (c : History → History → Ordering). IsTotalOrder c) (λ i one other. (o.antisymm other one) i) (back_total o)
 
   directed_total : (direction : Direction) (field : SortField) → IsTotalOrder (λ one other. directed direction (field_cmp parts (ranks one other) one other field))
   directed_total Direction.Ascending field = field_total field

@@ -1,5 +1,5 @@
 // Numbers by their digits, however many.
-ghost use Rattle.std.specs.Prelude.{◌≡◌, ◌≤◌, ◌+◌, ◌*◌, ◌-◌, min};
+ghost use Rattle.std.specs.Prelude.{◌≡◌, ◌≤◌, ◌+◌, ◌*◌, ◌-◌, ◌^◌, min};
 ghost use Rattle.std.specs.Ordering.{nat_cmp};
 ghost use Rattle.jql_eval.specs.Numbers.{number_in, digit_before, number_before, lead};
 
@@ -7,6 +7,20 @@ use std::cmp::Ordering;
 
 /// A lead that further digits can't make good; one of 24 is enough.
 const SAFE: u64 = 1_000;
+
+/// One more than the greatest number of 32 bits.
+const BEYOND: u64 = 4_294_967_296;
+
+/// The number that the digits write, as far as 2^32.
+pub(crate) fn number_in(digits: &[u8]) -> u64
+    ensures { result ≡ min (number_in digits.now) (2 ^ 32) }
+{
+    let mut number = 0;
+    for digit in digits {
+        number = (10 * number + u64::from(digit.saturating_sub(b'0'))).min(BEYOND);
+    }
+    number
+}
 
 /// How the numbers stand that the digits write.
 pub(crate) fn number_cmp(one: &[u8], other: &[u8]) -> Ordering

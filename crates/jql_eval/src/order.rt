@@ -57,7 +57,8 @@ fn field_cmp(
     }
 }
 
-fn directed(direction: Direction, order: Ordering) -> Ordering
+/// The order upwards, or the other way round where the greatest comes first.
+pub fn directed(direction: Direction, order: Ordering) -> Ordering
     ensures { result ≡ directed direction order }
 {
     match direction {

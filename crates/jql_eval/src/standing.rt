@@ -3,44 +3,44 @@ ghost use Rattle.std.specs.Prelude.{◌≡◌, ◌==◌, unwrap_or, slice_get, n
 ghost use Rattle.std.specs.List.{after_first};
 ghost use Rattle.fields.specs.SetupParts.{parts};
 ghost use Rattle.jql_meaning.specs.Comparison.{project_of};
-ghost use Rattle.jql_meaning.specs.Order.{standing, standing_cmp, value_standing, category_standing, category_place, text_cmp, kind_place};
+ghost use Rattle.jql_meaning.specs.Order.{standing, standing_cmp, value_standing, category_standing, category_place, text_cmp, kind_place, key, number_of};
 ghost use Rattle.jql_eval.specs.Standings.{seen};
 
-use crate::number::number_cmp;
-use change_history::{Issue, Key};
+use crate::number::{number_cmp, number_in};
+use change_history::Issue;
 use field_values::{Category, ChoiceNo, FieldNo, UserNo, Value};
 use fields::Setup;
 use jql_bound::Subject;
 use std::cmp::Ordering;
 
-/// The field whose choices stand from the last to the first: the first priority is the highest.
-/// What decides where an issue stands: a size, a text, the project and the number of its key, or nothing.
-#[derive(Drop)]
-pub(crate) enum Standing<'a> {
+/// What decides where an issue stands: a size, a text, the project and the number of its key, or nothing. It is small, so that lists
+/// are put in order by standings that are worked out once an issue.
+#[derive(Clone, Copy)]
+pub enum Standing<'a> {
     Size(i64),
     Text(&'a [u8]),
-    Key(&'a [u8], &'a [u8]),
+    /// A key's project, and its number.
+    Key(&'a [u8], u32),
+    /// A whole key, the number of which takes more than 32 bits.
+    LongKey(&'a str),
     Nothing,
 }
 
 /// What decides where the issue stands by a subject.
-pub(crate) fn standing_of<'a>(setup: &'a Setup, issue: &'a Issue, subject: Subject) -> Standing<'a>
+pub fn standing_of<'a>(setup: &'a Setup, issue: &'a Issue, subject: Subject) -> Standing<'a>
     ensures { seen result ≡ standing (parts setup.now) issue.now.history subject }
 {
     match subject {
         Subject::Field(field) => value_standing(setup, field, issue.value(field)),
-        Subject::Project => Standing::Text(key_parts(issue.key()).0),
-        Subject::Key => {
-            let (project, number) = key_parts(issue.key());
-            Standing::Key(project, number)
-        }
+        Subject::Project => Standing::Text(key_parts(issue.key().as_str()).0),
+        Subject::Key => key_standing(issue.key().as_str()),
         Subject::Created => Standing::Size(issue.created().seconds() as i64),
         Subject::Updated => Standing::Size(issue.updated().seconds() as i64),
     }
 }
 
 /// What decides by the category of the status.
-pub(crate) fn category_standing<'a>(setup: &'a Setup, status: &Value) -> Standing<'a>
+pub fn category_standing<'a>(setup: &'a Setup, status: &Value) -> Standing<'a>
     ensures { seen result ≡ category_standing (parts setup.now) status.now }
 {
     match status {
@@ -98,28 +98,44 @@ fn user_name(setup: &Setup, user: UserNo) -> &[u8]
     }
 }
 
+// By the key: its project, and its number, which is read once.
+fn key_standing(name: &str) -> Standing<'_>
+    ensures { seen result ≡ key (project_of name.now) (number_of name.now) }
+{
+    let (project, digits) = key_parts(name);
+    match u32::try_from(number_in(digits)) {
+        Ok(number) => Standing::Key(project, number),
+        Err(_) => Standing::LongKey(name),
+    }
+}
+
 // The project's key before the hyphen, and the number behind it.
 #[tactic(auto, using(std::proofs::lemmas::Str::Pattern::split_once_first))]
-fn key_parts(key: &Key) -> (&[u8], &[u8])
-    ensures project { result.0.now ≡ project_of key.now }
-    ensures number { result.1.now ≡ after_first (λ byte. byte == 45) key.now }
+fn key_parts(name: &str) -> (&[u8], &[u8])
+    ensures project { result.0.now ≡ project_of name.now }
+    ensures number { result.1.now ≡ after_first (λ byte. byte == 45) name.now }
 {
-    match key.as_str().split_once('-') {
+    match name.split_once('-') {
         Some((project, number)) => (project.as_bytes(), number.as_bytes()),
-        None => (key.as_str().as_bytes(), &[]),
+        None => (name.as_bytes(), &[]),
     }
 }
 
 /// How two stand to each other: sizes by size, texts by their bytes, keys by the project and then by the number; nothing stands last.
-pub(crate) fn standing_cmp(one: &Standing<'_>, other: &Standing<'_>) -> Ordering
+pub fn standing_cmp(one: &Standing<'_>, other: &Standing<'_>) -> Ordering
     ensures { result ≡ standing_cmp (seen one.now) (seen other.now) }
 {
     match (one, other) {
         (Standing::Size(one), Standing::Size(other)) => one.cmp(other),
         (Standing::Text(one), Standing::Text(other)) => text_cmp(one, other),
-        (Standing::Key(one, digits), Standing::Key(other, opposite)) => {
-            text_cmp(one, other).then(number_cmp(digits, opposite))
+        (Standing::Key(one, number), Standing::Key(other, opposite)) => {
+            text_cmp(one, other).then(number.cmp(opposite))
         }
+        (Standing::Key(one, number), Standing::LongKey(other)) => to_long_cmp(one, *number, other),
+        (Standing::LongKey(one), Standing::Key(other, number)) => {
+            to_long_cmp(other, *number, one).reverse()
+        }
+        (Standing::LongKey(one), Standing::LongKey(other)) => long_cmp(one, other),
         _ => kind_place(one).cmp(&kind_place(other)),
     }
 }
@@ -130,13 +146,30 @@ fn text_cmp(one: &[u8], other: &[u8]) -> Ordering
     one.cmp(other)
 }
 
+// How a key stands to one with a long number.
+fn to_long_cmp(project: &[u8], number: u32, long: &str) -> Ordering
+    ensures { result ≡ standing_cmp (key project.now number) (key (project_of long.now) (number_of long.now)) }
+{
+    let (other, digits) = key_parts(long);
+    text_cmp(project, other).then(u64::from(number).cmp(&number_in(digits)))
+}
+
+// How two keys with long numbers stand to each other.
+fn long_cmp(one: &str, other: &str) -> Ordering
+    ensures { result ≡ standing_cmp (key (project_of one.now) (number_of one.now)) (key (project_of other.now) (number_of other.now)) }
+{
+    let (project, digits) = key_parts(one);
+    let (opposing, opposite) = key_parts(other);
+    text_cmp(project, opposing).then(number_cmp(digits, opposite))
+}
+
 fn kind_place(standing: &Standing<'_>) -> u8
     ensures { result ≡ kind_place (seen standing.now) }
 {
     match standing {
         Standing::Size(_) => 0,
         Standing::Text(_) => 1,
-        Standing::Key(_, _) => 2,
+        Standing::Key(_, _) | Standing::LongKey(_) => 2,
         Standing::Nothing => 3,
     }
 }

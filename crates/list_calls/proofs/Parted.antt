@@ -8,7 +8,7 @@ use Rattle.tracker_calls.specs.declared.call.Part.{Part}
 pub part_of-map : {X Y : Type 0} (f : X → Y) (part : Part) (xs : List X) → part_of part (map f xs) ≡ map f (part_of part xs)
 part_of-map f part xs = ap (take part.count) (drop-map f part.from xs) ∙ take-map f part.count (drop part.from xs)
 
-map-map : {X Y Z : Type 0} (g : Y → Z) (f : X → Y) (xs : List X) → map g (map f xs) ≡ map (λ x. g (f x)) xs
+pub map-map : {X Y Z : Type 0} (g : Y → Z) (f : X → Y) (xs : List X) → map g (map f xs) ≡ map (λ x. g (f x)) xs
 map-map g f [] = refl
 map-map g f (x ∷ xs) = ap (λ v. g (f x) ∷ v) (map-map g f xs)
 

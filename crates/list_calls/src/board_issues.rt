@@ -5,7 +5,8 @@ ghost use Rattle.tracker_state.specs.Plan.{IsPrepared};
 
 use crate::check::{filter_numbered, known_board};
 use crate::filter_issues::shown;
-use crate::listing::{count_of, put_by_rank};
+use crate::in_order::put_by_rank;
+use crate::listing::count_of;
 use board::Board;
 use change_history::Issue;
 use fields::{BoardNo, FieldNo, Memory, Names, Status, Text, UserNo, Value};
@@ -43,7 +44,7 @@ fn told(
 {
     let mut issues = issues_of(alloc, state, caller, board)?;
     let total = count_of(&issues);
-    put_by_rank(state, &mut issues)?;
+    put_by_rank(alloc, state, &mut issues)?;
     let columns = columns(
         alloc,
         state.setup().status.as_slice(),

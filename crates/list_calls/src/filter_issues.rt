@@ -9,7 +9,8 @@ ghost use Rattle.list_calls.specs.Found.{browsed};
 ghost use Rattle.tracker_state.specs.State.{saved_as};
 
 use crate::check::known_filter;
-use crate::listing::{count_of, keys_of, put_in_order};
+use crate::in_order::put_in_order;
+use crate::listing::{count_of, keys_of};
 use change_history::Issue;
 use fields::{FilterNo, IssueNo, Memory, Permission, UserNo};
 use std::alloc::Global;
@@ -50,7 +51,7 @@ fn told(
     state.have_seen();
     let mut issues = shown(alloc, state, caller, filter)?;
     let total = count_of(&issues);
-    put_in_order(state, &filter.query.order, &mut issues)?;
+    put_in_order(alloc, state, &filter.query.order, &mut issues)?;
     let issues = keys_of(alloc, part_of(&issues, part))?;
     Ok(Answer::Filter { issues, total })
 }

@@ -6,6 +6,7 @@ mod check;
 pub mod drop_board;
 pub mod drop_filter;
 pub mod filter_issues;
+mod in_order;
 mod listing;
 pub mod make_board;
 mod rows;

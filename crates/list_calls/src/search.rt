@@ -6,11 +6,12 @@ ghost use Rattle.tracker_machine.specs.Search.{found, is_found, search_meaning, 
 ghost use Rattle.tracker_state.specs.Plan.{IsPrepared, cost_to_prepare};
 ghost use Rattle.tracker_state.specs.State.{query_of};
 
-use crate::listing::{count_of, keys_of, may_browse, put_in_order};
+use crate::in_order::put_in_order;
+use crate::listing::{count_of, keys_of, may_browse};
 use change_history::Issue;
 use fields::{Memory, Steps, UserNo};
 use jql_bound::Bound;
-use jql_eval::evaluate;
+use jql_eval::holds;
 use std::alloc::Global;
 use std::sync::ledger::Ledger;
 use tracker_calls::{Answer, Part, Refusal};
@@ -51,7 +52,7 @@ fn told<L: Ledger>(
 {
     let mut issues = found(alloc, state, caller, bound, steps)?;
     let total = count_of(&issues);
-    put_in_order(state, &bound.order, &mut issues)?;
+    put_in_order(alloc, state, &bound.order, &mut issues)?;
     let issues = keys_of(alloc, part_of(&issues, part))?;
     Ok(Answer::Search { issues, total })
 }
@@ -99,5 +100,5 @@ fn holds_now<L: Ledger>(state: &State, bound: &Bound, issue: &Issue, steps: &mut
         state.now.machine.moment (option_map view bound.now.cond) }
     ensures steps { steps.new ≡ steps.old + 1 }
 {
-    evaluate(bound, issue, state.context(), state.moment(), steps).holds()
+    holds(bound, issue, state.context(), state.moment(), steps)
 }
