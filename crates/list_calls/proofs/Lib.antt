@@ -1,6 +1,7 @@
 pub mod Checked
 pub mod Ops
 pub mod Parted
+pub mod Projects
 pub mod Saving
 pub mod Shown
 pub mod Sorting

@@ -1,8 +1,5 @@
-// Issues as answers list them: who may browse them, and in which order.
+// Issues as answers list them: in which order, and by which keys.
 ghost use Rattle.std.specs.Prelude.{◌≡◌, IfOk, OnOk, length, map};
-ghost use Rattle.field_values.specs.declared.rules.Permission.TheVariants.{Browse};
-ghost use Rattle.fields.specs.SetupParts.{may};
-ghost use Rattle.workflow.specs.Conditions.{project_number};
 ghost use Rattle.jql_meaning.specs.Order.{issue_cmp};
 ghost use Rattle.board.specs.Order.{places_before};
 ghost use Rattle.list_calls.specs.Sorting.{is_rank, sorts_by_rank};
@@ -10,24 +7,12 @@ ghost use Rattle.tracker_machine.specs.Search.{listed, ranks_cmp};
 ghost use Rattle.tracker_machine.specs.Boards.{by_rank};
 
 use change_history::Issue;
-use fields::{IssueNo, Memory, Names, Permission, Text, UserNo};
+use fields::{IssueNo, Memory, Names, Text};
 use jql_bound::{OrderBy, SortField};
 use jql_eval::compare;
 use std::alloc::Global;
 use std::cmp::Ordering;
 use tracker_state::State;
-use workflow::project_number;
-
-/// Whether the user may browse the issue.
-pub fn may_browse(state: &State, caller: UserNo, issue: &Issue) -> bool
-    ensures { result ≡ may state.now.machine.setup caller.0 Browse (project_number state.now.machine.setup issue.now.history) }
-{
-    state.may(
-        caller,
-        Permission::Browse,
-        project_number(state.setup(), issue),
-    )
-}
 
 /// Puts the issues in the order of the sort keys.
 pub fn put_in_order(state: &State, order: &OrderBy, issues: &mut Vec<&Issue>) -> Result<(), Memory>
