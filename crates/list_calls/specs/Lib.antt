@@ -1,3 +1,4 @@
+pub mod Browsing
 pub mod Found
 pub mod Rows
 pub mod Sorting

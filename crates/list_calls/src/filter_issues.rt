@@ -8,16 +8,16 @@ ghost use Rattle.tracker_state.specs.Plan.{IsPrepared};
 ghost use Rattle.list_calls.specs.Found.{browsed};
 ghost use Rattle.tracker_state.specs.State.{saved_as};
 
+use crate::browsing::may_browse;
 use crate::check::known_filter;
 use crate::in_order::put_in_order;
 use crate::listing::{count_of, keys_of};
 use change_history::Issue;
-use fields::{FilterNo, IssueNo, Memory, Permission, UserNo};
+use fields::{FilterNo, IssueNo, Memory, UserNo};
 use std::alloc::Global;
 use tracker_calls::{Answer, Part, Refusal};
 use tracker_filters::Filter;
 use tracker_state::{Prepared, State, part_of};
-use workflow::project_number;
 
 /// Tells a part of the issues of which the filter holds and which both the caller and its owner may browse, in the order that its
 /// text asks for.
@@ -99,14 +99,9 @@ fn browsed(state: &State, owner: UserNo, caller: UserNo, no: IssueNo) -> Option<
     ensures { option_map (λ i. i.now.history) result
         ≡ browsed state.now.machine owner.0 caller.0 no }
 {
-    let Some(issue) = state.issue_at((no.0 as usize).saturating_sub(1)) else {
-        return None;
-    };
-    // Its project is looked up once for both.
-    let project = project_number(state.setup(), issue);
-    if state.may(owner, Permission::Browse, project)
-        && state.may(caller, Permission::Browse, project)
-    {
+    let place = (no.0 as usize).saturating_sub(1);
+    let issue = state.issue_at(place)?;
+    if may_browse(state, owner, place) && may_browse(state, caller, place) {
         return Some(issue);
     }
     None

@@ -2,6 +2,7 @@
 #![tactic(auto)]
 
 pub mod board_issues;
+mod browsing;
 mod check;
 pub mod drop_board;
 pub mod drop_filter;

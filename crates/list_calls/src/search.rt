@@ -1,13 +1,15 @@
 // The call `search`: the issues of which a query holds now.
-ghost use Rattle.std.specs.Prelude.{◌≡◌, ◌+◌, ◌≤◌, IfOk, length, map, option_map};
+ghost use Rattle.std.specs.Prelude.{◌≡◌, ◌+◌, ◌≤◌, IfOk, Some, length, map, option_map, slice_get};
 ghost use Rattle.jql_bound.specs.Condition.{view};
 ghost use Rattle.jql_meaning.specs.Truth.{query_holds};
 ghost use Rattle.tracker_machine.specs.Search.{found, is_found, search_meaning, search_answer, surroundings_in};
 ghost use Rattle.tracker_state.specs.Plan.{IsPrepared, cost_to_prepare};
 ghost use Rattle.tracker_state.specs.State.{query_of};
+ghost use Rattle.list_calls.specs.Browsing.{browsable};
 
+use crate::browsing::{browsable, is_browsable};
 use crate::in_order::put_in_order;
-use crate::listing::{count_of, keys_of, may_browse};
+use crate::listing::{count_of, keys_of};
 use change_history::Issue;
 use fields::{Memory, Steps, UserNo};
 use jql_bound::Bound;
@@ -57,8 +59,8 @@ fn told<L: Ledger>(
     Ok(Answer::Search { issues, total })
 }
 
-// The issues of which the query holds and which the caller may browse. Each is asked at most once.
-#[tactic(auto, unfolding(tracker_machine::specs::Search::found))]
+// The issues of which the query holds and which the caller may browse. Each is asked at most once; of each project it is asked once
+// whether the caller may browse it.
 fn found<'s, L: Ledger>(
     alloc: Global,
     state: &'s State,
@@ -69,9 +71,27 @@ fn found<'s, L: Ledger>(
     ensures found { IfOk result (λ issues. map (λ i. i.now.history) issues.items ≡ found state.now.machine caller.0 (option_map view bound.now.cond)) }
     ensures steps { steps.new ≤ steps.old + length state.now.machine.histories }
 {
+    let table = browsable(alloc, state.setup(), caller)?;
+    found_among(alloc, state, caller, &table, bound, steps)
+}
+
+// The same, by the table of the projects that the caller may browse.
+#[tactic(auto, unfolding(tracker_machine::specs::Search::found))]
+fn found_among<'s, L: Ledger>(
+    alloc: Global,
+    state: &'s State,
+    caller: UserNo,
+    table: &[bool],
+    bound: &Bound,
+    steps: &mut Steps<L>,
+) -> Result<Vec<&'s Issue>, Memory>
+    requires { table.now ≡ browsable state.now.machine.setup caller.0 }
+    ensures found { IfOk result (λ issues. map (λ i. i.now.history) issues.items ≡ found state.now.machine caller.0 (option_map view bound.now.cond)) }
+    ensures steps { steps.new ≤ steps.old + length state.now.machine.histories }
+{
     let mut issues = Vec::new(alloc);
-    for issue in state.issues() {
-        if is_found(state, caller, bound, issue, steps) {
+    for (place, issue) in state.issues().iter().enumerate() {
+        if is_found(state, caller, table, bound, place, issue, steps) {
             issues.push(issue)?;
         }
     }
@@ -81,14 +101,18 @@ fn found<'s, L: Ledger>(
 fn is_found<L: Ledger>(
     state: &State,
     caller: UserNo,
+    table: &[bool],
     bound: &Bound,
+    place: usize,
     issue: &Issue,
     steps: &mut Steps<L>,
 ) -> bool
+    requires table { table.now ≡ browsable state.now.machine.setup caller.0 }
+    requires at { slice_get state.now.machine.histories place ≡ Some issue.now.history }
     ensures found { result ≡ is_found state.now.machine caller.0 (option_map view bound.now.cond) issue.now.history }
     ensures steps { steps.new ≤ steps.old + 1 }
 {
-    if !may_browse(state, caller, issue) {
+    if !is_browsable(state, caller, table, place) {
         return false;
     }
     holds_now(state, bound, issue, steps)

@@ -1,5 +1,6 @@
 -- The project of a new issue's key.
-use Rattle.std.proofs.Common.{◌≡◌, ◌==◌, ℕ, ◌<◌, Bool, true, false, List, [], ◌∷◌, ◌++◌, length, map, slice_get, Option, Some, option_map, unwrap_or, bytes_eq, refl, sym, ap, ◌∙◌, arith, decimal}
+use Rattle.std.proofs.Common.{◌≡◌, ◌==◌, ℕ, ◌<◌, Bool, true, false, List, [], ◌∷◌, ◌++◌, length, map, slice_get, Option, Some, option_map, unwrap_or, bytes_eq, nat_lt, refl, sym, ap, ◌∙◌, arith, decimal, lt-ltb, length-append}
+use Rattle.std.specs.Prelude.{option_and_then}
 use Rattle.std.specs.List.{list_all, position_or_len}
 use Rattle.std.specs.Int.{is_in_range}
 use Rattle.std.specs.Option.{option_map_or}
@@ -10,11 +11,14 @@ use Rattle.std.proofs.lemmas.Slice.Eq.{bytes_eq-Decides}
 use Rattle.std.proofs.Math.Seq.{take-append_seam}
 use Rattle.field_values.specs.declared.parts.Project.{Project}
 use Rattle.field_values.specs.Parts.{Parts}
+use Rattle.field_forms.specs.Cuts.{cut_at}
 use Rattle.field_forms.specs.Names.{place_named, is_project_key}
 use Rattle.fields.specs.Sound.{IsSound}
 use Rattle.fields.specs.Naming.{name_at, key_of}
 use Rattle.fields.proofs.PlaceNames.{at_place, projects_are_found}
+use Rattle.change_history.specs.History.{History}
 use Rattle.jql_meaning.specs.Comparison.{project_of}
+use Rattle.workflow.specs.Conditions.{project_number}
 use Rattle.tracker_machine.specs.Known.{project_keys}
 use Rattle.tracker_machine.proofs.Settled as settled
 
@@ -31,6 +35,14 @@ hyphen_at (letter ∷ letters) rest all =
 project_of_letters : (letters rest : List ℕ) → list_all (λ b. is_in_range 65 90 b) letters ≡ true → project_of (letters ++ 45 ∷ rest) ≡ letters
 project_of_letters letters rest all =
     rw (hyphen_at letters rest all) (take-append_seam letters (45 ∷ rest))
+
+-- what is asked of the text before the first hyphen is asked of them
+of_letters : (f : List ℕ → Option ℕ) (letters rest : List ℕ) → list_all (λ b. is_in_range 65 90 b) letters ≡ true
+    → option_and_then (λ parts. f parts.0) (cut_at 45 (letters ++ 45 ∷ rest)) ≡ f letters
+of_letters f letters rest all =
+    let longer = length-append letters (45 ∷ rest) in
+    let inside : nat_lt (length letters) (length (letters ++ 45 ∷ rest)) ≡ true = lt-ltb _ _ (omega (arith, longer)) in
+    rw (hyphen_at letters rest all) (rw inside (ap f (take-append_seam letters (45 ∷ rest))))
 
 key_at : (ps : List Project) (k : ℕ) (p : Project) → slice_get ps k ≡ Some p → slice_get (map (λ q. q.key) ps) k ≡ Some p.key
 key_at ps k p at = slice_get-map (λ (q : Project). q.key) ps k ∙ ap (λ o. option_map (λ (q : Project). q.key) o) at
@@ -64,3 +76,17 @@ module _ (setup : Parts) (sound : IsSound setup) where
       ap (λ name. bytes_eq name p.key) is ∙ same_truth (bytes_eq q.key p.key) (j == k)
       (λ same. eq-eqb j k (one_place j k p q at q_at ((bytes_eq-Decides q.key p.key).0 same)))
       (λ same. (bytes_eq-Decides q.key p.key).1 (ap (λ (o : Option Project). option_map_or (λ (r : Project). r.key) o []) (sym q_at ∙ ap (slice_get setup.project) (sym (eqb-true j k same)) ∙ at)))
+
+  -- and its number is that place
+  pub own_project : (k number : ℕ) → k < length setup.project → (h : History) → h.key ≡ key_of (name_at (project_keys setup) k) number → project_number setup h ≡ Some k
+  unfolding project_number
+  own_project k number in' h key =
+      let found = settled.at_place setup.project k in' in
+      let q = found.0 in
+      let q_at = found.1 in
+      let named : name_at (project_keys setup) k ≡ q.key = ap (λ o. unwrap_or o []) (key_at setup.project k q q_at) in
+      let formed : is_project_key q.key ≡ true = at_place is_project_key (project_keys setup) k q.key sound.keys.formed (key_at setup.project k q q_at) in
+      let letters = (and_parts _ (list_all (λ b. is_in_range 65 90 b) q.key) formed).1 in
+      ap (λ (text : List ℕ). option_and_then (λ parts. place_named parts.0 (project_keys setup)) (cut_at 45 text)) (key ∙ ap (λ name. key_of name number) named)
+      ∙ of_letters (λ name. place_named name (project_keys setup)) q.key (decimal number) letters
+      ∙ place_is k q q_at

@@ -1,4 +1,5 @@
-// The issues, found by place and by key, with running totals of their entries and text bytes, and with how many each project has.
+// The issues, found by place and by key, with running totals of their entries and text bytes, with how many each project has, and with
+// the project of each.
 ghost use Rattle.std.specs.Prelude.{◌≡◌, ◌≤◌, ◌<◌, ◌+◌, ◌-◌, ◌^◌, ◌∷◌, ◌++◌, [], length, slice_get, slice_set, option_copied, string_bytes, IfOk, OnOk, OnErr, IfSome, vec_len, vec_capacity, List, ℕ, Some, None, if◌then◌else◌, sum_by};
 ghost use Rattle.std.specs.Option.{option_or};
 ghost use Rattle.std.specs.Str.{bytes_eq};
@@ -15,14 +16,16 @@ use std::alloc::Global;
 use std::collections::HashMap;
 use std::marker::Model;
 
-/// The issues by place from 0. Contracts see them as a list, and beside it how many more there is room for, and how many each
-/// project has.
+/// The issues by place from 0. Contracts see them as a list, and beside it how many more there is room for, how many each project
+/// has, and which project each is of.
 #[derive(Drop)]
 pub struct Issues {
     list: Vec<Issue>,
     by_key: HashMap<String, usize>,
     // By the projects' places.
     counts: Vec<u32>,
+    // By the issues' places.
+    projects: Vec<ProjectNo>,
     entries: usize,
     bytes: u64,
     room: usize,
@@ -34,21 +37,31 @@ impl Model for Issues {
 
     ghost Value = { Shelf };
 
-    ghost view = { λ i. record { kept = i.list.items; room = i.room; counts = i.counts.items } };
+    ghost view = { λ i. record {
+      kept = i.list.items;
+      room = i.room;
+      tally = record { counts = i.counts.items; projects = i.projects.items };
+    } };
 
-    ghost invariant = { λ i. AreIndexed (histories_of i.list.items) i.by_key i.entries i.bytes i.room (vec_len i.list) (vec_capacity i.list) };
+    ghost invariant = { λ i. AreIndexed (histories_of i.list.items) i.by_key i.entries i.bytes i.room
+        (vec_len i.list) (vec_capacity i.list) (vec_len i.projects) (vec_capacity i.projects) };
 }
 
 impl Issues {
     /// No issue of these projects.
     pub fn new(alloc: Global, projects: &[Project]) -> Result<Issues, Memory>
-        ensures { IfOk result (λ issues. issues ≡ record { kept = []; room = 0; counts = counts_of projects.now [] }) }
+        ensures { IfOk result (λ issues. issues ≡ record {
+          kept = [];
+          room = 0;
+          tally = record { counts = counts_of projects.now []; projects = [] };
+        }) }
     {
         let counts = no_counts(alloc, projects)?;
         Ok(Issues {
             list: Vec::new(alloc),
             by_key: HashMap::new(alloc),
             counts,
+            projects: Vec::new(alloc),
             entries: 0,
             bytes: 0,
             room: 0,
@@ -64,10 +77,17 @@ impl Issues {
 
     /// How many issues the project at a place has.
     pub fn count_in(&self, project: ProjectNo) -> u32
-        requires { project.0 < length self.now.counts }
-        ensures { Some result ≡ slice_get self.now.counts project.0 }
+        requires { project.0 < length self.now.tally.counts }
+        ensures { Some result ≡ slice_get self.now.tally.counts project.0 }
     {
         self.counts[usize::from(project.0)]
+    }
+
+    /// The project of the issue at a place.
+    pub fn project_at(&self, place: usize) -> Option<ProjectNo>
+        ensures { result ≡ slice_get self.now.tally.projects place }
+    {
+        self.projects.get(place).copied()
     }
 
     /// How many entries all of them have.
@@ -116,11 +136,12 @@ impl Issues {
     /// Makes room for one more issue, or leaves all as it is.
     pub fn reserve(&mut self) -> Result<(), Memory>
         ensures kept { self.new.kept ≡ self.old.kept }
-        ensures counts { self.new.counts ≡ self.old.counts }
+        ensures tally { self.new.tally ≡ self.old.tally }
         ensures ok { OnOk result (self.new ≡ record self.old { room = 1 }) }
         ensures err { OnErr result (self.new ≡ self.old) }
     {
         self.list.reserve(1)?;
+        self.projects.reserve(1)?;
         self.by_key.reserve(1)?;
         self.room = 1;
         Ok(())
@@ -129,20 +150,22 @@ impl Issues {
     /// Puts an issue of a project at the end, whose key's text and text bytes are given too. It takes no memory.
     pub fn push(&mut self, project: ProjectNo, key: String, issue: Issue, bytes: u64)
         requires room { 1 ≤ self.old.room }
-        requires there { project.0 < length self.old.counts }
-        requires countable { IfSome (slice_get self.old.counts project.0) (λ n. n + 1 < 2 ^ 32) }
+        requires there { project.0 < length self.old.tally.counts }
+        requires countable { IfSome (slice_get self.old.tally.counts project.0) (λ n. n + 1 < 2 ^ 32) }
         requires key { string_bytes key ≡ issue.history.key }
         requires bytes { bytes ≡ history_bytes issue.history }
         requires few { entries_kept (histories_of self.old.kept) + length issue.history.entries < 2 ^ 64 }
         requires light { bytes_kept (histories_of self.old.kept) + bytes < 2 ^ 64 }
         ensures kept { self.new.kept ≡ self.old.kept ++ issue ∷ [] }
-        ensures counts { IfSome (slice_get self.old.counts project.0) (λ n.
-            self.new.counts ≡ slice_set self.old.counts project.0 (n + 1)) }
+        ensures counts { IfSome (slice_get self.old.tally.counts project.0) (λ n.
+            self.new.tally.counts ≡ slice_set self.old.tally.counts project.0 (n + 1)) }
+        ensures projects { self.new.tally.projects ≡ self.old.tally.projects ++ project ∷ [] }
         ensures room { self.new.room ≡ self.old.room - 1 }
     {
         let place = self.list.len();
         index_key(&mut self.by_key, key, place);
         count_one(&mut self.counts, project);
+        note_project(&mut self.projects, project);
         self.room -= 1;
         self.entries += issue.entries();
         self.bytes += bytes;
@@ -156,7 +179,7 @@ impl Issues {
             self.new ≡ record self.old { kept = slice_set self.old.kept place (record i { room = n }) })) }
         ensures err { OnErr result (self.new ≡ self.old) }
         ensures room { self.new.room ≡ self.old.room }
-        ensures counts { self.new.counts ≡ self.old.counts }
+        ensures tally { self.new.tally ≡ self.old.tally }
         ensures histories { histories_of self.new.kept ≡ histories_of self.old.kept }
     {
         self.list[place].reserve(n)
@@ -173,7 +196,7 @@ impl Issues {
         ensures kept { IfSome (slice_get self.old.kept place) (λ i.
             self.new.kept ≡ slice_set self.old.kept place (with_entries i group.entries)) }
         ensures room { self.new.room ≡ self.old.room }
-        ensures counts { self.new.counts ≡ self.old.counts }
+        ensures tally { self.new.tally ≡ self.old.tally }
     {
         self.entries += group.entries.as_slice().len();
         self.bytes += bytes;
@@ -223,6 +246,17 @@ fn put_issue(list: &mut Vec<Issue>, issue: Issue)
     ensures capacity { vec_capacity list.old ≤ vec_capacity list.new }
 {
     let Ok(()) = list.push(issue) else {
+        unreachable!()
+    };
+}
+
+fn note_project(projects: &mut Vec<ProjectNo>, project: ProjectNo)
+    requires { vec_len projects.old + 1 ≤ vec_capacity projects.old }
+    ensures items { projects.new.items ≡ projects.old.items ++ project ∷ [] }
+    ensures len { vec_len projects.new ≡ vec_len projects.old + 1 }
+    ensures capacity { vec_capacity projects.old ≤ vec_capacity projects.new }
+{
+    let Ok(()) = projects.push(project) else {
         unreachable!()
     };
 }

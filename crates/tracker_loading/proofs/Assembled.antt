@@ -37,10 +37,10 @@ module _ (base : Base) (given : Given) (d : Derived) where
 
   -- and they agree
   pub parts_agree : IsTracker (made_with base given) → IsWhole (made_with base given) base given
-      → IsDerived (made_with base given) given.filters.items d → IsState (machine_with base d) base.issues.counts d.filters d.work d.context
+      → IsDerived (made_with base given) given.filters.items d → IsState (machine_with base d) base.issues.tally d.filters d.work d.context
   parts_agree tracker making is =
       let m = made_with base given in
-      subst (λ (x : Machine). IsState x base.issues.counts d.filters d.work d.context) (sym (as_made is)) (record {
+      subst (λ (x : Machine). IsState x base.issues.tally d.filters d.work d.context) (sym (as_made is)) (record {
         counted = making.counted;
         few_changes = omega (arith, tracker.numbered, tracker.few_issues, tracker.few_entries, few_groups m.histories);
         tracker = tracker;

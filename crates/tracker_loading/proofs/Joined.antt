@@ -1,5 +1,5 @@
 -- What a tracker in the making keeps true of itself, as parts join it.
-use Rattle.std.proofs.Common.{◌≡◌, ℕ, zero, suc, ◌+◌, ◌<◌, ◌≤◌, inl, List, [], ◌∷◌, ◌++◌, length, slice_get, set, Some, IfSome, bytes_eq, refl, sym, ap, ◌∙◌, subst, arith}
+use Rattle.std.proofs.Common.{◌≡◌, ℕ, zero, suc, ◌+◌, ◌<◌, ◌≤◌, inl, List, [], ◌∷◌, ◌++◌, length, slice_get, set, Some, IfSome, refl, sym, ap, ◌∙◌, subst, arith}
 use Rattle.std.specs.Prelude.{Bool, true, false, Result, Ok, Err, IfOk, OnErr, if◌then◌else◌}
 use Rattle.std.specs.List.{All}
 use Rattle.std.specs.List.Sorted.{IsPermutation}
@@ -9,15 +9,14 @@ use Rattle.std.proofs.lemmas.List.Sums.{sum_by-cons}
 use Rattle.std.proofs.lemmas.List.Elements.{All-push, All-weaker}
 use Rattle.field_values.specs.declared.numbers.GroupNo.{GroupNo}
 use Rattle.field_values.specs.declared.numbers.IssueNo.{IssueNo}
+use Rattle.field_values.specs.declared.numbers.ProjectNo.{ProjectNo}
 use Rattle.field_values.specs.declared.numbers.UserNo.{UserNo}
 use Rattle.fields.specs.Sound.{IsSound}
-use Rattle.fields.specs.Naming.{name_at}
 use Rattle.rising_numbers.specs.ByNumber.{put_by_number}
 use Rattle.rising_numbers.proofs.ByNumber.{rise_put}
 use Rattle.change_history.specs.declared.entry.Entry.{Entry}
 use Rattle.change_history.specs.declared.entry.Group.{Group}
 use Rattle.change_history.specs.History.{History, RoomyHistory, present}
-use Rattle.jql_meaning.specs.Comparison.{project_of}
 use Rattle.rank_strings.specs.Rank.{RankParts, IsRank}
 use Rattle.tracker_filters.specs.declared.filter.Filter.{Filter}
 use Rattle.tracker_filters.specs.Saved.{number}
@@ -25,15 +24,13 @@ use Rattle.tracker_machine.specs.Machine.{Machine}
 use Rattle.tracker_machine.specs.Checks.{entries_kept}
 use Rattle.tracker_machine.specs.Chronicle.{HasEntry}
 use Rattle.tracker_machine.specs.Effect.{longer, grown, with_new_rank, with_group_members, regrouped}
-use Rattle.tracker_machine.specs.Known.{project_keys, issues_of}
 use Rattle.tracker_machine.proofs.Regrouped.{asked_regrouped}
 use Rattle.tracker_machine.proofs.Settled.{from_found, to_found}
 use Rattle.tracker_machine.proofs.Saved.{all_put}
-use Rattle.tracker_issues.specs.Counts.{counts_of}
+use Rattle.tracker_issues.specs.Counts.{Tally, IsTally}
 use Rattle.tracker_issues.specs.Issues.{Shelf, histories_of, with_entries}
 use Rattle.tracker_issues.proofs.Histories.{histories_set, set_here}
-use Rattle.tracker_issues.proofs.Counts.{counts_of-push, counts_of-set, count_here}
-use Rattle.tracker_issues.proofs.Projects.{only_project}
+use Rattle.tracker_issues.proofs.Tallies.{tally_push, tally_set, tally_beside}
 use Rattle.tracker_rows.specs.Rules.{IsInTurn, MayBeGroup}
 use Rattle.tracker_state.specs.State.{IsBound, saved_filters}
 use Rattle.tracker_loading.specs.Making.{IsMaking, order_of}
@@ -78,22 +75,16 @@ none_before (g ∷ gs) change none (suc k) n at h here has =
 
 -- ---- an issue
 
-module _ (m : Machine) (counts new : List ℕ) (ranks : List RankParts) (filters : List Filter) (taken : List RankParts) (group_at : ℕ)
-    (is : IsMaking m counts ranks filters taken group_at) where
-  pub issue_made : (h : History) (place : ℕ) → IsSound m.setup → IsKeyAt m.setup m.histories h.key place → h.entries ≡ []
-      → All (λ g. g.change < h.change) m.histories → IsInTurn m h.change h.at → IfSome (slice_get counts place) (λ n. new ≡ set counts place (n + 1))
+module _ (m : Machine) (tally new : Tally) (ranks : List RankParts) (filters : List Filter) (taken : List RankParts) (group_at : ℕ)
+    (is : IsMaking m tally ranks filters taken group_at) where
+  pub issue_made : (h : History) (project : ProjectNo) → IsSound m.setup → IsKeyAt m.setup m.histories h.key project.0 → h.entries ≡ []
+      → All (λ g. g.change < h.change) m.histories → IsInTurn m h.change h.at
+      → IfSome (slice_get tally.counts project.0) (λ n. new.counts ≡ set tally.counts project.0 (n + 1)) → new.projects ≡ tally.projects ++ project ∷ []
       → IsMaking (record m { histories = m.histories ++ h ∷ [] }) new ranks filters taken group_at
-  issue_made h place sound key none rising turn count =
-      let ps = m.setup.project in
+  issue_made h project sound key none rising turn count noted =
       let hs = m.histories in
-      let number : ℕ = issues_of (name_at (project_keys m.setup) place) hs in
-      let here : slice_get (counts_of ps hs) place ≡ Some number = count_here ps hs place key.there in
-      let more : new ≡ set counts place (number + 1) =
-      from_found (slice_get counts place) number (λ n. new ≡ set counts place (n + 1)) (ap (λ (ns : List ℕ). slice_get ns place) is.counted ∙ here) count in
       record {
-        counted = more ∙ ap (λ (ns : List ℕ). set ns place (number + 1)) is.counted
-            ∙ counts_of-push ps hs h place number
-            (λ j p at. ap (λ k. bytes_eq (project_of k) p.key) key.is ∙ only_project m.setup sound place (number + 1) key.there j p at) here;
+        counted = tally_push m.setup hs h tally new project sound is.counted key.there key.is count noted;
         permuted = is.permuted;
         bound = is.bound;
         rising = is.rising;
@@ -107,10 +98,11 @@ module _ (m : Machine) (counts new : List ℕ) (ranks : List RankParts) (filters
 
   -- ---- a group
 
-  pub group_made : (place : ℕ) (h : History) (g : Group) → slice_get m.histories place ≡ Some h → MayBeGroup m h g → group_at ≤ g.at → new ≡ counts
+  pub group_made : (place : ℕ) (h : History) (g : Group) → slice_get m.histories place ≡ Some h → MayBeGroup m h g → group_at ≤ g.at → new ≡ tally
       → IsMaking (record m { histories = set m.histories place (longer h g.entries) }) new ranks filters taken g.at
   group_made place h g there may le same = record {
-    counted = same ∙ is.counted ∙ sym (counts_of-set m.setup.project m.histories place h (longer h g.entries) there refl);
+    counted = subst (λ (t : Tally). IsTally t m.setup (set m.histories place (longer h g.entries))) (sym same)
+        (tally_set m.setup m.histories tally place h (longer h g.entries) there refl is.counted);
     permuted = is.permuted;
     bound = is.bound;
     rising = is.rising;
@@ -149,10 +141,10 @@ grown_at hs place h es there = ap (λ o. option_map_or (λ (g : History). set hs
 
 -- ---- a rank
 
-pub rank_made : (m : Machine) (counts : List ℕ) (ranks : List RankParts) (filters : List Filter) (taken new : List RankParts) (group_at : ℕ) (issue : IssueNo) (rank : RankParts)
-    → IsMaking m counts ranks filters taken group_at → issue.0 ≡ length m.order + 1 → IsRank rank → AreTaken (ranks ++ rank ∷ []) new
-    → IsMaking (with_new_rank m issue rank) counts (ranks ++ rank ∷ []) filters new group_at
-rank_made m counts ranks filters taken new group_at issue rank is next one are = record {
+pub rank_made : (m : Machine) (tally : Tally) (ranks : List RankParts) (filters : List Filter) (taken new : List RankParts) (group_at : ℕ) (issue : IssueNo) (rank : RankParts)
+    → IsMaking m tally ranks filters taken group_at → issue.0 ≡ length m.order + 1 → IsRank rank → AreTaken (ranks ++ rank ∷ []) new
+    → IsMaking (with_new_rank m issue rank) tally (ranks ++ rank ∷ []) filters new group_at
+rank_made m tally ranks filters taken new group_at issue rank is next one are = record {
   counted = is.counted;
   permuted = permuted_more ranks m.order issue is.permuted next rank;
   bound = is.bound;
@@ -163,14 +155,14 @@ rank_made m counts ranks filters taken new group_at issue rank is next one are =
   are_taken = are;
 }
 
-pub rank_joined : {E : Type 0} (m : Machine) (counts : List ℕ) (ranks items : List RankParts) (filters : List Filter) (taken new : List RankParts) (group_at : ℕ) (issue : IssueNo) (rank : RankParts)
-    (result : Result Bool E) → IsMaking m counts ranks filters taken group_at → m.order ≡ order_of ranks → issue.0 ≡ length m.order + 1 → IsRank rank
+pub rank_joined : {E : Type 0} (m : Machine) (tally : Tally) (ranks items : List RankParts) (filters : List Filter) (taken new : List RankParts) (group_at : ℕ) (issue : IssueNo) (rank : RankParts)
+    (result : Result Bool E) → IsMaking m tally ranks filters taken group_at → m.order ≡ order_of ranks → issue.0 ≡ length m.order + 1 → IsRank rank
     → IfOk result (λ is_new. items ≡ (if is_new then ranks ++ rank ∷ [] else ranks)) → OnErr result (items ≡ ranks) → AreTaken items new
-    → IsMaking (record m { order = order_of items }) counts items filters new group_at
-rank_joined {E = E} m counts ranks items filters taken new group_at issue rank result is own next one ok err are = by result ok err
+    → IsMaking (record m { order = order_of items }) tally items filters new group_at
+rank_joined {E = E} m tally ranks items filters taken new group_at issue rank result is own next one ok err are = by result ok err
   where
-    kept : items ≡ ranks → IsMaking (record m { order = order_of items }) counts items filters new group_at
-    kept same = subst (λ (rs : List RankParts). AreTaken rs new → IsMaking (record m { order = order_of rs }) counts rs filters new group_at) (sym same)
+    kept : items ≡ ranks → IsMaking (record m { order = order_of items }) tally items filters new group_at
+    kept same = subst (λ (rs : List RankParts). AreTaken rs new → IsMaking (record m { order = order_of rs }) tally rs filters new group_at) (sym same)
         (λ now. record {
           counted = is.counted;
           permuted = subst (IsPermutation (numbered_from 1 ranks)) own is.permuted;
@@ -182,26 +174,26 @@ rank_joined {E = E} m counts ranks items filters taken new group_at issue rank r
           are_taken = now;
         }) are
 
-    more : items ≡ ranks ++ rank ∷ [] → IsMaking (record m { order = order_of items }) counts items filters new group_at
+    more : items ≡ ranks ++ rank ∷ [] → IsMaking (record m { order = order_of items }) tally items filters new group_at
     more is_more =
         let moved : order_of items ≡ after_move m.order (issue, rank) =
         ap order_of is_more ∙ order_of-push ranks issue rank (next_of_ranks ranks m.order issue is.permuted next) ∙ ap (λ (ps : List Pair). after_move ps (issue, rank)) (sym own) in
-        subst (λ (ps : List Pair). IsMaking (record m { order = ps }) counts items filters new group_at) (sym moved)
-        (subst (λ (rs : List RankParts). IsMaking (with_new_rank m issue rank) counts rs filters new group_at) (sym is_more)
-        (rank_made m counts ranks filters taken new group_at issue rank is next one (subst (λ (rs : List RankParts). AreTaken rs new) is_more are)))
+        subst (λ (ps : List Pair). IsMaking (record m { order = ps }) tally items filters new group_at) (sym moved)
+        (subst (λ (rs : List RankParts). IsMaking (with_new_rank m issue rank) tally rs filters new group_at) (sym is_more)
+        (rank_made m tally ranks filters taken new group_at issue rank is next one (subst (λ (rs : List RankParts). AreTaken rs new) is_more are)))
 
     by : (r : Result Bool E) → IfOk r (λ is_new. items ≡ (if is_new then ranks ++ rank ∷ [] else ranks)) → OnErr r (items ≡ ranks)
-        → IsMaking (record m { order = order_of items }) counts items filters new group_at
+        → IsMaking (record m { order = order_of items }) tally items filters new group_at
     by (Ok true) ok err = more ok
     by (Ok false) ok err = kept ok
     by (Err e) ok err = kept err
 
 -- ---- a filter
 
-pub filter_made : (m : Machine) (counts : List ℕ) (ranks : List RankParts) (filters : List Filter) (taken : List RankParts) (group_at : ℕ) (f : Filter)
-    → IsMaking m counts ranks filters taken group_at → 1 ≤ f.no.0 → IsBound m.setup f
-    → IsMaking (record m { filters = saved_filters (put_by_number number f filters) }) counts ranks (put_by_number number f filters) taken group_at
-filter_made m counts ranks filters taken group_at f is positive bound = record {
+pub filter_made : (m : Machine) (tally : Tally) (ranks : List RankParts) (filters : List Filter) (taken : List RankParts) (group_at : ℕ) (f : Filter)
+    → IsMaking m tally ranks filters taken group_at → 1 ≤ f.no.0 → IsBound m.setup f
+    → IsMaking (record m { filters = saved_filters (put_by_number number f filters) }) tally ranks (put_by_number number f filters) taken group_at
+filter_made m tally ranks filters taken group_at f is positive bound = record {
   counted = is.counted;
   permuted = is.permuted;
   bound = all_put number (IsBound m.setup) f filters bound is.bound;
@@ -215,10 +207,10 @@ filter_made m counts ranks filters taken group_at f is positive bound = record {
 -- ---- the members of a group
 
 -- who is in a group doesn't matter to what filters ask for
-pub members_made : (m : Machine) (counts : List ℕ) (ranks : List RankParts) (filters : List Filter) (taken : List RankParts) (group_at : ℕ) (group : GroupNo) (members : List UserNo)
-    → IsMaking m counts ranks filters taken group_at → IsMaking (with_group_members m group members) counts ranks filters taken group_at
-members_made m counts ranks filters taken group_at group members is = record {
-  counted = is.counted;
+pub members_made : (m : Machine) (tally : Tally) (ranks : List RankParts) (filters : List Filter) (taken : List RankParts) (group_at : ℕ) (group : GroupNo) (members : List UserNo)
+    → IsMaking m tally ranks filters taken group_at → IsMaking (with_group_members m group members) tally ranks filters taken group_at
+members_made m tally ranks filters taken group_at group members is = record {
+  counted = tally_beside m.setup (regrouped m.setup group members) m.histories tally refl is.counted;
   permuted = is.permuted;
   bound = All-weaker (IsBound m.setup) (IsBound (regrouped m.setup group members))
       (λ f bound. asked_regrouped m.setup group members f.owner.0 f.text ∙ bound) filters is.bound;

@@ -4,7 +4,7 @@ use Rattle.std.specs.List.{All}
 use Rattle.std.specs.List.Sorted.{IsPermutation}
 use Rattle.jql_meaning.specs.Surroundings.{surroundings_of}
 use Rattle.tracker_ranks.specs.Loaded.{numbered_from}
-use Rattle.tracker_issues.specs.Counts.{counts_of}
+use Rattle.tracker_issues.specs.Counts.{IsTally}
 use Rattle.tracker_filters.specs.declared.filter.Filter.{Filter}
 use Rattle.tracker_machine.specs.Machine.{Machine}
 use Rattle.tracker_machine.specs.Search.{surroundings_in}
@@ -22,8 +22,8 @@ made_with base given =
 
 -- what was made has all that a state needs
 pub record IsWhole (m : Machine) (base : Base) (given : Given) : Type 0 where
-  -- it counts the issues of each project
-  pub counted : base.issues.counts ≡ counts_of m.setup.project m.histories
+  -- it tallies the issues by projects
+  pub counted : IsTally base.issues.tally m.setup m.histories
   -- each issue has one of the ranks
   pub permuted : IsPermutation (numbered_from 1 given.ranks.items) m.order
   -- each filter asks for what its text asks for when its owner asks it

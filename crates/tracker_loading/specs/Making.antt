@@ -14,7 +14,7 @@ use Rattle.tracker_ranks.specs.Loaded.{numbered_from}
 use Rattle.tracker_boards.specs.Boards.{BoardList}
 use Rattle.tracker_filters.specs.declared.filter.Filter.{Filter}
 use Rattle.tracker_filters.specs.Saved.{number}
-use Rattle.tracker_issues.specs.Counts.{counts_of}
+use Rattle.tracker_issues.specs.Counts.{Tally, IsTally}
 use Rattle.tracker_issues.specs.Issues.{Shelf}
 use Rattle.tracker_keeper.specs.declared.part.Format.{Format}
 use Rattle.tracker_keeper.specs.declared.part.Format.TheVariants.{Second}
@@ -54,10 +54,10 @@ made_of setup balance change moment issues externals ranks sprints filters board
   boards = boards.boards;
 }
 
--- what one in the making keeps true of itself, where it counts so many issues of each project, has these ranks and filters, finds these
--- ranks taken, and notes this moment as that of the last change group
-pub record IsMaking (m : Machine) (counts : List ℕ) (ranks : List RankParts) (filters : List Filter) (taken : List RankParts) (group_at : ℕ) : Type 0 where
-  pub counted : counts ≡ counts_of m.setup.project m.histories
+-- what one in the making keeps true of itself, where it tallies issues by projects so, has these ranks and filters, finds these ranks
+-- taken, and notes this moment as that of the last change group
+pub record IsMaking (m : Machine) (tally : Tally) (ranks : List RankParts) (filters : List Filter) (taken : List RankParts) (group_at : ℕ) : Type 0 where
+  pub counted : IsTally tally m.setup m.histories
   -- each issue that has a rank has one
   pub permuted : IsPermutation (numbered_from 1 ranks) m.order
   -- each filter asks for what its text asks for when its owner asks it

@@ -66,7 +66,7 @@ fn put_together(base: Base, derived: Derived) -> State
     requires agree { surroundings_of derived.context
         ≡ record (surroundings_in (parts base.setup) []) { sprints = derived.context.sprints.items } }
     requires agreed { IsState (machine_with base derived)
-        base.issues.counts derived.filters derived.work derived.context }
+        base.issues.tally derived.filters derived.work derived.context }
     ensures { result.machine ≡ machine_with base derived }
 {
     let Base {

@@ -5,7 +5,7 @@ ghost use Rattle.fields.specs.Naming.{name_at};
 ghost use Rattle.jql_meaning.specs.Comparison.{project_of};
 ghost use Rattle.tracker_machine.specs.Known.{project_keys, issues_of};
 ghost use Rattle.tracker_machine.specs.Tracker.{IsNextKey};
-ghost use Rattle.tracker_issues.specs.Counts.{counts_of};
+ghost use Rattle.tracker_issues.specs.Counts.{IsTally};
 ghost use Rattle.tracker_issues.specs.Issues.{histories_of};
 ghost use Rattle.tracker_loading.specs.Rules.{IsKeyAt};
 
@@ -22,8 +22,7 @@ pub(crate) fn project_of_next(
     issues: &Issues,
     key: &str,
 ) -> Result<Option<ProjectNo>, Memory>
-    requires counted { issues.now.counts
-        ≡ counts_of (parts setup.now).project (histories_of issues.now.kept) }
+    requires counted { IsTally issues.now.tally (parts setup.now) (histories_of issues.now.kept) }
     requires few { length issues.now.kept ≤ 50_000 }
     ensures found { IfOk result (λ found. IfSome found (λ no.
         IsKeyAt (parts setup.now) (histories_of issues.now.kept) key.now no.0)) }
@@ -69,8 +68,7 @@ fn project_key(setup: &Setup, project: ProjectNo) -> &str
 
 // The number of the project's next issue.
 fn next_number(setup: &Setup, issues: &Issues, project: ProjectNo) -> u32
-    requires counted { issues.now.counts
-        ≡ counts_of (parts setup.now).project (histories_of issues.now.kept) }
+    requires counted { IsTally issues.now.tally (parts setup.now) (histories_of issues.now.kept) }
     requires few { length issues.now.kept ≤ 50_000 }
     requires there { project.0 < length (parts setup.now).project }
     ensures { result ≡ issues_of (name_at (project_keys (parts setup.now)) project.0)

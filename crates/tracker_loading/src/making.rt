@@ -69,7 +69,7 @@ impl Model for Making {
 
     ghost invariant = { λ m.
         IsMaking (made_of m.setup m.balance m.change m.moment m.issues m.externals m.ranks.items m.sprints m.filters.items m.boards)
-        m.issues.counts m.ranks.items m.filters.items (keys m.taken) m.group_at };
+        m.issues.tally m.ranks.items m.filters.items (keys m.taken) m.group_at };
 }
 
 impl Making {

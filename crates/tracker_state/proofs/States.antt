@@ -1,8 +1,9 @@
 -- What the state keeps true of itself, after each change.
-use Rattle.std.proofs.Common.{◌≡◌, ℕ, ◌+◌, ◌-◌, ◌<◌, ◌≤◌, List, [], ◌∷◌, ◌++◌, length, slice_get, set, bytes_eq, Option, Some, IfSome, refl, sym, ap, subst, ◌∙◌, arith}
+use Rattle.std.proofs.Common.{◌≡◌, ℕ, ◌+◌, ◌-◌, ◌<◌, ◌≤◌, List, [], ◌∷◌, ◌++◌, length, slice_get, set, Option, Some, IfSome, refl, sym, ap, subst, ◌∙◌, arith}
 use Rattle.std.specs.Prelude.{sum_by}
 use Rattle.std.specs.List.{All}
 use Rattle.field_values.specs.declared.numbers.GroupNo.{GroupNo}
+use Rattle.field_values.specs.declared.numbers.ProjectNo.{ProjectNo}
 use Rattle.field_values.specs.declared.numbers.UserNo.{UserNo}
 use Rattle.field_values.specs.Years.{last_second}
 use Rattle.change_history.specs.declared.entry.Entry.{Entry}
@@ -21,8 +22,7 @@ use Rattle.tracker_machine.specs.Search.{surroundings_in}
 use Rattle.tracker_machine.specs.SprintRules.{BringsSprints}
 use Rattle.fields.specs.Naming.{name_at}
 use Rattle.tracker_machine.specs.Checks.{entries_kept, bytes_kept, entry_bytes}
-use Rattle.jql_meaning.specs.Comparison.{project_of}
-use Rattle.tracker_machine.specs.Known.{project_keys, issues_of, next_key}
+use Rattle.tracker_machine.specs.Known.{project_keys, next_key}
 use Rattle.jql_bound.specs.declared.context.Context.{Context}
 use Rattle.jql_meaning.specs.Surroundings.{surroundings_of}
 use Rattle.sprints.specs.declared.sprint.Sprint.{Sprint}
@@ -38,11 +38,10 @@ use Rattle.tracker_machine.proofs.Saved.{all_then}
 use Rattle.tracker_machine.proofs.Settled.{from_found}
 use Rattle.tracker_machine.proofs.Regrouped.{asked_regrouped}
 use Rattle.tracker_machine.proofs.Tracker.{tracker_later, tracker_push, tracker_add, tracker_regrouped}
-use Rattle.tracker_issues.specs.Counts.{counts_of}
+use Rattle.tracker_issues.specs.Counts.{Tally}
 use Rattle.tracker_issues.specs.Issues.{with_entries}
 use Rattle.tracker_issues.proofs.Histories.{set_here, some_is}
-use Rattle.tracker_issues.proofs.Counts.{counts_of-push, counts_of-set, count_here}
-use Rattle.tracker_issues.proofs.Projects.{only_project}
+use Rattle.tracker_issues.proofs.Tallies.{tally_push, tally_set, tally_beside}
 
 -- filters have seen these histories at this moment, beside the same as others
 pub record See (before : WatchedFilters) (histories : List History) (moment : ℕ) (seen : WatchedFilters) : Type 0 where
@@ -51,9 +50,9 @@ pub record See (before : WatchedFilters) (histories : List History) (moment : �
   pub now : seen.moment ≡ moment
 
 -- time moves on
-pub state_later : (m : Machine) (counts : List ℕ) (w seen : WatchedFilters) (work : TrackedWork) (context : Context) (now : ℕ) → IsState m counts w work context
-    → m.moment ≤ now → now ≤ last_second → See w w.histories now seen → seen.filters ≡ w.filters → IsState (record m { moment = now }) counts seen work context
-state_later m counts w seen work context now is later timely see same = record {
+pub state_later : (m : Machine) (tally : Tally) (w seen : WatchedFilters) (work : TrackedWork) (context : Context) (now : ℕ) → IsState m tally w work context
+    → m.moment ≤ now → now ≤ last_second → See w w.histories now seen → seen.filters ≡ w.filters → IsState (record m { moment = now }) tally seen work context
+state_later m tally w seen work context now is later timely see same = record {
   counted = is.counted;
   few_changes = is.few_changes;
   tracker = tracker_later m now later timely is.tracker;
@@ -64,10 +63,10 @@ state_later m counts w seen work context now is later timely see same = record {
 }
 
 -- ranks, filters and boards become others
-pub state_beside : (m : Machine) (counts : List ℕ) (w seen : WatchedFilters) (work : TrackedWork) (context : Context) (order : List Pair) (balance : Balance) (filters : List SavedFilter) (boards : List Board)
-    → IsState m counts w work context → IsTracker (record m { order = order; balance = balance; filters = filters; boards = boards }) → See w w.histories w.moment seen → All (IsBound m.setup) seen.filters
-    → IsState (record m { order = order; balance = balance; filters = filters; boards = boards }) counts seen work context
-state_beside m counts w seen work context order balance filters boards is tracker see bound = record {
+pub state_beside : (m : Machine) (tally : Tally) (w seen : WatchedFilters) (work : TrackedWork) (context : Context) (order : List Pair) (balance : Balance) (filters : List SavedFilter) (boards : List Board)
+    → IsState m tally w work context → IsTracker (record m { order = order; balance = balance; filters = filters; boards = boards }) → See w w.histories w.moment seen → All (IsBound m.setup) seen.filters
+    → IsState (record m { order = order; balance = balance; filters = filters; boards = boards }) tally seen work context
+state_beside m tally w seen work context order balance filters boards is tracker see bound = record {
   counted = is.counted;
   few_changes = is.few_changes;
   tracker = tracker;
@@ -80,22 +79,15 @@ state_beside m counts w seen work context order balance filters boards is tracke
 -- ---- an issue
 
 -- an issue comes, of the project at a place
-pub state_push : (m : Machine) (counts new : List ℕ) (w seen : WatchedFilters) (work told : TrackedWork) (context : Context) (h : History) (rank : RankParts) (external : Option (List ℕ)) (place : ℕ) → IsSound m.setup → IsState m counts w work context
-    → MayOpen m h → IsNext m.order m.balance h.no rank → MayName m.externals external → place < length m.setup.project
-    → h.key ≡ next_key m (name_at (project_keys m.setup) place) → IfSome (slice_get counts place) (λ n. new ≡ set counts place (n + 1))
+pub state_push : (m : Machine) (tally new : Tally) (w seen : WatchedFilters) (work told : TrackedWork) (context : Context) (h : History) (rank : RankParts) (external : Option (List ℕ)) (project : ProjectNo) → IsSound m.setup → IsState m tally w work context
+    → MayOpen m h → IsNext m.order m.balance h.no rank → MayName m.externals external → project.0 < length m.setup.project
+    → h.key ≡ next_key m (name_at (project_keys m.setup) project.0) → IfSome (slice_get tally.counts project.0) (λ n. new.counts ≡ set tally.counts project.0 (n + 1)) → new.projects ≡ tally.projects ++ project ∷ []
     → See w (w.histories ++ h ∷ []) w.moment seen → seen.filters ≡ w.filters → told.seen ≡ with_histories work.seen (m.histories ++ h ∷ [])
     → IsState (with_issue m h rank external) new seen told context
-state_push m counts new w seen work told context h rank external place sound is may next named there key count see same tells =
+state_push m tally new w seen work told context h rank external project sound is may next named there key count noted see same tells =
     let tracker = tracker_push m h rank external is.tracker may next named in
-    let ps = m.setup.project in
-    let hs = m.histories in
-    let number = issues_of (name_at (project_keys m.setup) place) hs in
-    let here : slice_get (counts_of ps hs) place ≡ Some number = count_here ps hs place there in
-    let more : new ≡ set counts place (number + 1) =
-    from_found (slice_get counts place) number (λ n. new ≡ set counts place (n + 1)) (ap (λ (ns : List ℕ). slice_get ns place) is.counted ∙ here) count in
     record {
-      counted = more ∙ ap (λ (ns : List ℕ). set ns place (number + 1)) is.counted
-          ∙ counts_of-push ps hs h place number (λ j p at. ap (λ k. bytes_eq (project_of k) p.key) key ∙ only_project m.setup sound place (number + 1) there j p at) here;
+      counted = tally_push m.setup m.histories h tally new project sound is.counted there key count noted;
       few_changes = omega (arith, tracker.numbered, tracker.few_issues, tracker.few_entries, few_groups (m.histories ++ h ∷ []));
       tracker = tracker;
       seen = record { histories = see.known ∙ ap (λ (hs : List History). hs ++ h ∷ []) is.seen.histories; around = see.beside ∙ is.seen.around; moment = see.now ∙ is.seen.moment };
@@ -106,16 +98,16 @@ state_push m counts new w seen work told context h rank external place sound is 
 
 -- ---- a group
 
-pub state_add : (m : Machine) (counts : List ℕ) (w seen : WatchedFilters) (work told : TrackedWork) (context : Context) (k : ℕ) (h : History) (author : UserNo) (es : List Entry) → IsState m counts w work context
+pub state_add : (m : Machine) (tally : Tally) (w seen : WatchedFilters) (work told : TrackedWork) (context : Context) (k : ℕ) (h : History) (author : UserNo) (es : List Entry) → IsState m tally w work context
     → slice_get m.histories k ≡ Some h → MayAdd h (m.change + 1) m.moment author es → AllEntriesFit (names_in m.setup) es → AllSmall es → BringsSprints (length m.sprints) es → author.0 < length m.setup.users
     → entries_kept m.histories + length es ≤ 2_000_000 → bytes_kept m.histories + sum_by entry_bytes es ≤ 500_000_000
     → See w (set w.histories k (longer h es)) w.moment seen → seen.filters ≡ w.filters → told.seen ≡ with_histories work.seen (set m.histories k (longer h es))
-    → IsState (record m { change = m.change + 1; histories = set m.histories k (longer h es) }) counts seen told context
-state_add m counts w seen work told context k h author es is at may fit small brings user few light see same tells =
+    → IsState (record m { change = m.change + 1; histories = set m.histories k (longer h es) }) tally seen told context
+state_add m tally w seen work told context k h author es is at may fit small brings user few light see same tells =
     let new : History = longer h es in
     let tracker = tracker_add m k h author es is.tracker at may fit small brings user few light in
     record {
-      counted = is.counted ∙ sym (counts_of-set m.setup.project m.histories k h new at refl);
+      counted = tally_set m.setup m.histories tally k h new at refl is.counted;
       few_changes = omega (arith, tracker.numbered, tracker.few_issues, tracker.few_entries, few_groups (set m.histories k new));
       tracker = tracker;
       seen = record { histories = see.known ∙ ap (λ (hs : List History). set hs k new) is.seen.histories; around = see.beside ∙ is.seen.around; moment = see.now ∙ is.seen.moment };
@@ -127,10 +119,10 @@ state_add m counts w seen work told context k h author es is at may fit small br
 -- ---- sprints
 
 -- one is made, or comes to another state
-pub state_planned : (m : Machine) (counts : List ℕ) (w seen : WatchedFilters) (work told : TrackedWork) (context new : Context) (sprints : List Sprint) → IsState m counts w work context
+pub state_planned : (m : Machine) (tally : Tally) (w seen : WatchedFilters) (work told : TrackedWork) (context new : Context) (sprints : List Sprint) → IsState m tally w work context
     → IsTracker (record m { sprints = sprints }) → seen.histories ≡ w.histories → seen.moment ≡ w.moment → seen.filters ≡ w.filters → seen.around ≡ surroundings_of new
-    → surroundings_of new ≡ surroundings_in m.setup sprints → told.seen ≡ record work.seen { sprints = sprints } → IsState (record m { sprints = sprints }) counts seen told new
-state_planned m counts w seen work told context new sprints is tracker histories moment filters beside around tells = record {
+    → surroundings_of new ≡ surroundings_in m.setup sprints → told.seen ≡ record work.seen { sprints = sprints } → IsState (record m { sprints = sprints }) tally seen told new
+state_planned m tally w seen work told context new sprints is tracker histories moment filters beside around tells = record {
   counted = is.counted;
   few_changes = is.few_changes;
   tracker = tracker;
@@ -143,11 +135,11 @@ state_planned m counts w seen work told context new sprints is tracker histories
 -- ---- members
 
 -- a group comes to other members
-pub state_regrouped : (m : Machine) (counts : List ℕ) (w seen : WatchedFilters) (work : TrackedWork) (context new : Context) (group : GroupNo) (members : List UserNo) → IsState m counts w work context
+pub state_regrouped : (m : Machine) (tally : Tally) (w seen : WatchedFilters) (work : TrackedWork) (context new : Context) (group : GroupNo) (members : List UserNo) → IsState m tally w work context
     → MayHave m.setup group members → seen.histories ≡ w.histories → seen.moment ≡ w.moment → seen.filters ≡ w.filters → seen.around ≡ surroundings_of new
-    → surroundings_of new ≡ surroundings_in (regrouped m.setup group members) m.sprints → IsState (with_group_members m group members) counts seen work new
-state_regrouped m counts w seen work context new group members is may histories moment filters beside around = record {
-  counted = is.counted;
+    → surroundings_of new ≡ surroundings_in (regrouped m.setup group members) m.sprints → IsState (with_group_members m group members) tally seen work new
+state_regrouped m tally w seen work context new group members is may histories moment filters beside around = record {
+  counted = tally_beside m.setup (regrouped m.setup group members) m.histories tally refl is.counted;
   few_changes = is.few_changes;
   tracker = tracker_regrouped m group members is.tracker may;
   seen = record { histories = histories ∙ is.seen.histories; around = beside ∙ around; moment = moment ∙ is.seen.moment };
@@ -166,9 +158,9 @@ grown_is kept new k i found es in' at is there =
     some_is found (with_entries i es) (there ∙ ap (λ (xs : List RoomyHistory). slice_get xs k) (from_found (slice_get kept k) i (λ i. new ≡ set kept k (with_entries i es)) at is) ∙ set_here kept k (with_entries i es) in')
 
 -- it has the number of its place, of which there are verdicts
-pub numbered_there : (m : Machine) (counts : List ℕ) (w : WatchedFilters) (work : TrackedWork) (context : Context) (k : ℕ) (i found : RoomyHistory) (es : List Entry) → IsState m counts w work context → slice_get m.histories k ≡ Some i.history
+pub numbered_there : (m : Machine) (tally : Tally) (w : WatchedFilters) (work : TrackedWork) (context : Context) (k : ℕ) (i found : RoomyHistory) (es : List Entry) → IsState m tally w work context → slice_get m.histories k ≡ Some i.history
     → found ≡ with_entries i es → (found.history.no.0 ≡ 1 + k) × HasNumber found.history.no.0 (length w.histories)
-numbered_there m counts w work context k i found es is at same =
+numbered_there m tally w work context k i found es is at same =
     let number = number_at 1 m.histories k i.history is.tracker.numbers at in
     let own : found.history.no.0 ≡ i.history.no.0 = ap (λ (i : RoomyHistory). i.history.no.0) same in
     let many : length w.histories ≡ length m.histories = ap (λ (hs : List History). length hs) is.seen.histories in

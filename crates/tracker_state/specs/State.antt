@@ -12,7 +12,7 @@ use Rattle.tracker_machine.specs.Saved.{SavedFilter}
 use Rattle.tracker_machine.specs.Search.{surroundings_in}
 use Rattle.tracker_machine.specs.Sprints.{work_of}
 use Rattle.tracker_machine.specs.Tracker.{IsTracker}
-use Rattle.tracker_issues.specs.Counts.{counts_of}
+use Rattle.tracker_issues.specs.Counts.{Tally, IsTally}
 use Rattle.tracker_issues.specs.Issues.{Shelf}
 use Rattle.external_ids.specs.Ids.{IdList}
 use Rattle.tracker_ranks.specs.Ranked.{OrderedIssues}
@@ -79,10 +79,10 @@ pub record HaveSeen (m : Machine) (w : WatchedFilters) : Type 0 where
   pub around : w.around ≡ surroundings_in m.setup m.sprints
   pub moment : w.moment ≡ m.moment
 
--- what the state keeps true of itself, where it counts so many issues of each project, and has these filters, what remains of sprints,
--- and what queries ask of beside issues
-pub record IsState (m : Machine) (counts : List ℕ) (w : WatchedFilters) (work : TrackedWork) (context : Context) : Type 0 where
-  pub counted : counts ≡ counts_of m.setup.project m.histories
+-- what the state keeps true of itself, where it tallies issues by projects so, and has these filters, what remains of sprints, and what
+-- queries ask of beside issues
+pub record IsState (m : Machine) (tally : Tally) (w : WatchedFilters) (work : TrackedWork) (context : Context) : Type 0 where
+  pub counted : IsTally tally m.setup m.histories
   pub few_changes : m.change ≤ 2_050_000
   pub tracker : IsTracker m
   pub seen : HaveSeen m w

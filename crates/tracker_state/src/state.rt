@@ -6,6 +6,7 @@ ghost use Rattle.fields.specs.Naming.{name_at};
 ghost use Rattle.fields.specs.SetupParts.{parts, names_in, may};
 ghost use Rattle.jql_meaning.specs.Surroundings.{surroundings_of};
 ghost use Rattle.tracker_filters.specs.Watched.{AreRight, HasFilterRoom, HasIssueRoom};
+ghost use Rattle.workflow.specs.Conditions.{project_number};
 ghost use Rattle.tracker_work.specs.Work.{OnlyRoomGrows, HasRoomFor};
 ghost use Rattle.tracker_machine.specs.Create.{issue_called};
 ghost use Rattle.tracker_machine.specs.Machine.{opening};
@@ -86,7 +87,7 @@ impl Model for State {
 
     ghost invariant = { λ s.
         IsState (machine_of s.setting.setup s.moment s.change s.issues s.externals s.ranks s.filters s.boards s.work)
-        s.issues.counts s.filters s.work s.setting.context };
+        s.issues.tally s.filters s.work s.setting.context };
 }
 
 impl State {
@@ -124,7 +125,7 @@ impl State {
         work: Work,
     ) -> State
         requires { IsState (machine_of setting.setup moment change issues externals ranks filters boards work)
-            issues.counts filters work setting.context }
+            issues.tally filters work setting.context }
         ensures { result.machine ≡ machine_of setting.setup moment change issues externals ranks filters boards work }
     {
         State {
@@ -286,6 +287,14 @@ impl State {
         ensures settled { IfSome result (λ i. IsSettled (names_in self.now.machine.setup) self.now.machine.moment self.now.machine.change i.now.history) }
     {
         self.issues.get(place)
+    }
+
+    /// The project of the issue at a place, as it was noted when the issue came: its key isn't looked at.
+    pub fn project_at(&self, place: usize) -> Option<ProjectNo>
+        ensures { option_map (λ no. no.0) result
+            ≡ option_and_then (project_number self.now.machine.setup) (slice_get self.now.machine.histories place) }
+    {
+        self.issues.project_at(place)
     }
 
     /// The issues by rank, and the balance of their ranks, lent.

@@ -17,7 +17,7 @@ overflow_add-result c =
     let hs : List History = histories_of kept in
     let few : c.count_in.result ≤ 50_000 =
     from_found (slice_get (counts_of ps hs) c.args.project.0) c.count_in.result (λ n. n ≤ 50_000)
-    (sym (c.count_in.ensures ∙ ap (λ (ns : List ℕ). slice_get ns c.args.project.0) c.requires.counted))
+    (sym (c.count_in.ensures ∙ ap (λ (ns : List ℕ). slice_get ns c.args.project.0) c.requires.counted.counted))
     (few_counted ps hs c.args.project.0 (λ n. n ≤ 50_000) (λ n le. omega (arith, le, c.requires.few, length-map kept (λ (i : RoomyHistory). i.history)))) in
     omega (arith, few)
 
@@ -26,4 +26,4 @@ returns c =
     let ps = (parts c.args.setup.now).project in
     let hs : List History = histories_of c.args.issues.now.kept in
     ap (λ n. n + 1) (number_is c.count_in.result (issues_of (name_at (project_keys (parts c.args.setup.now)) c.args.project.0) hs)
-    (c.count_in.ensures ∙ ap (λ (ns : List ℕ). slice_get ns c.args.project.0) c.requires.counted ∙ count_here ps hs c.args.project.0 c.requires.there))
+    (c.count_in.ensures ∙ ap (λ (ns : List ℕ). slice_get ns c.args.project.0) c.requires.counted.counted ∙ count_here ps hs c.args.project.0 c.requires.there))

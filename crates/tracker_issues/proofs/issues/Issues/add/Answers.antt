@@ -27,6 +27,7 @@ invariant_of-self c =
       counted = omega (arith, c.self.invariant.counted, entries_kept-set hs c.args.place old.history new.history at, more, count);
       weighed = omega (arith, c.self.invariant.weighed, bytes_kept-set hs c.args.place old.history new.history at, heavier, c.requires.bytes);
       fits = c.self.invariant.fits;
+      noted_fits = c.self.invariant.noted_fits;
       indexed = c.self.invariant.indexed;
     })
 

@@ -27,5 +27,6 @@ invariant_of-self c =
       counted = ap₂ (λ a b. a + b) c.self.invariant.counted c.entries.ensures ∙ sym (entries_kept-push hs h);
       weighed = ap₂ (λ a b. a + b) c.self.invariant.weighed c.requires.bytes ∙ sym (bytes_kept-push hs h);
       fits = omega (arith, c.put_issue.ensures.len, c.put_issue.ensures.capacity, c.self.invariant.fits, c.requires.room, ap (λ s. s.room) c.self.view_is);
+      noted_fits = omega (arith, c.note_project.ensures.len, c.note_project.ensures.capacity, c.self.invariant.noted_fits, c.requires.room, ap (λ s. s.room) c.self.view_is);
       indexed = omega (arith, c.index_key.ensures.spare, c.self.invariant.indexed);
     })

@@ -37,7 +37,7 @@ invariant_of-self-2 c =
     let filters = c.self.inside.filters.items in
     let query : Bound = c.in-Some.query in
     let f : Filter = record { no = c.args.no; owner = c.args.owner; name = c.args.name; text = c.args.text; query = query } in
-    let counts = c.self.inside.issues.counts in
+    let tally = c.self.inside.issues.tally in
     let ranks = c.self.inside.ranks.items in
     let taken = keys c.self.inside.taken in
     let bound : IsBound m.setup f =
@@ -45,8 +45,8 @@ invariant_of-self-2 c =
     (subst (λ (o : Option Bound). Asks (asked m.setup f.owner.0 c.as_str-2.result.now) o) c.in-Some.is c.in_ok-query.ensures) in
     let items : c.put_in.new.things.items ≡ put_by_number number f filters =
     c.put_in.ensures.items ∙ ap (λ (fs : List Filter). put_by_number number f fs) c.reserve.ensures.items in
-    subst (λ (fs : List Filter). IsMaking (record m { filters = saved_filters fs }) counts ranks fs taken c.self.inside.group_at) (sym items)
-    (filter_made m counts ranks filters taken c.self.inside.group_at f c.self.invariant c.requires.positive bound)
+    subst (λ (fs : List Filter). IsMaking (record m { filters = saved_filters fs }) tally ranks fs taken c.self.inside.group_at) (sym items)
+    (filter_made m tally ranks filters taken c.self.inside.group_at f c.self.invariant c.requires.positive bound)
 
 pub returns-clause-good : goal.returns-clause-good
 returns-clause-good c =

@@ -36,8 +36,8 @@ invariant_of-self-2 c =
     let behind : IsBehindGroups m.histories g.change = subst (λ (o : Machine). IsBehindGroups o.histories g.change) (sym c.self.view_is) c.requires.next in
     let h : History = may.history in
     let there : slice_get m.histories place ≡ Some h = ap (slice_get m.histories) c.place_of-place.ensures ∙ may.there in
-    let counts = c.self.inside.issues.counts in
-    let new = c.add.new.self.counts in
+    let tally = c.self.inside.issues.tally in
+    let new = c.add.new.self.tally in
     let ranks = c.self.inside.ranks.items in
     let filters = c.self.inside.filters.items in
     let taken = keys c.self.inside.taken in
@@ -46,7 +46,7 @@ invariant_of-self-2 c =
     let histories : histories_of c.add.new.self.kept ≡ set m.histories place (longer h g.entries) =
     grown_kept c.self.inside.issues.kept c.reserve_entries.new.self.kept c.add.new.self.kept place h g.entries there c.reserve_entries.ensures.histories c.add.ensures.kept in
     subst (λ (hs : List History). IsMaking (record m { histories = hs }) new ranks filters taken g.at) (sym histories)
-    (group_made m counts new ranks filters taken c.self.inside.group_at c.self.invariant place h g there may.group le (c.add.ensures.counts ∙ c.reserve_entries.ensures.counts))
+    (group_made m tally new ranks filters taken c.self.inside.group_at c.self.invariant place h g there may.group le (c.add.ensures.tally ∙ c.reserve_entries.ensures.tally))
 
 pub returns-clause-good : goal.returns-clause-good
 returns-clause-good c =

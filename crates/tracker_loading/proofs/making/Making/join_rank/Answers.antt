@@ -39,7 +39,7 @@ invariant_of-self-2 c =
     let there : issue.0 ≤ length m.histories = omega (arith, c.len.ensures, length-map kept (λ (i : RoomyHistory). i.history)) in
     let next : issue.0 ≡ length m.order + 1 =
     subst (λ (o : Machine). issue.0 ≤ length o.histories → issue.0 ≡ length o.order + 1) (sym c.self.view_is) c.requires.next there in
-    rank_joined m c.self.inside.issues.counts c.self.inside.ranks.items c.add_rank.new.ranks.items c.self.inside.filters.items (keys c.self.inside.taken)
+    rank_joined m c.self.inside.issues.tally c.self.inside.ranks.items c.add_rank.new.ranks.items c.self.inside.filters.items (keys c.self.inside.taken)
     (keys c.add_rank.new.taken) c.self.inside.group_at issue c.args.rank c.add_rank.result c.self.invariant refl next c.requires.rank
     c.add_rank.ensures.ranks c.add_rank.ensures.err c.add_rank.ensures.taken
 

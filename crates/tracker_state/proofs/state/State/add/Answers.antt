@@ -1,4 +1,4 @@
-use Rattle.std.proofs.Common.{◌≡◌, ◌++◌, ◌+◌, ◌<◌, ℕ, List, length, slice_get, set, Some, IfSome, ap, sym, subst, ◌∙◌}
+use Rattle.std.proofs.Common.{◌≡◌, ◌++◌, ◌+◌, ◌<◌, length, slice_get, set, Some, IfSome, ap, sym, subst, ◌∙◌}
 use Rattle.std.proofs.lemmas.List.{length-map}
 use Rattle.std.specs.Option.{option_map_or, option_copied}
 use Rattle.change_history.specs.History.{RoomyHistory, History, MayAdd}
@@ -6,6 +6,7 @@ use Rattle.tracker_machine.specs.Machine.{Machine}
 use Rattle.tracker_machine.specs.Effect.{applied, IsAllowed, longer, with_group}
 use Rattle.tracker_machine.specs.Tracker.{MayGroup}
 use Rattle.tracker_machine.proofs.Settled.{at_place, from_found}
+use Rattle.tracker_issues.specs.Counts.{Tally}
 use Rattle.tracker_issues.specs.Issues.{histories_of, with_entries}
 use Rattle.tracker_issues.proofs.Histories.{histories_set, history_at}
 use Rattle.tracker_state.specs.State.{Held, IsState, saved_filters}
@@ -29,7 +30,7 @@ see_change-requires-clause-there g c =
     let found = at_place kept place in' in
     let issue = c.in-Some.issue.now in
     let is : issue ≡ with_entries found.0 es = grown_is kept c.add.new.self.kept place found.0 issue es in' found.1 c.add.ensures.kept (sym (ap option_copied c.in-Some.is) ∙ c.get.ensures) in
-    (numbered_there m c.self.inside.issues.counts c.self.inside.filters c.self.inside.work c.self.inside.setting.context place found.0 issue es c.self.invariant (history_at kept place found.0 found.1) is).1
+    (numbered_there m c.self.inside.issues.tally c.self.inside.filters c.self.inside.work c.self.inside.setting.context place found.0 issue es c.self.invariant (history_at kept place found.0 found.1) is).1
 
 pub see_group-requires-clause-group : goal.see_group-requires-clause-group
 unfolding IsAllowed
@@ -77,13 +78,13 @@ invariant_of-self g c =
     let is = c.see_change.ensures in
     let issue = c.in-Some.issue.now in
     let same : issue ≡ with_entries i es = grown_is kept c.add.new.self.kept place i issue es in' found.1 c.add.ensures.kept (sym (ap option_copied c.in-Some.is) ∙ c.get.ensures) in
-    let number : issue.history.no.0 ≡ 1 + place = (numbered_there m c.self.inside.issues.counts w c.self.inside.work c.self.inside.setting.context place i issue es c.self.invariant at same).0 in
+    let number : issue.history.no.0 ≡ 1 + place = (numbered_there m c.self.inside.issues.tally w c.self.inside.work c.self.inside.setting.context place i issue es c.self.invariant at same).0 in
     let next = machine_grown m place group i.history (histories_of c.add.new.self.kept) c.see_group.new.self.seen.sprints (saved_filters seen.filters)
     at histories (ap (λ (s : Seen). s.sprints) c.see_group.ensures.seen) (ap saved_filters is.filters) in
-    subst (λ (n : Machine). IsState n c.add.new.self.counts seen c.see_group.new.self c.self.inside.setting.context) (sym next)
-    (subst (λ (ns : List ℕ). IsState (with_group m place group) ns seen c.see_group.new.self c.self.inside.setting.context) (sym c.add.ensures.counts)
-    (subst (λ o. IsState (record m { change = m.change + 1; histories = option_map_or (λ (h : History). set m.histories place (longer h es)) o m.histories }) c.self.inside.issues.counts seen c.see_group.new.self c.self.inside.setting.context) (sym at)
-    (state_add m c.self.inside.issues.counts w seen c.self.inside.work c.see_group.new.self c.self.inside.setting.context place i.history group.author es c.self.invariant at may_now allowed.fitting allowed.small allowed.sprints allowed.author allowed.few allowed.light
+    subst (λ (n : Machine). IsState n c.add.new.self.tally seen c.see_group.new.self c.self.inside.setting.context) (sym next)
+    (subst (λ (t : Tally). IsState (with_group m place group) t seen c.see_group.new.self c.self.inside.setting.context) (sym c.add.ensures.tally)
+    (subst (λ o. IsState (record m { change = m.change + 1; histories = option_map_or (λ (h : History). set m.histories place (longer h es)) o m.histories }) c.self.inside.issues.tally seen c.see_group.new.self c.self.inside.setting.context) (sym at)
+    (state_add m c.self.inside.issues.tally w seen c.self.inside.work c.see_group.new.self c.self.inside.setting.context place i.history group.author es c.self.invariant at may_now allowed.fitting allowed.small allowed.sprints allowed.author allowed.few allowed.light
     (record { known = is.histories ∙ grown_seen w.histories place i issue es number same; beside = is.around; now = is.moment }) is.filters
     (c.see_group.ensures.seen ∙ ap (with_histories c.self.inside.work.seen) (ap histories_of c.as_vec.ensures ∙ histories)))))
 

@@ -12,18 +12,18 @@ pub count_in-requires : goal.count_in-requires
 count_in-requires c =
     let m = (the_view c.self.inside).machine in
     let there = subst (λ (s : Held). c.args.project.0 < length s.machine.setup.project) (sym c.self.view_is) c.requires in
-    counted_at m.setup.project m.histories c.self.inside.issues.counts c.args.project.0 c.self.invariant.counted there
+    counted_at m.setup.project m.histories c.self.inside.issues.tally.counts c.args.project.0 c.self.invariant.counted.counted there
 
 pub returns-clause-count : goal.returns-clause-count
 returns-clause-count c =
     let m = (the_view c.self.inside).machine in
     let there = subst (λ (s : Held). c.args.project.0 < length s.machine.setup.project) (sym c.self.view_is) c.requires in
     subst (λ (s : Held). c.count_in.result ≡ issues_of (name_at (project_keys s.machine.setup) c.args.project.0) s.machine.histories) c.self.view_is
-    (number_is c.count_in.result _ (c.count_in.ensures ∙ ap (λ (ns : List ℕ). slice_get ns c.args.project.0) c.self.invariant.counted ∙ count_here m.setup.project m.histories c.args.project.0 there))
+    (number_is c.count_in.result _ (c.count_in.ensures ∙ ap (λ (ns : List ℕ). slice_get ns c.args.project.0) c.self.invariant.counted.counted ∙ count_here m.setup.project m.histories c.args.project.0 there))
 
 pub returns-clause-few : goal.returns-clause-few
 returns-clause-few c =
     let m = (the_view c.self.inside).machine in
     from_found (slice_get (counts_of m.setup.project m.histories) c.args.project.0) c.count_in.result (λ n. n ≤ 50_000)
-    (sym (c.count_in.ensures ∙ ap (λ (ns : List ℕ). slice_get ns c.args.project.0) c.self.invariant.counted))
+    (sym (c.count_in.ensures ∙ ap (λ (ns : List ℕ). slice_get ns c.args.project.0) c.self.invariant.counted.counted))
     (few_counted m.setup.project m.histories c.args.project.0 (λ n. n ≤ 50_000) (λ n le. omega (arith, le, c.self.invariant.tracker.few_issues)))

@@ -17,7 +17,7 @@ invariant_of-self c =
     let no = c.args.no in
     let is = c.self.invariant in
     let there : by_number board_number no.0 m.boards ≢ None = subst (λ (s : Held). by_number board_number no.0 s.machine.boards ≢ None) (sym c.self.view_is) c.requires in
-    subst (λ (bs : BoardList). IsState (record m { boards = bs.boards }) c.self.inside.issues.counts c.self.inside.filters c.self.inside.work c.self.inside.setting.context) (sym c.remove.ensures)
+    subst (λ (bs : BoardList). IsState (record m { boards = bs.boards }) c.self.inside.issues.tally c.self.inside.filters c.self.inside.work c.self.inside.setting.context) (sym c.remove.ensures)
     (record {
       counted = is.counted;
       few_changes = is.few_changes;

@@ -35,7 +35,7 @@ invariant_of-self c =
     let there : by_number filter_number no.0 m.filters ≢ None = subst (λ (s : Held). by_number filter_number no.0 s.machine.filters ≢ None) (sym c.self.view_is) c.requires in
     let next : record m { filters = saved_filters seen.filters; boards = boards } ≡ without_filter m no =
     ap₂ (λ (fs : List SavedFilter) (bs : List Board). record m { filters = fs; boards = bs }) (ap saved_filters is.filters ∙ sym (without_number-saved no.0 w.filters)) (ap (λ (b : BoardList). b.boards) c.remove_of.ensures) in
-    state_beside m c.self.inside.issues.counts w seen c.self.inside.work c.self.inside.setting.context m.order m.balance (saved_filters seen.filters) boards c.self.invariant
+    state_beside m c.self.inside.issues.tally w seen c.self.inside.work c.self.inside.setting.context m.order m.balance (saved_filters seen.filters) boards c.self.invariant
     (subst IsTracker (sym next) (tracker_applied (NoFilter no) m there c.self.invariant.tracker))
     (record { known = is.histories; beside = is.around; now = is.moment })
     (subst (All (IsBound m.setup)) (sym is.filters) (all_without number (IsBound m.setup) no.0 w.filters c.self.invariant.bound))

@@ -47,8 +47,8 @@ invariant_of-self c =
     let made = c.in-Ok.ensures.made in
     let next : machine_of c.add_phase.new.self.setup s.moment s.change s.issues s.externals s.ranks seen s.boards c.make.new.self ≡ with_sprint m name =
     λ i. machine_of (c.add_phase.ensures.setup i) s.moment s.change s.issues s.externals s.ranks (c.see_new_sprint.ensures i) s.boards (made i) in
-    subst (λ (n : Machine). IsState n s.issues.counts seen c.make.new.self context) (sym next)
-    (state_planned m s.issues.counts s.filters seen s.work c.make.new.self s.setting.context context (with_future m.sprints name) is
+    subst (λ (n : Machine). IsState n s.issues.tally seen c.make.new.self context) (sym next)
+    (state_planned m s.issues.tally s.filters seen s.work c.make.new.self s.setting.context context (with_future m.sprints name) is
     (tracker_applied (NewSprint name) m may is.tracker)
     (ap (λ (w : WatchedFilters). w.histories) c.see_new_sprint.ensures)
     (ap (λ (w : WatchedFilters). w.moment) c.see_new_sprint.ensures)

@@ -1,5 +1,6 @@
-use Rattle.std.proofs.Common.{◌≡◌, List, [], ap, sym, ◌∙◌, arith}
+use Rattle.std.proofs.Common.{◌≡◌, List, [], map, Some, ap, sym, ◌∙◌, arith}
 use Rattle.std.proofs.lemmas.List.Elements.{All-nil}
+use Rattle.field_values.specs.declared.numbers.ProjectNo.{ProjectNo}
 use Rattle.fields.specs.declared.setup.Setup.{Setup}
 use Rattle.fields.specs.SetupParts.{parts}
 use Rattle.tracker_issues.specs.Issues.{Shelf}
@@ -26,7 +27,10 @@ invariant_of-result c =
     setting.agree ∙ ap (λ (ps : List Phase). record (surroundings_in (parts setting.setup) []) { sprints = ps }) c.in_ok-setting.ensures.sprints in
     let sound = setting.setup.sound in
     rw (none, c.new-3.ensures, ap (λ (r : OrderedIssues). r.order) c.new-4.ensures, ap (λ (r : OrderedIssues). r.balance) c.new-4.ensures, filters.filters, ap (λ (b : BoardList). b.boards) c.new-5.ensures, work) (record {
-      counted = ap (λ (s : Shelf). s.counts) c.in_ok-issues.ensures ∙ ap (λ ps. counts_of ps []) (c.as_slice.ensures ∙ ap (λ (s : Setup). (parts s).project) (sym c.in_ok-setting.ensures.setup));
+      counted = record {
+        counted = ap (λ (s : Shelf). s.tally.counts) c.in_ok-issues.ensures ∙ ap (λ ps. counts_of ps []) (c.as_slice.ensures ∙ ap (λ (s : Setup). (parts s).project) (sym c.in_ok-setting.ensures.setup));
+        placed = ap (λ (s : Shelf). map (λ (no : ProjectNo). Some no.0) s.tally.projects) c.in_ok-issues.ensures;
+      };
       few_changes = omega arith;
       tracker = tracker_opening _ _ _ (omega (arith, c.first-2.ensures)) (users_of_sound (parts setting.setup) sound) (groups_of_sound (parts setting.setup) sound);
       seen = record {

@@ -22,13 +22,13 @@ use Rattle.tracker_state.proofs.state.State.push.Goals as goal
 pub push-requires-clause-there : goal.push-requires-clause-there
 push-requires-clause-there g c =
     let m : Machine = (the_view c.self.inside).machine in
-    counted_at m.setup.project m.histories c.self.inside.issues.counts c.args.new.project.0 c.self.invariant.counted
+    counted_at m.setup.project m.histories c.self.inside.issues.tally.counts c.args.new.project.0 c.self.invariant.counted.counted
     (subst (λ (s : Held). c.args.new.project.0 < length s.machine.setup.project) (sym c.self.view_is) c.requires.fits.there)
 
 pub push-requires-clause-countable : goal.push-requires-clause-countable
 push-requires-clause-countable g c =
     let m : Machine = (the_view c.self.inside).machine in
-    subst (λ (ns : List ℕ). IfSome (slice_get ns c.args.new.project.0) (λ n. n + 1 < 4294967296)) (sym c.self.invariant.counted)
+    subst (λ (ns : List ℕ). IfSome (slice_get ns c.args.new.project.0) (λ n. n + 1 < 4294967296)) (sym c.self.invariant.counted.counted)
     (few_counted m.setup.project m.histories c.args.new.project.0 (λ n. n + 1 < 4294967296) (λ n le. omega (arith, le, c.self.invariant.tracker.few_issues)))
 
 pub see_issue-requires : goal.see_issue-requires
@@ -51,7 +51,7 @@ invariant_of-self g c =
     let back = sym c.self.view_is in
     let histories : histories_of c.push.new.self.kept ≡ m.histories ++ h ∷ [] = ap histories_of c.push.ensures.kept ∙ histories_push c.self.inside.issues.kept c.args.new.issue in
     let rank = c.args.new.rank in
-    let counts = c.push.new.self.counts in
+    let tally = c.push.new.self.tally in
     let order : c.add.new.self.order ≡ with_last m.order h.no rank = ap (λ (r : OrderedIssues). r.order) c.add.ensures ∙ ap (λ (no : IssueNo). with_last m.order no rank) c.no-2.ensures in
     let external = id_of c.args.new.external in
     let externals : c.put_external.new.externals.ids ≡ with_external m.externals h.no external =
@@ -62,12 +62,12 @@ invariant_of-self g c =
     let is = c.see_new.ensures in
     let next = machine_pushed m h rank external (histories_of c.push.new.self.kept) c.put_external.new.externals.ids c.add.new.self.order c.add.new.self.balance c.see_issue.new.self.seen.sprints (saved_filters seen.filters)
     histories externals order balance (ap (λ (s : Seen). s.sprints) c.see_issue.ensures.seen) (ap saved_filters is.filters) in
-    subst (λ (n : Machine). IsState n counts seen c.see_issue.new.self c.self.inside.setting.context) (sym next)
-    (state_push m c.self.inside.issues.counts counts w seen c.self.inside.work c.see_issue.new.self c.self.inside.setting.context h rank external place c.self.inside.setting.setup.sound c.self.invariant
+    subst (λ (n : Machine). IsState n tally seen c.see_issue.new.self c.self.inside.setting.context) (sym next)
+    (state_push m c.self.inside.issues.tally tally w seen c.self.inside.work c.see_issue.new.self c.self.inside.setting.context h rank external c.args.new.project c.self.inside.setting.setup.sound c.self.invariant
     (subst (λ (s : Held). MayOpen s.machine h) back c.requires.allowed.0)
     (subst (λ (s : Held). IsNext s.machine.order s.machine.balance h.no rank) back c.requires.allowed.1)
     (subst (λ (s : Held). MayName s.machine.externals external) back c.requires.allowed.2)
     (subst (λ (s : Held). place < length s.machine.setup.project) back c.requires.fits.there)
     (subst (λ (s : Held). h.key ≡ next_key s.machine (name_at (project_keys s.machine.setup) place)) back c.requires.fits.next)
-    c.push.ensures.counts (record { known = is.histories; beside = is.around; now = is.moment }) is.filters
+    c.push.ensures.counts c.push.ensures.projects (record { known = is.histories; beside = is.around; now = is.moment }) is.filters
     (c.see_issue.ensures.seen ∙ ap (with_histories c.self.inside.work.seen) (ap histories_of c.as_vec.ensures ∙ histories)))

@@ -16,7 +16,7 @@ invariant_of-self c =
     let board = c.args.board in
     let is = c.self.invariant in
     let may : MayMake m.filters m.boards board = subst (λ (s : Held). MayMake s.machine.filters s.machine.boards board) (sym c.self.view_is) c.requires.allowed in
-    subst (λ (bs : BoardList). IsState (record m { boards = bs.boards }) c.self.inside.issues.counts c.self.inside.filters c.self.inside.work c.self.inside.setting.context) (sym c.put.ensures)
+    subst (λ (bs : BoardList). IsState (record m { boards = bs.boards }) c.self.inside.issues.tally c.self.inside.filters c.self.inside.work c.self.inside.setting.context) (sym c.put.ensures)
     (record {
       counted = is.counted;
       few_changes = is.few_changes;

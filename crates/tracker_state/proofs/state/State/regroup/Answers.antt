@@ -28,5 +28,5 @@ invariant_of-self g c =
     ∙ ap (λ (a : Surroundings). record (surroundings_in (regrouped m.setup group members) []) { sprints = a.sprints }) is.around in
     let next : machine_of c.set_members.new.self.setup s.moment s.change s.issues s.externals s.ranks seen s.boards s.work ≡ with_group_members m group members =
     λ i. record m { text = told.text i; setup = told.parts i; filters = saved_filters (saw.filters i) } in
-    subst (λ (n : Machine). IsState n s.issues.counts seen s.work context) (sym next)
-    (state_regrouped m s.issues.counts s.filters seen s.work s.setting.context context group members is may saw.histories saw.moment saw.filters saw.around around)
+    subst (λ (n : Machine). IsState n s.issues.tally seen s.work context) (sym next)
+    (state_regrouped m s.issues.tally s.filters seen s.work s.setting.context context group members is may saw.histories saw.moment saw.filters saw.around around)

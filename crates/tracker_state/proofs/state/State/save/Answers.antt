@@ -33,7 +33,7 @@ invariant_of-self c =
     let bound : IsBound m.setup f = subst (λ (s : Held). IsBound s.machine.setup f) (sym c.self.view_is) c.requires.fits.bound in
     let next : record m { filters = saved_filters seen.filters } ≡ with_filter m (saved_as f) =
     ap (λ (fs : List SavedFilter). record m { filters = fs }) (ap saved_filters is.filters ∙ sym (put_by_number-saved f w.filters)) in
-    state_beside m c.self.inside.issues.counts w seen c.self.inside.work c.self.inside.setting.context m.order m.balance (saved_filters seen.filters) m.boards c.self.invariant
+    state_beside m c.self.inside.issues.tally w seen c.self.inside.work c.self.inside.setting.context m.order m.balance (saved_filters seen.filters) m.boards c.self.invariant
     (subst IsTracker (sym next) (tracker_applied (NewFilter (saved_as f)) m may c.self.invariant.tracker))
     (record { known = is.histories; beside = is.around; now = is.moment })
     (subst (All (IsBound m.setup)) (sym is.filters) (all_put number (IsBound m.setup) f w.filters bound c.self.invariant.bound))

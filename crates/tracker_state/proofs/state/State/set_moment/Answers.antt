@@ -14,7 +14,7 @@ invariant_of-self g c =
     let w = c.self.inside.filters in
     let seen = c.see_moment.new.self in
     let is = c.see_moment.ensures in
-    subst (λ (fs : List Filter). IsState (record m { moment = c.args.to; filters = saved_filters fs }) c.self.inside.issues.counts seen c.self.inside.work c.self.inside.setting.context) (sym is.filters)
-    (state_later m c.self.inside.issues.counts w seen c.self.inside.work c.self.inside.setting.context c.args.to c.self.invariant
+    subst (λ (fs : List Filter). IsState (record m { moment = c.args.to; filters = saved_filters fs }) c.self.inside.issues.tally seen c.self.inside.work c.self.inside.setting.context) (sym is.filters)
+    (state_later m c.self.inside.issues.tally w seen c.self.inside.work c.self.inside.setting.context c.args.to c.self.invariant
     (subst (λ (s : Held). s.machine.moment ≤ c.args.to) (sym c.self.view_is) c.requires.0) c.requires.1
     (record { known = is.histories; beside = is.around; now = is.moment }) is.filters)

@@ -14,7 +14,7 @@ invariant_of-self c =
     let issue = c.args.new.issue in
     let rank = c.args.new.rank in
     let given : IsGiven m.order m.balance issue rank = subst (λ (s : Held). IsGiven s.machine.order s.machine.balance issue rank) (sym c.self.view_is) c.requires in
-    subst (λ (r : OrderedIssues). IsState (record m { order = r.order; balance = r.balance }) c.self.inside.issues.counts c.self.inside.filters c.self.inside.work c.self.inside.setting.context) (sym c.set.ensures)
+    subst (λ (r : OrderedIssues). IsState (record m { order = r.order; balance = r.balance }) c.self.inside.issues.tally c.self.inside.filters c.self.inside.work c.self.inside.setting.context) (sym c.set.ensures)
     (record {
       counted = c.self.invariant.counted;
       few_changes = c.self.invariant.few_changes;

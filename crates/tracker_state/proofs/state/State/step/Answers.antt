@@ -15,7 +15,7 @@ invariant_of-self c =
     let m : Machine = (the_view c.self.inside).machine in
     let moves = c.args.moves in
     let may = subst (λ (s : Held). IsMoving s.machine.balance × ArePicks s.machine.order (from_of s.machine.balance) (to_of s.machine.balance) moves) (sym c.self.view_is) c.requires in
-    subst (λ (r : OrderedIssues). IsState (record m { order = r.order; balance = r.balance }) c.self.inside.issues.counts c.self.inside.filters c.self.inside.work c.self.inside.setting.context) (sym c.apply.ensures)
+    subst (λ (r : OrderedIssues). IsState (record m { order = r.order; balance = r.balance }) c.self.inside.issues.tally c.self.inside.filters c.self.inside.work c.self.inside.setting.context) (sym c.apply.ensures)
     (record {
       counted = c.self.invariant.counted;
       few_changes = c.self.invariant.few_changes;

@@ -69,7 +69,7 @@ invariant_of-self g c =
     let sprints = ap (λ (t : Seen). t.sprints) tells in
     let next : machine_of c.set_phase.new.self.setup s.moment s.change s.issues s.externals s.ranks seen s.boards work ≡ with_state m sprint state =
     λ i. record m { text = (c.set_phase.ensures.setup i).text; setup = parts (c.set_phase.ensures.setup i); sprints = sprints i; filters = saved_filters (saw.filters i) } in
-    subst (λ (n : Machine). IsState n s.issues.counts seen work context) (sym next)
-    (state_planned m s.issues.counts s.filters seen s.work work s.setting.context context (in_state m.sprints sprint.0 state) is
+    subst (λ (n : Machine). IsState n s.issues.tally seen work context) (sym next)
+    (state_planned m s.issues.tally s.filters seen s.work work s.setting.context context (in_state m.sprints sprint.0 state) is
     (tracker_applied (NewState sprint state) m may is.tracker)
     saw.histories saw.moment saw.filters saw.around around tells)
