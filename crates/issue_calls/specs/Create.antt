@@ -39,12 +39,14 @@ pub record MayBegin (m : Machine) (new : NewValues) : Type 0 where
   pub fitting : AllFit (names_in m.setup) new.changes.items
   pub sprints : AreOfSprints (length m.sprints) new.changes.items
   pub named : AreNamed (opening_value (filled new.changes.items))
-  pub listed : AreSmall (filled new.changes.items) → are_opening (names_in m.setup) (filled new.changes.items) ≡ true
+  pub listed : AreSmall (filled new.changes.items)
+      → are_opening (names_in m.setup) (filled new.changes.items) ≡ true
 
 -- an issue of these values, with this external id if any, behind all others
 abbrev pub created_last : Machine → ℕ → Option (List ℕ) → NewValues → Meaning
 created_last m caller external new =
-    with_given (last_rank m) (created m caller (key_of_project m new.project) external new.changes.items)
+    with_given (last_rank m)
+    (created m caller (key_of_project m new.project) external new.changes.items)
 
 -- the answer is the one that is due, or the refusal, unless there was not enough memory
 abbrev pub IsTold : Meaning → Result Answer Refusal → Type 0
@@ -54,5 +56,7 @@ IsTold due (Err r) = (r ≢ refusal.Keeper) × (r ≢ refusal.Memory → due ≡
 -- a create of this meaning comes to an answer, to a new issue that may come, or to its refusal
 abbrev pub ComesTo : Machine → ℕ → Option (List ℕ) → Meaning → Result Due Refusal → Type 0
 ComesTo m caller external due (Ok (Told answer)) = told due ≡ Some answer
-ComesTo m caller external due (Ok (New new)) = (due ≡ created_last m caller external new) × MayBegin m new × MayName m.externals external
-ComesTo m caller external due (Err r) = (r ≢ refusal.Keeper) × (r ≢ refusal.Memory → due ≡ Refuses r)
+ComesTo m caller external due (Ok (New new)) =
+    (due ≡ created_last m caller external new) × MayBegin m new × MayName m.externals external
+ComesTo m caller external due (Err r) =
+    (r ≢ refusal.Keeper) × (r ≢ refusal.Memory → due ≡ Refuses r)

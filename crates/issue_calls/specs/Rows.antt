@@ -16,7 +16,8 @@ issue_row names h = record { kind = 3; no = h.no.0; body = body_text names (issu
 
 -- and of a change group of it
 abbrev pub group_row : Names → History → Group → Row
-group_row names h group = record { kind = 4; no = group.change; body = body_text names (group_part h group) }
+group_row names h group =
+    record { kind = 4; no = group.change; body = body_text names (group_part h group) }
 
 -- the operation that keeps an issue's external id, if it has one
 abbrev pub external_ops : IssueNo → Option (List ℕ) → List RowOp

@@ -27,9 +27,12 @@ use wanted_values::{
 
 /// The project of that key.
 pub fn known_project(alloc: Global, state: &State, name: &str) -> Result<ProjectNo, Refusal>
-    ensures place { IfOk result (λ no. place_named name.now (project_keys state.now.machine.setup) ≡ Some no.0) }
+    ensures place { IfOk result (λ no. place_named name.now (project_keys state.now.machine.setup)
+        ≡ Some no.0) }
     ensures there { IfOk result (λ no. no.0 < length state.now.machine.setup.project) }
-    ensures check { Checks (unless_known (place_named name.now (project_keys state.now.machine.setup)) (Refusal.Unknown Thing.Project name.now)) result }
+    ensures check { Checks (unless_known
+        (place_named name.now (project_keys state.now.machine.setup))
+        (Refusal.Unknown Thing.Project name.now)) result }
 {
     match state.project_named(name) {
         Some(project) => Ok(project),
@@ -39,9 +42,12 @@ pub fn known_project(alloc: Global, state: &State, name: &str) -> Result<Project
 
 /// The place of the transition of that name.
 pub fn known_transition(alloc: Global, state: &State, name: &str) -> Result<usize, Refusal>
-    ensures place { IfOk result (λ place. place_named name.now (transition_names state.now.machine.setup) ≡ Some place) }
+    ensures place { IfOk result (λ place.
+        place_named name.now (transition_names state.now.machine.setup) ≡ Some place) }
     ensures there { IfOk result (λ place. place < length state.now.machine.setup.transition) }
-    ensures check { Checks (unless_known (place_named name.now (transition_names state.now.machine.setup)) (Refusal.Unknown Thing.Transition name.now)) result }
+    ensures check { Checks (unless_known
+        (place_named name.now (transition_names state.now.machine.setup))
+        (Refusal.Unknown Thing.Transition name.now)) result }
 {
     match state.transition_named(name) {
         Some(place) => Ok(place),
@@ -152,7 +158,8 @@ pub fn check_bytes(state: &State) -> Result<(), Refusal>
 
 // The refusal of a field whose value doesn't fit.
 fn unfit(alloc: Global, state: &State, field: FieldNo) -> Refusal
-    ensures { IsRefusal (Some (Refusal.Unfit (field_name state.now.machine.setup.field field.0))) result }
+    ensures { IsRefusal (Some (Refusal.Unfit (field_name state.now.machine.setup.field field.0)))
+        result }
 {
     match Text::copy_of(alloc, state.setup().field_name(field)) {
         Ok(field) => Refusal::Unfit { field },
@@ -171,15 +178,16 @@ pub fn known_values(
     requires setup { set.now.setup ≡ state.now.machine.setup }
     requires known { GivesKnownSprint state.now.machine set.now.set }
     ensures changes { IfOk result (λ changes. changes.items
-        ≡ changes_of (names_in state.now.machine.setup) (wants_of state.now.machine.setup set.now.set opening.entry)) }
-    ensures fitting { IfOk result (λ changes. AllFit (names_in state.now.machine.setup) changes.items) }
+        ≡ changes_of (names_in state.now.machine.setup)
+        (wants_of state.now.machine.setup set.now.set opening.entry)) }
+    ensures fitting { IfOk result (λ changes.
+        AllFit (names_in state.now.machine.setup) changes.items) }
     ensures sprints { IfOk result (λ changes.
         AreOfSprints (length state.now.machine.sprints) changes.items) }
-    ensures check { Checks (values_refusal state.now.machine (wants_of state.now.machine.setup set.now.set opening.entry)) result }
+    ensures check { Checks (values_refusal state.now.machine
+        (wants_of state.now.machine.setup set.now.set opening.entry)) result }
 {
-    let Ok(outcome) = outcome_of_all(alloc, set, opening) else {
-        return Err(Refusal::Memory);
-    };
+    let outcome = outcome_of_all(alloc, set, opening)?;
     let Outcome { changes, fault } = outcome;
     match fault {
         Some(field) => Err(unfit(alloc, state, field)),

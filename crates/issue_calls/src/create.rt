@@ -51,9 +51,7 @@ pub fn create(
     ensures prepared { IsPrepared (create_meaning state.old.machine caller.0 project.now
         issue_type.now summary.now set.now (option_copied external.entry)) state.new result }
 {
-    let Ok(given) = ResolvedSet::of(alloc, state.setup(), set) else {
-        return Err(Refusal::Memory);
-    };
+    let given = ResolvedSet::of(alloc, state.setup(), set)?;
     let opening = Opening {
         caller,
         issue_type,
@@ -61,10 +59,9 @@ pub fn create(
     };
     let due = due_for(alloc, state, project, opening, &given, external);
     drop(given);
-    match due {
-        Ok(Due::New(new)) => place_last(alloc, state, caller, new, external),
-        Ok(Due::Told(answer)) => Ok(Prepared::Tell(answer)),
-        Err(refusal) => Err(refusal),
+    match due? {
+        Due::New(new) => place_last(alloc, state, caller, new, external),
+        Due::Told(answer) => Ok(Prepared::Tell(answer)),
     }
 }
 
@@ -97,7 +94,8 @@ fn check_create(
     set: &ResolvedSet<'_>,
 ) -> Result<ProjectNo, Refusal>
     requires { set.now.setup ≡ state.now.machine.setup }
-    ensures check { Checks (create_refusal state.now.machine caller.0 project.now set.now.set) result }
+    ensures check { Checks (create_refusal state.now.machine caller.0 project.now set.now.set)
+        result }
     ensures place { IfOk result (λ no.
         place_named project.now (project_keys state.now.machine.setup) ≡ Some no.0) }
     ensures there { IfOk result (λ no. no.0 < length state.now.machine.setup.project) }

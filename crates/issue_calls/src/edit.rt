@@ -36,17 +36,14 @@ pub fn edit(
     ensures same { state.new.machine ≡ state.old.machine }
     ensures table { state.new.watched.views.table ≡ state.old.watched.views.table }
     ensures filters { state.new.watched.filters ≡ state.old.watched.filters }
-    ensures prepared { IsPrepared (edit_meaning state.old.machine caller.0 issue.now set.now) state.new result }
+    ensures prepared { IsPrepared (edit_meaning state.old.machine caller.0 issue.now set.now)
+        state.new result }
 {
-    let Ok(given) = ResolvedSet::of(alloc, state.setup(), set) else {
-        return Err(Refusal::Memory);
-    };
+    let given = ResolvedSet::of(alloc, state.setup(), set)?;
     let checked = check_edit(alloc, state, caller, issue, &given);
     drop(given);
-    match checked {
-        Ok((place, changes)) => change(alloc, state, caller, place, issue, changes),
-        Err(refusal) => Err(refusal),
-    }
+    let (place, changes) = checked?;
+    change(alloc, state, caller, place, issue, changes)
 }
 
 // The place of the issue, and what its fields become.
@@ -59,7 +56,8 @@ fn check_edit(
 ) -> Result<(usize, Vec<Change>), Refusal>
     requires { set.now.setup ≡ state.now.machine.setup }
     ensures check { Checks (edit_refusal state.now.machine caller.0 issue.now set.now.set) result }
-    ensures place { IfOk result (λ r. place_of_issue issue.now state.now.machine.histories ≡ Some r.0) }
+    ensures place { IfOk result (λ r. place_of_issue issue.now state.now.machine.histories
+        ≡ Some r.0) }
     ensures there { IfOk result (λ r. r.0 < length state.now.machine.histories) }
     ensures changes { IfOk result (λ r. r.1.items ≡ set_changes state.now.machine set.now.set) }
     ensures fitting { IfOk result (λ r. AllFit (names_in state.now.machine.setup) r.1.items) }
@@ -97,11 +95,10 @@ fn change(
     ensures table { state.new.watched.views.table ≡ state.old.watched.views.table }
     ensures filters { state.new.watched.filters ≡ state.old.watched.filters }
     ensures prepared { IfSome (slice_get state.old.machine.histories place) (λ h.
-        IsPrepared (grouped (edit_answer name.now) state.old.machine caller.0 place h (net_changes (present h) changes.items)) state.new result) }
+        IsPrepared (grouped (edit_answer name.now) state.old.machine caller.0 place h
+        (net_changes (present h) changes.items)) state.new result) }
 {
-    let Ok(net) = news(alloc, state, place, changes) else {
-        return Err(Refusal::Memory);
-    };
+    let net = news(alloc, state, place, changes)?;
     grouped(alloc, state, caller, GroupCall::Edit, place, name, net)
 }
 
@@ -115,8 +112,10 @@ fn news(
     requires there { place < length state.now.machine.histories }
     requires fitting { AllFit (names_in state.now.machine.setup) changes.items }
     requires sprints { AreOfSprints (length state.now.machine.sprints) changes.items }
-    ensures net { IfOk result (λ net. IfSome (slice_get state.now.machine.histories place) (λ h. net.items ≡ net_changes (present h) changes.items)) }
-    ensures news { IfOk result (λ net. IfSome (slice_get state.now.machine.histories place) (λ h. AreNews (present h) 0 net.items)) }
+    ensures net { IfOk result (λ net. IfSome (slice_get state.now.machine.histories place) (λ h.
+        net.items ≡ net_changes (present h) changes.items)) }
+    ensures news { IfOk result (λ net. IfSome (slice_get state.now.machine.histories place) (λ h.
+        AreNews (present h) 0 net.items)) }
     ensures fitting { IfOk result (λ net. AllFit (names_in state.now.machine.setup) net.items) }
     ensures sprints { IfOk result (λ net.
         AreOfSprints (length state.now.machine.sprints) net.items) }
@@ -128,9 +127,11 @@ fn news(
 }
 
 fn news_of(alloc: Global, issue: &Issue, changes: Vec<Change>) -> Result<Vec<Change>, Memory>
-    ensures net { IfOk result (λ net. net.items ≡ net_changes (present issue.now.history) changes.items) }
+    ensures net { IfOk result (λ net. net.items
+        ≡ net_changes (present issue.now.history) changes.items) }
     ensures news { IfOk result (λ net. AreNews (present issue.now.history) 0 net.items) }
-    ensures fitting { IfOk result (λ net. (names : Names) → AllFit names changes.items → AllFit names net.items) }
+    ensures fitting { IfOk result (λ net. (names : Names) → AllFit names changes.items →
+        AllFit names net.items) }
     ensures sprints { IfOk result (λ net. (count : ℕ) →
         AreOfSprints count changes.items → AreOfSprints count net.items) }
 {

@@ -54,11 +54,10 @@ fn told_of(
         opening.entry.issue_type.now opening.entry.summary.now issue.now.history)
         external.now issue.now.history) result }
 {
-    match is_created_as(alloc, state, issue, project, opening) {
-        Ok(true) => told(alloc, issue),
-        Ok(false) => Err(another(alloc, issue, external)),
-        Err(_) => Err(Refusal::Memory),
+    if is_created_as(alloc, state, issue, project, opening)? {
+        return told(alloc, issue);
     }
+    Err(another(alloc, issue, external))
 }
 
 // The issue is told as the one that the call asks for.
@@ -66,14 +65,12 @@ fn told(alloc: Global, issue: &Issue) -> Result<Answer, Refusal>
     ensures { IsTold (Tells
         (Answer.Create true issue.now.history.change issue.now.history.key)) result }
 {
-    match Text::copy_of(alloc, issue.key().as_str()) {
-        Ok(key) => Ok(Answer::Create {
-            already: true,
-            change: issue.change(),
-            issue: key,
-        }),
-        Err(_) => Err(Refusal::Memory),
-    }
+    let key = Text::copy_of(alloc, issue.key().as_str())?;
+    Ok(Answer::Create {
+        already: true,
+        change: issue.change(),
+        issue: key,
+    })
 }
 
 // The refusal of a create whose external id is that of another issue.

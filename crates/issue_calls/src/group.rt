@@ -52,24 +52,22 @@ pub fn grouped(
     requires user { caller.0 < length state.old.machine.setup.users }
     requires few { entries_kept state.old.machine.histories ≤ 1_999_957 }
     requires light { bytes_kept state.old.machine.histories ≤ 499_800_000 }
-    requires news { IfSome (slice_get state.old.machine.histories place) (λ h. AreNews (present h) 0 net.items) }
+    requires news { IfSome (slice_get state.old.machine.histories place) (λ h.
+        AreNews (present h) 0 net.items) }
     requires fitting { AllFit (names_in state.old.machine.setup) net.items }
     requires sprints { AreOfSprints (length state.old.machine.sprints) net.items }
     ensures same { state.new.machine ≡ state.old.machine }
     ensures table { state.new.watched.views.table ≡ state.old.watched.views.table }
     ensures filters { state.new.watched.filters ≡ state.old.watched.filters }
     ensures prepared { IfSome (slice_get state.old.machine.histories place) (λ h.
-        IsPrepared (grouped (group_answer call name.now) state.old.machine caller.0 place h net.items) state.new result) }
+        IsPrepared (grouped (group_answer call name.now) state.old.machine caller.0 place h
+        net.items) state.new result) }
 {
-    let Ok(told) = Text::copy_of(alloc, name) else {
-        return Err(Refusal::Memory);
-    };
+    let told = Text::copy_of(alloc, name)?;
     if net.is_empty() {
         return Ok(Prepared::Tell(answer_of(call, told, None)));
     }
-    let Ok((new, rows)) = new_group(alloc, state, caller, place, net) else {
-        return Err(Refusal::Memory);
-    };
+    let (new, rows) = new_group(alloc, state, caller, place, net)?;
     let answer = answer_of(call, told, Some(new.group.change));
     Ok(Prepared::Make {
         plan: Plan::Group(new),
@@ -99,7 +97,8 @@ fn new_group(
     requires user { caller.0 < length state.old.machine.setup.users }
     requires few { entries_kept state.old.machine.histories ≤ 1_999_957 }
     requires light { bytes_kept state.old.machine.histories ≤ 499_800_000 }
-    requires news { IfSome (slice_get state.old.machine.histories place) (λ h. AreNews (present h) 0 net.items) }
+    requires news { IfSome (slice_get state.old.machine.histories place) (λ h.
+        AreNews (present h) 0 net.items) }
     requires some { net.items ≢ [] }
     requires fitting { AllFit (names_in state.old.machine.setup) net.items }
     requires sprints { AreOfSprints (length state.old.machine.sprints) net.items }
@@ -108,11 +107,14 @@ fn new_group(
     ensures table { state.new.watched.views.table ≡ state.old.watched.views.table }
     ensures filters { state.new.watched.filters ≡ state.old.watched.filters }
     ensures place { IfOk result (λ r. r.0.place ≡ place) }
-    ensures group { IfOk result (λ r. IfSome (slice_get state.old.machine.histories place) (λ h. r.0.group ≡ next_group state.old.machine caller.0 h net.items)) }
+    ensures group { IfOk result (λ r. IfSome (slice_get state.old.machine.histories place) (λ h.
+        r.0.group ≡ next_group state.old.machine caller.0 h net.items)) }
     ensures allowed { IfOk result (λ r. MayGroup state.old.machine place r.0.group) }
     ensures fits { IfOk result (λ r. GroupFits state.new r.0) }
     ensures rows { IfOk result (λ r. IfSome (slice_get state.old.machine.histories place) (λ h.
-        r.1.items ≡ present_op state.old.machine.balance (state.old.machine.change + 1) state.old.machine.moment ∷ RowOp.Put (group_row (names_in state.old.machine.setup) h r.0.group) ∷ [])) }
+        r.1.items ≡ present_op state.old.machine.balance
+        (state.old.machine.change + 1) state.old.machine.moment
+        ∷ RowOp.Put (group_row (names_in state.old.machine.setup) h r.0.group) ∷ [])) }
 {
     let group = group_of(alloc, state, caller, place, net)?;
     let bytes = bytes_of_entries(group.entries.as_slice());
@@ -164,7 +166,8 @@ fn sprints_of(
 // The row of a group of the issue at a place.
 fn row_of(alloc: Global, state: &State, place: usize, group: &Group) -> Result<Row, Memory>
     requires may { MayGroup state.now.machine place group.now }
-    ensures { IfOk result (λ row. IfSome (slice_get state.now.machine.histories place) (λ h. row ≡ group_row (names_in state.now.machine.setup) h group.now)) }
+    ensures { IfOk result (λ row. IfSome (slice_get state.now.machine.histories place) (λ h.
+        row ≡ group_row (names_in state.now.machine.setup) h group.now)) }
 {
     state.is_tracker();
     let Some(issue) = state.issue_at(place) else {
@@ -175,7 +178,8 @@ fn row_of(alloc: Global, state: &State, place: usize, group: &Group) -> Result<R
 
 #[tactic(auto, unfolding(tracker_keeper::specs::Bodies::body_text))]
 fn issue_row_of(alloc: Global, setup: &Setup, issue: &Issue, group: &Group) -> Result<Row, Memory>
-    requires { All (IsGroupEntry (names setup.now) group.now.change group.now.at group.now.author) group.now.entries }
+    requires { All (IsGroupEntry (names setup.now) group.now.change group.now.at group.now.author)
+        group.now.entries }
     ensures { IfOk result (λ row. row ≡ group_row (names setup.now) issue.now.history group.now) }
 {
     let body = group_text(alloc, setup, issue.no(), group)?;
@@ -195,18 +199,22 @@ fn group_of(
     net: Vec<Change>,
 ) -> Result<Group, Memory>
     requires there { place < length state.now.machine.histories }
-    requires news { IfSome (slice_get state.now.machine.histories place) (λ h. AreNews (present h) 0 net.items) }
+    requires news { IfSome (slice_get state.now.machine.histories place) (λ h.
+        AreNews (present h) 0 net.items) }
     requires some { net.items ≢ [] }
     requires fitting { AllFit (names_in state.now.machine.setup) net.items }
     requires sprints { AreOfSprints (length state.now.machine.sprints) net.items }
     ensures change { IfOk result (λ group. group.change ≡ state.now.machine.change + 1) }
     ensures at { IfOk result (λ group. group.at ≡ state.now.machine.moment) }
     ensures author { IfOk result (λ group. group.author ≡ caller) }
-    ensures entries { IfOk result (λ group. IfSome (slice_get state.now.machine.histories place) (λ h.
-        group.entries ≡ entries_of (present h) (state.now.machine.change + 1) state.now.machine.moment caller net.items)) }
+    ensures entries { IfOk result (λ group.
+        IfSome (slice_get state.now.machine.histories place) (λ h.
+        group.entries ≡ entries_of (present h)
+        (state.now.machine.change + 1) state.now.machine.moment caller net.items)) }
     ensures few { IfOk result (λ group. length group.entries ≤ 43) }
     ensures light { IfOk result (λ group. AllLight group.entries) }
-    ensures fitting { IfOk result (λ group. AllEntriesFit (names_in state.now.machine.setup) group.entries) }
+    ensures fitting { IfOk result (λ group.
+        AllEntriesFit (names_in state.now.machine.setup) group.entries) }
     ensures sprints { IfOk result (λ group.
         BringsSprints (length state.now.machine.sprints) group.entries) }
     ensures may { IfOk result (λ group. IfSome (slice_get state.now.machine.histories place) (λ h.
@@ -240,12 +248,17 @@ fn net_entries(
     requires earlier { last_change issue.now.history.change issue.now.history.entries < change }
     requires news { AreNews (present issue.now.history) 0 net.items }
     requires some { net.items ≢ [] }
-    ensures entries { IfOk result (λ entries. entries ≡ entries_of (present issue.now.history) change at author net.items) }
-    ensures few { IfOk result (λ entries. (names : Names) → AllFit names net.items → length names.fields ≤ 30 → length entries ≤ 43) }
-    ensures fitting { IfOk result (λ entries. (names : Names) → AllFit names net.items → AllEntriesFit names entries) }
+    ensures entries { IfOk result (λ entries. entries
+        ≡ entries_of (present issue.now.history) change at author net.items) }
+    ensures few { IfOk result (λ entries. (names : Names) → AllFit names net.items →
+        length names.fields ≤ 30 → length entries ≤ 43) }
+    ensures fitting { IfOk result (λ entries. (names : Names) → AllFit names net.items →
+        AllEntriesFit names entries) }
     ensures sprints { IfOk result (λ entries. (count : ℕ) →
         AreOfSprints count net.items → BringsSprints count entries) }
-    ensures light { IfOk result (λ entries. (names : Names) → GroupsAreLight names → ((f : FieldNo) → Holds names f (present issue.now.history f)) → AllFit names net.items → AllLight entries) }
+    ensures light { IfOk result (λ entries. (names : Names) → GroupsAreLight names →
+        ((f : FieldNo) → Holds names f (present issue.now.history f)) → AllFit names net.items →
+        AllLight entries) }
     ensures may { IfOk result (λ entries. MayAdd issue.now.history change at author entries) }
 {
     entries_of(alloc, issue, change, at, author, net)
@@ -260,7 +273,8 @@ fn entries_of(
     author: UserNo,
     changes: Vec<Change>,
 ) -> Result<Entries, Memory>
-    ensures { IfOk result (λ entries. entries ≡ entries_of (present issue.now.history) change at author changes.items) }
+    ensures { IfOk result (λ entries. entries
+        ≡ entries_of (present issue.now.history) change at author changes.items) }
 {
     let mut entries = Entries::new(alloc);
     for next in changes {

@@ -23,18 +23,18 @@ pub fn history(
     issue: &str,
     part: Part,
 ) -> Result<Prepared, Refusal>
-    ensures { IsPrepared (history_meaning state.now.machine caller.0 issue.now part) state.now result }
+    ensures { IsPrepared (history_meaning state.now.machine caller.0 issue.now part)
+        state.now result }
 {
     let place = check_show(alloc, state, caller, issue)?;
-    match told(alloc, state, place, part) {
-        Ok(answer) => Ok(Prepared::Tell(answer)),
-        Err(_) => Err(Refusal::Memory),
-    }
+    let answer = told(alloc, state, place, part)?;
+    Ok(Prepared::Tell(answer))
 }
 
 fn told(alloc: Global, state: &State, place: usize, part: Part) -> Result<Answer, Memory>
     requires { place < length state.now.machine.histories }
-    ensures { IfOk result (λ answer. answer ≡ history_answer_of state.now.machine part (slice_get state.now.machine.histories place)) }
+    ensures { IfOk result (λ answer. answer
+        ≡ history_answer_of state.now.machine part (slice_get state.now.machine.histories place)) }
 {
     let Some(issue) = state.issue_at(place) else {
         unreachable!()
@@ -45,7 +45,9 @@ fn told(alloc: Global, state: &State, place: usize, part: Part) -> Result<Answer
 #[tactic(auto, using(crate::proofs::Holding::held_part))]
 fn issue_answer(alloc: Global, setup: &Setup, issue: &Issue, part: Part) -> Result<Answer, Memory>
     requires { AllEntriesHold (names_in (parts setup.now)) issue.now.history.entries }
-    ensures { IfOk result (λ answer. answer ≡ Answer.History (map (told_entry (names_in (parts setup.now))) (part_of part issue.now.history.entries)) (length issue.now.history.entries)) }
+    ensures { IfOk result (λ answer. answer
+        ≡ Answer.History (map (told_entry (names_in (parts setup.now)))
+        (part_of part issue.now.history.entries)) (length issue.now.history.entries)) }
 {
     let entries = issue.part(part.from as usize, part.count as usize);
     Ok(Answer::History {
@@ -56,7 +58,8 @@ fn issue_answer(alloc: Global, setup: &Setup, issue: &Issue, part: Part) -> Resu
 
 fn told_entries(alloc: Global, setup: &Setup, entries: &[Entry]) -> Result<ToldEntries, Memory>
     requires { AllEntriesHold (names_in (parts setup.now)) entries.now }
-    ensures { IfOk result (λ told. told ≡ map (told_entry (names_in (parts setup.now))) entries.now) }
+    ensures { IfOk result (λ told. told
+        ≡ map (told_entry (names_in (parts setup.now))) entries.now) }
 {
     let mut told = ToldEntries::new(alloc);
     for entry in entries {

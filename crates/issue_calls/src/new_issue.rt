@@ -48,10 +48,8 @@ pub fn place_last(
     ensures prepared { IsPrepared (created_last state.old.machine caller.0
         (option_copied external.entry) new) state.new result }
 {
-    match last_rank(alloc, state) {
-        Ok(rank) => open(alloc, state, caller, new, rank, external),
-        Err(refusal) => Err(refusal),
-    }
+    let rank = last_rank(alloc, state)?;
+    open(alloc, state, caller, new, rank, external)
 }
 
 // The rank behind all others.
@@ -86,18 +84,10 @@ fn open(
         (option_copied external.entry) values.changes.items rank) state.new result }
 {
     state.is_tracker();
-    let Ok((new, row)) = new_issue(alloc, state, caller, values, rank, external) else {
-        return Err(Refusal::Memory);
-    };
-    let Ok(rows) = issue_ops(alloc, state, row, &new) else {
-        return Err(Refusal::Memory);
-    };
-    let Ok(told) = Text::copy_of(alloc, new.key.as_str()) else {
-        return Err(Refusal::Memory);
-    };
-    let Ok(()) = reserve(state, &new) else {
-        return Err(Refusal::Memory);
-    };
+    let (new, row) = new_issue(alloc, state, caller, values, rank, external)?;
+    let rows = issue_ops(alloc, state, row, &new)?;
+    let told = Text::copy_of(alloc, new.key.as_str())?;
+    reserve(state, &new)?;
     let answer = Answer::Create {
         already: false,
         change: state.next_change(),

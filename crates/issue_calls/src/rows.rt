@@ -16,7 +16,8 @@ pub fn row_ops(
     moment: Moment,
     row: Row,
 ) -> Result<Vec<RowOp>, Memory>
-    ensures { IfOk result (λ ops. ops.items ≡ present_op balance change moment ∷ RowOp.Put row ∷ []) }
+    ensures { IfOk result (λ ops. ops.items
+        ≡ present_op balance change moment ∷ RowOp.Put row ∷ []) }
 {
     let mut ops = present_ops(alloc, balance, change, moment)?;
     ops.push(RowOp::Put(row))?;

@@ -40,25 +40,22 @@ pub fn transition(
     ensures same { state.new.machine ≡ state.old.machine }
     ensures table { state.new.watched.views.table ≡ state.old.watched.views.table }
     ensures filters { state.new.watched.filters ≡ state.old.watched.filters }
-    ensures prepared { IsPrepared (transition_meaning state.old.machine caller.0 issue.now transition.now set.now) state.new result }
+    ensures prepared { IsPrepared (transition_meaning state.old.machine caller.0 issue.now
+        transition.now set.now) state.new result }
 {
-    let Ok(given) = ResolvedSet::of(alloc, state.setup(), set) else {
-        return Err(Refusal::Memory);
-    };
+    let given = ResolvedSet::of(alloc, state.setup(), set)?;
     let checked = check_transition(alloc, state, caller, issue, transition, &given);
     drop(given);
-    match checked {
-        Ok((place, net)) => grouped(
-            alloc,
-            state,
-            caller,
-            GroupCall::Transition,
-            place,
-            issue,
-            net,
-        ),
-        Err(refusal) => Err(refusal),
-    }
+    let (place, net) = checked?;
+    grouped(
+        alloc,
+        state,
+        caller,
+        GroupCall::Transition,
+        place,
+        issue,
+        net,
+    )
 }
 
 // The place of the issue, and what the transition changes of it.
@@ -72,12 +69,17 @@ fn check_transition(
 ) -> Result<(usize, Vec<Change>), Refusal>
     requires setup { set.now.setup ≡ state.now.machine.setup }
     requires user { caller.0 < length state.now.machine.setup.users }
-    ensures check { Checks (transition_refusal state.now.machine caller.0 issue.now transition.now set.now.set) result }
-    ensures place { IfOk result (λ r. place_of_issue issue.now state.now.machine.histories ≡ Some r.0) }
+    ensures check { Checks (transition_refusal state.now.machine caller.0 issue.now transition.now
+        set.now.set) result }
+    ensures place { IfOk result (λ r. place_of_issue issue.now state.now.machine.histories
+        ≡ Some r.0) }
     ensures there { IfOk result (λ r. r.0 < length state.now.machine.histories) }
-    ensures net { IfOk result (λ r. r.1.items ≡ transition_news state.now.machine caller.0 set.now.set
-        (slice_get state.now.machine.histories r.0) (transition_named state.now.machine transition.now)) }
-    ensures news { IfOk result (λ r. IfSome (slice_get state.now.machine.histories r.0) (λ h. AreNews (present h) 0 r.1.items)) }
+    ensures net { IfOk result (λ r. r.1.items
+        ≡ transition_news state.now.machine caller.0 set.now.set
+        (slice_get state.now.machine.histories r.0)
+        (transition_named state.now.machine transition.now)) }
+    ensures news { IfOk result (λ r.
+        IfSome (slice_get state.now.machine.histories r.0) (λ h. AreNews (present h) 0 r.1.items)) }
     ensures fitting { IfOk result (λ r. AllFit (names_in state.now.machine.setup) r.1.items) }
     ensures sprints { IfOk result (λ r. AreOfSprints (length state.now.machine.sprints) r.1.items) }
     ensures few { IfOk result (λ r. entries_kept state.now.machine.histories ≤ 1_999_957) }
@@ -109,10 +111,15 @@ fn check_plan(
     requires there { place < length state.now.machine.histories }
     requires named { transition < length state.now.machine.setup.transition }
     requires known { GivesKnownSprint state.now.machine set.now.set }
-    ensures check { Checks (plan_refusal state.now.machine caller.0 set.now.set (slice_get state.now.machine.histories place) (slice_get state.now.machine.setup.transition transition)) result }
-    ensures net { IfOk result (λ net. net.items ≡ transition_news state.now.machine caller.0 set.now.set
-        (slice_get state.now.machine.histories place) (slice_get state.now.machine.setup.transition transition)) }
-    ensures news { IfOk result (λ net. IfSome (slice_get state.now.machine.histories place) (λ h. AreNews (present h) 0 net.items)) }
+    ensures check { Checks (plan_refusal state.now.machine caller.0 set.now.set
+        (slice_get state.now.machine.histories place)
+        (slice_get state.now.machine.setup.transition transition)) result }
+    ensures net { IfOk result (λ net. net.items
+        ≡ transition_news state.now.machine caller.0 set.now.set
+        (slice_get state.now.machine.histories place)
+        (slice_get state.now.machine.setup.transition transition)) }
+    ensures news { IfOk result (λ net. IfSome (slice_get state.now.machine.histories place) (λ h.
+        AreNews (present h) 0 net.items)) }
     ensures fitting { IfOk result (λ net. AllFit (names_in state.now.machine.setup) net.items) }
     ensures sprints { IfOk result (λ net.
         AreOfSprints (length state.now.machine.sprints) net.items) }
@@ -138,9 +145,13 @@ fn plan_of(
     requires rules { rules_are_sound (names_in state.now.machine.setup) transition.now ≡ true }
     requires known { GivesKnownSprint state.now.machine set.now.set }
     requires user { caller.0 < length state.now.machine.setup.users }
-    requires reporter { Holds (names_in state.now.machine.setup) reporter (present issue.now.history reporter) }
-    ensures check { Checks (plan_refusal state.now.machine caller.0 set.now.set (Some issue.now.history) (Some transition.now)) result }
-    ensures net { IfOk result (λ net. net.items ≡ transition_news state.now.machine caller.0 set.now.set (Some issue.now.history) (Some transition.now)) }
+    requires reporter { Holds (names_in state.now.machine.setup) reporter
+        (present issue.now.history reporter) }
+    ensures check { Checks (plan_refusal state.now.machine caller.0 set.now.set
+        (Some issue.now.history) (Some transition.now)) result }
+    ensures net { IfOk result (λ net. net.items
+        ≡ transition_news state.now.machine caller.0 set.now.set (Some issue.now.history)
+        (Some transition.now)) }
     ensures news { IfOk result (λ net. AreNews (present issue.now.history) 0 net.items) }
     ensures fitting { IfOk result (λ net. AllFit (names_in state.now.machine.setup) net.items) }
     ensures sprints { IfOk result (λ net.
@@ -149,10 +160,8 @@ fn plan_of(
     check_conditions(state, caller, issue, transition)?;
     let inputs = known_values(alloc, state, set, None)?;
     check_validators(state, caller, issue, transition, inputs.as_slice())?;
-    match news_of(alloc, state.setup(), caller, issue, transition, inputs) {
-        Ok(net) => Ok(net),
-        Err(_) => Err(Refusal::Memory),
-    }
+    let net = news_of(alloc, state.setup(), caller, issue, transition, inputs)?;
+    Ok(net)
 }
 
 fn check_conditions(
@@ -161,7 +170,8 @@ fn check_conditions(
     issue: &Issue,
     transition: &Transition,
 ) -> Result<(), Refusal>
-    ensures { Checks (condition_refusal state.now.machine caller.0 (Some issue.now.history) (Some transition.now)) result }
+    ensures { Checks (condition_refusal state.now.machine caller.0 (Some issue.now.history)
+        (Some transition.now)) result }
 {
     match failing_condition(state.setup(), issue, caller, transition) {
         Some(index) => Err(Refusal::Condition { index }),
@@ -176,7 +186,8 @@ fn check_validators(
     transition: &Transition,
     inputs: &[Change],
 ) -> Result<(), Refusal>
-    ensures { Checks (validator_refusal state.now.machine caller.0 inputs.now (Some issue.now.history) (Some transition.now)) result }
+    ensures { Checks (validator_refusal state.now.machine caller.0 inputs.now
+        (Some issue.now.history) (Some transition.now)) result }
 {
     match failing_validator(
         state.setup(),
@@ -204,9 +215,11 @@ fn news_of(
     requires sound { IsSoundTransition (parts setup.now) transition.now }
     requires rules { rules_are_sound (names_in (parts setup.now)) transition.now ≡ true }
     requires user { caller.0 < length setup.now.users }
-    requires reporter { Holds (names_in (parts setup.now)) reporter (present issue.now.history reporter) }
+    requires reporter { Holds (names_in (parts setup.now)) reporter
+        (present issue.now.history reporter) }
     requires inputs { AllFit (names_in (parts setup.now)) inputs.items }
-    ensures net { IfOk result (λ net. net.items ≡ planned (parts setup.now) issue.now.history caller transition.now inputs.items) }
+    ensures net { IfOk result (λ net. net.items
+        ≡ planned (parts setup.now) issue.now.history caller transition.now inputs.items) }
     ensures news { IfOk result (λ net. AreNews (present issue.now.history) 0 net.items) }
     ensures fitting { IfOk result (λ net. AllFit (names_in (parts setup.now)) net.items) }
     ensures sprints { IfOk result (λ net. (count : ℕ) →

@@ -3,6 +3,5 @@ pub mod Readings
 pub mod NextCalls
 pub mod Whole
 pub mod Ends
-pub mod Holding
 pub mod WorkedReading
 pub mod WorkedWriting

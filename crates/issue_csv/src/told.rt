@@ -2,24 +2,13 @@
 ghost use Rattle.std.specs.Prelude.{◌≡◌, ◌⊎◌, true, IfOk};
 ghost use Rattle.field_forms.specs.Known.{fits};
 ghost use Rattle.fields.specs.SetupParts.{names};
-ghost use Rattle.civil_dates.specs.Days.{is_day};
-ghost use Rattle.civil_dates.specs.DateText.{date_text};
 ghost use Rattle.issue_csv.specs.Writing.{column_text, project_of};
 
 use change_history::Key;
-use fields::{Day, FieldNo, Memory, Setup, Text, Value, name_at};
+use fields::{FieldNo, Memory, Setup, Text, Value, name_at};
 use std::alloc::Global;
 
-fn day_text(alloc: Global, day: Day) -> Result<Text, Memory>
-    requires { is_day day.0 ≡ true }
-    ensures { IfOk result (λ text. text ≡ date_text day.0) }
-{
-    let text = civil_dates::date_text(alloc, day.0)?;
-    Ok(Text::of(text))
-}
-
 /// The text of a value; an empty one where the value is empty.
-#[tactic(auto, using(crate::proofs::Holding::day_inside))]
 pub fn column_text(
     alloc: Global,
     setup: &Setup,
@@ -34,7 +23,7 @@ pub fn column_text(
         Value::Number(_) => setup.text_of(alloc, field, value),
         Value::Choice(_) => setup.text_of(alloc, field, value),
         Value::User(user) => name_at(alloc, setup.users.as_slice(), user.0),
-        Value::Date(day) => day_text(alloc, *day),
+        Value::Date(_) => setup.text_of(alloc, field, value),
         Value::Empty => Text::copy_of(alloc, ""),
         Value::Set(_) => Text::copy_of(alloc, ""),
         Value::Labels(_) => Text::copy_of(alloc, ""),

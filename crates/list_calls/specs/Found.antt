@@ -9,11 +9,14 @@ use Rattle.tracker_machine.specs.Machine.{Machine}
 
 -- both users may browse the issue
 abbrev pub may_both : Machine → ℕ → ℕ → History → Bool
-may_both m owner caller h = may m.setup owner Browse (project_number m.setup h) && may m.setup caller Browse (project_number m.setup h)
+may_both m owner caller h =
+    may m.setup owner Browse (project_number m.setup h)
+    && may m.setup caller Browse (project_number m.setup h)
 
 abbrev pub if_both : Machine → ℕ → ℕ → History → Option History
 if_both m owner caller h = if may_both m owner caller h then Some h else None
 
 -- the issue of a number, where both users may browse it
 abbrev pub browsed : Machine → ℕ → ℕ → IssueNo → Option History
-browsed m owner caller number = option_and_then (if_both m owner caller) (slice_get m.histories (number.0 - 1))
+browsed m owner caller number =
+    option_and_then (if_both m owner caller) (slice_get m.histories (number.0 - 1))

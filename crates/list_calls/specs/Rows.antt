@@ -14,4 +14,5 @@ filter_op names f = Put (record { kind = 8; no = f.no.0; body = body_text names 
 
 -- and one that keeps a board
 abbrev pub board_op : Board → RowOp
-board_op b = Put (record { kind = 9; no = b.no.0; body = compact_text (board_data b.filter.0 b.name) })
+board_op b =
+    Put (record { kind = 9; no = b.no.0; body = compact_text (board_data b.filter.0 b.name) })

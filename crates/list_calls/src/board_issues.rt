@@ -27,10 +27,8 @@ pub fn board(
     ensures { IsPrepared (board_meaning state.now.machine caller.0 no part) state.now result }
 {
     let board = known_board(alloc, state, no)?;
-    match told(alloc, state, caller, board, part) {
-        Ok(answer) => Ok(Prepared::Tell(answer)),
-        Err(_) => Err(Refusal::Memory),
-    }
+    let answer = told(alloc, state, caller, board, part)?;
+    Ok(Prepared::Tell(answer))
 }
 
 fn told(
@@ -40,7 +38,8 @@ fn told(
     board: &Board,
     part: Part,
 ) -> Result<Answer, Memory>
-    ensures { IfOk result (λ answer. answer ≡ board_answer state.now.machine caller.0 part board.now) }
+    ensures { IfOk result (λ answer. answer
+        ≡ board_answer state.now.machine caller.0 part board.now) }
 {
     let mut issues = issues_of(alloc, state, caller, board)?;
     let total = count_of(&issues);

@@ -19,7 +19,8 @@ use tracker_state::{State, unnumbered};
 pub fn filter_numbered(state: &State, no: FilterNo) -> Option<&Filter>
     ensures filter { option_copied result ≡ by_number number no.0 state.now.watched.filters }
     ensures own { IfSome result (λ filter. filter.now.no ≡ no) }
-    ensures named { option_map saved_as (option_copied result) ≡ filter_numbered state.now.machine no }
+    ensures named { option_map saved_as (option_copied result)
+        ≡ filter_numbered state.now.machine no }
 {
     state.have_seen();
     state.filters().get(no)
@@ -27,9 +28,11 @@ pub fn filter_numbered(state: &State, no: FilterNo) -> Option<&Filter>
 
 /// The filter of that number.
 pub fn known_filter(alloc: Global, state: &State, no: FilterNo) -> Result<&Filter, Refusal>
-    ensures filter { IfOk result (λ filter. by_number number no.0 state.now.watched.filters ≡ Some filter.now) }
+    ensures filter { IfOk result (λ filter. by_number number no.0 state.now.watched.filters
+        ≡ Some filter.now) }
     ensures own { IfOk result (λ filter. filter.now.no ≡ no) }
-    ensures named { IfOk result (λ filter. filter_numbered state.now.machine no ≡ Some (saved_as filter.now)) }
+    ensures named { IfOk result (λ filter. filter_numbered state.now.machine no
+        ≡ Some (saved_as filter.now)) }
     ensures check { Checks (unless_filter state.now.machine no) result }
 {
     match filter_numbered(state, no) {

@@ -20,9 +20,7 @@ pub fn drop_board(
     ensures { IsPrepared (drop_board_meaning state.now.machine caller.0 no) state.now result }
 {
     check_drop(alloc, state, caller, no)?;
-    let Ok(rows) = drop_board_ops(alloc, no) else {
-        return Err(Refusal::Memory);
-    };
+    let rows = drop_board_ops(alloc, no)?;
     Ok(Prepared::Make {
         plan: Plan::DropBoard(no),
         answer: Answer::DropBoard { board: no },

@@ -23,9 +23,7 @@ pub fn drop_filter(
     ensures { IsPrepared (drop_filter_meaning state.now.machine caller.0 no) state.now result }
 {
     check_drop(alloc, state, caller, no)?;
-    let Ok(rows) = drop_filter_ops(alloc, no, state.boards().as_slice()) else {
-        return Err(Refusal::Memory);
-    };
+    let rows = drop_filter_ops(alloc, no, state.boards().as_slice())?;
     Ok(Prepared::Make {
         plan: Plan::DropFilter(no),
         answer: Answer::DropFilter { filter: no },
@@ -43,7 +41,8 @@ fn check_drop(alloc: Global, state: &State, caller: UserNo, no: FilterNo) -> Res
 
 // The caller owns the filter, or may administer the tracker.
 fn check_owner(alloc: Global, state: &State, caller: UserNo, filter: &Filter) -> Result<(), Refusal>
-    ensures { Checks (owner_refusal state.now.machine caller.0 (Some (saved_as filter.now))) result }
+    ensures { Checks (owner_refusal state.now.machine caller.0 (Some (saved_as filter.now)))
+        result }
 {
     if filter.owner.0 == caller.0 {
         return Ok(());

@@ -32,10 +32,8 @@ pub fn filter(
     ensures { IsPrepared (filter_meaning state.now.machine caller.0 no part) state.now result }
 {
     let filter = known_filter(alloc, state, no)?;
-    match told(alloc, state, caller, filter, part) {
-        Ok(answer) => Ok(Prepared::Tell(answer)),
-        Err(_) => Err(Refusal::Memory),
-    }
+    let answer = told(alloc, state, caller, filter, part)?;
+    Ok(Prepared::Tell(answer))
 }
 
 fn told(
@@ -46,7 +44,8 @@ fn told(
     part: Part,
 ) -> Result<Answer, Memory>
     requires { by_number number filter.now.no.0 state.now.watched.filters ≡ Some filter.now }
-    ensures { IfOk result (λ answer. answer ≡ filter_answer state.now.machine caller.0 part (saved_as filter.now)) }
+    ensures { IfOk result (λ answer. answer
+        ≡ filter_answer state.now.machine caller.0 part (saved_as filter.now)) }
 {
     state.have_seen();
     let mut issues = shown(alloc, state, caller, filter)?;

@@ -25,24 +25,19 @@ pub fn make_board(
     requires title { is_title name.now ≡ true }
     ensures same { state.new.machine ≡ state.old.machine }
     ensures watched { state.new.watched ≡ state.old.watched }
-    ensures prepared { IsPrepared (make_board_meaning state.old.machine caller.0 name.now filter) state.new result }
+    ensures prepared { IsPrepared (make_board_meaning state.old.machine caller.0 name.now filter)
+        state.new result }
 {
     state.is_tracker();
     check_make(alloc, state, caller, filter)?;
-    let Ok(name) = Text::copy_of(alloc, name) else {
-        return Err(Refusal::Memory);
-    };
+    let name = Text::copy_of(alloc, name)?;
     let board = Board {
         no: state.boards().free_number(),
         name,
         filter,
     };
-    let Ok(rows) = board_ops(alloc, &board) else {
-        return Err(Refusal::Memory);
-    };
-    let Ok(()) = state.reserve_board() else {
-        return Err(Refusal::Memory);
-    };
+    let rows = board_ops(alloc, &board)?;
+    state.reserve_board()?;
     Ok(Prepared::Make {
         answer: Answer::MakeBoard { board: board.no },
         plan: Plan::Board(board),

@@ -14,7 +14,8 @@ use tracker_keeper::{Row, RowOp, board_text, filter_text};
 /// The operation that keeps a filter.
 #[tactic(auto, unfolding(tracker_keeper::specs::Bodies::body_text))]
 pub fn filter_ops(alloc: Global, setup: &Setup, filter: &Filter) -> Result<Vec<RowOp>, Memory>
-    ensures { IfOk result (λ ops. ops.items ≡ filter_op (names_in (parts setup.now)) (saved_as filter.now) ∷ []) }
+    ensures { IfOk result (λ ops. ops.items
+        ≡ filter_op (names_in (parts setup.now)) (saved_as filter.now) ∷ []) }
 {
     let owner = name_at(alloc, setup.users.as_slice(), filter.owner.0)?;
     let body = filter_text(

@@ -40,16 +40,16 @@ pub fn save_filter<L: Ledger>(
     ensures same { state.new.machine ≡ state.old.machine }
     ensures table { state.new.watched.views.table ≡ state.old.watched.views.table }
     ensures filters { state.new.watched.filters ≡ state.old.watched.filters }
-    ensures prepared { IsPrepared (save_filter_meaning state.old.machine caller.0 name.now jql.now) state.new result }
+    ensures prepared { IsPrepared (save_filter_meaning state.old.machine caller.0 name.now jql.now)
+        state.new result }
     ensures steps { steps.new ≤ steps.old
-        + cost_to_prepare (save_filter_meaning state.old.machine caller.0 name.now jql.now) state.old.machine }
+        + cost_to_prepare
+        (save_filter_meaning state.old.machine caller.0 name.now jql.now) state.old.machine }
 {
     state.is_tracker();
     check_filters(state, caller, name)?;
     let query = asked(alloc, state.setup(), caller, jql)?;
-    let Ok(filter) = filter_for(alloc, state, caller, name, jql, query) else {
-        return Err(Refusal::Memory);
-    };
+    let filter = filter_for(alloc, state, caller, name, jql, query)?;
     save(alloc, state, filter, steps)
 }
 
@@ -131,7 +131,8 @@ fn filter_for(
 
 // Whether the owner's filter of that name has this text already.
 fn is_kept(state: &State, filter: &Filter) -> bool
-    ensures { result ≡ is_kept state.now.machine filter.now.owner.0 filter.now.name filter.now.text }
+    ensures { result
+        ≡ is_kept state.now.machine filter.now.owner.0 filter.now.name filter.now.text }
 {
     match named(state, filter.owner, filter.name.as_str()) {
         Some(kept) => kept.text.as_str() == filter.text.as_str(),
@@ -157,9 +158,7 @@ fn save<L: Ledger>(
     ensures steps { steps.new ≤ steps.old + length state.old.machine.histories }
 {
     let is_kept = is_kept(state, &filter);
-    let Ok(ready) = verdicts(alloc, state, filter, steps) else {
-        return Err(Refusal::Memory);
-    };
+    let ready = verdicts(alloc, state, filter, steps)?;
     let answer = Answer::SaveFilter {
         filter: ready.filter().no,
         members: count_found(state, &ready),
@@ -199,7 +198,8 @@ fn count_found(state: &State, ready: &ReadyFilter) -> u64
     requires right { AreVerdicts
         (surroundings_in state.now.machine.setup state.now.machine.sprints) state.now.machine.moment
         (condition_of ready.now.filter) state.now.machine.histories ready.now.verdicts.items }
-    ensures { result ≡ length (found state.now.machine ready.now.filter.owner.0 (condition_of ready.now.filter)) }
+    ensures { result ≡ length
+        (found state.now.machine ready.now.filter.owner.0 (condition_of ready.now.filter)) }
 {
     let mut count = 0;
     for (place, issue) in state.issues().iter().enumerate() {
@@ -232,22 +232,20 @@ fn put(
     answer: Answer,
 ) -> Result<Prepared, Refusal>
     requires bound { IsBound state.old.machine.setup ready.filter }
-    requires may { MaySave state.old.machine.setup state.old.machine.filters (saved_as ready.filter) }
+    requires may { MaySave state.old.machine.setup state.old.machine.filters
+        (saved_as ready.filter) }
     requires right { AreVerdicts
         (surroundings_in state.old.machine.setup state.old.machine.sprints) state.old.machine.moment
         (condition_of ready.filter) state.old.machine.histories ready.verdicts.items }
     ensures same { state.new.machine ≡ state.old.machine }
     ensures table { state.new.watched.views.table ≡ state.old.watched.views.table }
     ensures filters { state.new.watched.filters ≡ state.old.watched.filters }
-    ensures prepared { IsPrepared (Makes answer (NewFilter (saved_as ready.filter))) state.new result }
+    ensures prepared { IsPrepared (Makes answer (NewFilter (saved_as ready.filter)))
+        state.new result }
 {
-    let Ok(rows) = filter_ops(alloc, state.setup(), ready.filter()) else {
-        return Err(Refusal::Memory);
-    };
+    let rows = filter_ops(alloc, state.setup(), ready.filter())?;
     state.have_seen();
-    let Ok(()) = state.reserve_filter() else {
-        return Err(Refusal::Memory);
-    };
+    state.reserve_filter()?;
     Ok(Prepared::Make {
         plan: Plan::Save(ready),
         answer,

@@ -11,7 +11,9 @@ use Rattle.tracker_state.specs.Rows.{rank_op}
 
 -- the operation that keeps a sprint
 abbrev pub sprint_op : SprintNo → Sprint → RowOp
-sprint_op sprint_no sprint = Put (record { kind = 7; no = sprint_no.0; body = compact_text (sprint_data sprint.name sprint.state) })
+sprint_op sprint_no sprint =
+    let body = compact_text (sprint_data sprint.name sprint.state) in
+    Put (record { kind = 7; no = sprint_no.0; body = body })
 
 -- those of the ranks that moves give
 abbrev pub rank_ops : List Move → List RowOp

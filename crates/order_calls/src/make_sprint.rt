@@ -25,19 +25,14 @@ pub fn make_sprint(
     requires title { is_title name.now ≡ true }
     ensures same { state.new.machine ≡ state.old.machine }
     ensures watched { state.new.watched ≡ state.old.watched }
-    ensures prepared { IsPrepared (make_sprint_meaning state.old.machine caller.0 name.now) state.new result }
+    ensures prepared { IsPrepared (make_sprint_meaning state.old.machine caller.0 name.now)
+        state.new result }
 {
     check_make(alloc, state, caller)?;
     let sprint = next_sprint(state);
-    let Ok(name) = Text::copy_of(alloc, name) else {
-        return Err(Refusal::Memory);
-    };
-    let Ok(rows) = sprint_ops(alloc, sprint, name.as_str(), &SprintState::Future) else {
-        return Err(Refusal::Memory);
-    };
-    let Ok(()) = state.reserve_sprint() else {
-        return Err(Refusal::Memory);
-    };
+    let name = Text::copy_of(alloc, name)?;
+    let rows = sprint_ops(alloc, sprint, name.as_str(), &SprintState::Future)?;
+    state.reserve_sprint()?;
     Ok(Prepared::Make {
         plan: Plan::Sprint(name),
         answer: Answer::MakeSprint { sprint },

@@ -29,7 +29,8 @@ pub fn move_before(
     other: &str,
 ) -> Result<Prepared, Refusal>
     requires apart { bytes_eq other.now issue.now ≡ false }
-    ensures { IsPrepared (move_before_meaning state.now.machine caller.0 issue.now other.now) state.now result }
+    ensures { IsPrepared (move_before_meaning state.now.machine caller.0 issue.now other.now)
+        state.now result }
 {
     let (no, beside) = check_move(alloc, state, caller, issue, other)?;
     put(alloc, state, issue, no, Place::Before(beside))
@@ -44,7 +45,8 @@ pub fn move_after(
     other: &str,
 ) -> Result<Prepared, Refusal>
     requires apart { bytes_eq other.now issue.now ≡ false }
-    ensures { IsPrepared (move_after_meaning state.now.machine caller.0 issue.now other.now) state.now result }
+    ensures { IsPrepared (move_after_meaning state.now.machine caller.0 issue.now other.now)
+        state.now result }
 {
     let (no, beside) = check_move(alloc, state, caller, issue, other)?;
     put(alloc, state, issue, no, Place::After(beside))
@@ -60,8 +62,10 @@ fn check_move(
 ) -> Result<(IssueNo, IssueNo), Refusal>
     requires apart { bytes_eq other.now issue.now ≡ false }
     ensures check { Checks (move_refusal state.now.machine caller.0 issue.now other.now) result }
-    ensures issue { IfOk result (λ r. option_map (λ h. h.no) (history_named state.now.machine issue.now) ≡ Some r.0) }
-    ensures other { IfOk result (λ r. option_map (λ h. h.no) (history_named state.now.machine other.now) ≡ Some r.1) }
+    ensures issue { IfOk result (λ r.
+        option_map (λ h. h.no) (history_named state.now.machine issue.now) ≡ Some r.0) }
+    ensures other { IfOk result (λ r.
+        option_map (λ h. h.no) (history_named state.now.machine other.now) ≡ Some r.1) }
     ensures moved { IfOk result (λ r. IsOneOf (length state.now.machine.order) r.0.0) }
     ensures beside { IfOk result (λ r. IsOneOf (length state.now.machine.order) r.1.0) }
     ensures apart { IfOk result (λ r. r.0.0 ≢ r.1.0) }
@@ -77,7 +81,8 @@ fn check_move(
 // The number of the issue at a place, which is one more.
 fn number_at(state: &State, place: usize) -> IssueNo
     requires { place < length state.now.machine.histories }
-    ensures number { option_map (λ h. h.no) (slice_get state.now.machine.histories place) ≡ Some result }
+    ensures number { option_map (λ h. h.no) (slice_get state.now.machine.histories place)
+        ≡ Some result }
     ensures next { result.0 ≡ place + 1 }
     ensures one { IsOneOf (length state.now.machine.order) result.0 }
 {
@@ -97,12 +102,11 @@ fn put(
     place: Place,
 ) -> Result<Prepared, Refusal>
     requires { AreNumbered (length state.now.machine.order) (Some issue) place }
-    ensures { IsPrepared (with_given (moved_rank state.now.machine issue place) (newly_ranked state.now.machine name.now issue)) state.now result }
+    ensures { IsPrepared (with_given (moved_rank state.now.machine issue place)
+        (newly_ranked state.now.machine name.now issue)) state.now result }
 {
     let rank = moved_rank(alloc, state, issue, place)?;
-    let Ok((answer, rows)) = told(alloc, name, issue, &rank) else {
-        return Err(Refusal::Memory);
-    };
+    let (answer, rows) = told(alloc, name, issue, &rank)?;
     if has_rank(state, issue, &rank) {
         return Ok(Prepared::Tell(answer));
     }

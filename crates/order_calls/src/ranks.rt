@@ -14,10 +14,8 @@ pub fn ranks(alloc: Global, state: &State, caller: UserNo, part: Part) -> Result
     ensures { IsPrepared (ranks_meaning state.now.machine caller.0 part) state.now result }
 {
     check_permission(alloc, state, caller, Permission::Administer, None)?;
-    match told(alloc, state, part) {
-        Ok(answer) => Ok(Prepared::Tell(answer)),
-        Err(_) => Err(Refusal::Memory),
-    }
+    let answer = told(alloc, state, part)?;
+    Ok(Prepared::Tell(answer))
 }
 
 fn told(alloc: Global, state: &State, part: Part) -> Result<Answer, Memory>
@@ -35,7 +33,8 @@ fn ranked_keys(
     state: &State,
     pairs: &[(Rank, IssueNo)],
 ) -> Result<RankedKeys, Memory>
-    ensures { IfOk result (λ ranks. ranks ≡ map (ranked_key state.now.machine.histories) pairs.now) }
+    ensures { IfOk result (λ ranks. ranks
+        ≡ map (ranked_key state.now.machine.histories) pairs.now) }
 {
     let mut ranks = RankedKeys::new(alloc);
     for pair in pairs {
@@ -50,7 +49,8 @@ fn ranked_key(
     rank: &Rank,
     issue: IssueNo,
 ) -> Result<RankedKey, Memory>
-    ensures { IfOk result (λ told. told ≡ ranked_key state.now.machine.histories (rank.now, issue)) }
+    ensures { IfOk result (λ told. told
+        ≡ ranked_key state.now.machine.histories (rank.now, issue)) }
 {
     let key = Text::copy_of(alloc, key_numbered(state, issue))?;
     let text = rank.text(alloc)?;

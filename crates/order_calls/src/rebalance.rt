@@ -40,9 +40,7 @@ fn start(alloc: Global, state: &State, next: Balance) -> Result<Prepared, Refusa
     requires { after_start state.now.machine.balance ≡ Some next }
     ensures { IsPrepared (started state.now.machine.balance) state.now result }
 {
-    let Ok(rows) = present_ops(alloc, next, state.change(), state.moment()) else {
-        return Err(Refusal::Memory);
-    };
+    let rows = present_ops(alloc, next, state.change(), state.moment())?;
     Ok(Prepared::Make {
         plan: Plan::Balance(next),
         answer: Answer::RebalanceStart {
@@ -81,7 +79,8 @@ pub fn rebalance_step(
     count: u32,
 ) -> Result<Prepared, Refusal>
     requires { (1 ≤ count) × (count ≤ 1000) }
-    ensures { IsPrepared (rebalance_step_meaning state.now.machine caller.0 count) state.now result }
+    ensures { IsPrepared (rebalance_step_meaning state.now.machine caller.0 count)
+        state.now result }
 {
     check_permission(alloc, state, caller, Permission::Administer, None)?;
     match state.balance() {
@@ -95,19 +94,18 @@ fn step(alloc: Global, state: &State, count: u32) -> Result<Prepared, Refusal>
     requires moving { IsMoving state.now.machine.balance }
     requires count { (1 ≤ count) × (count ≤ 1000) }
     ensures { IsPrepared (with_planned state.now.machine.order (from_of state.now.machine.balance)
-        (planned state.now.machine.order (from_of state.now.machine.balance) (to_of state.now.machine.balance) count)) state.now result }
+        (planned state.now.machine.order (from_of state.now.machine.balance)
+        (to_of state.now.machine.balance) count)) state.now result }
 {
     let moves = planned(alloc, state, count)?;
     let left = left_after(state, &moves);
-    let Ok(rows) = step_ops(
+    let rows = step_ops(
         alloc,
         balance_after(state.balance(), left),
         state.change(),
         state.moment(),
         moves.moves(),
-    ) else {
-        return Err(Refusal::Memory);
-    };
+    )?;
     let moved = moves.moves().len() as u64;
     Ok(Prepared::Make {
         plan: Plan::Step(moves),
@@ -118,7 +116,8 @@ fn step(alloc: Global, state: &State, count: u32) -> Result<Prepared, Refusal>
 
 // The balance where so many ranks are left in the old bucket: at rest in the new one where none is.
 fn balance_after(moving: Balance, left: u64) -> Balance
-    ensures { result ≡ (if left == 0 then Idle (to_of moving) else Moving (from_of moving) (to_of moving)) }
+    ensures { result
+        ≡ (if left == 0 then Idle (to_of moving) else Moving (from_of moving) (to_of moving)) }
 {
     let to = moving.empty_bucket();
     if left == 0 {
@@ -134,9 +133,12 @@ fn balance_after(moving: Balance, left: u64) -> Balance
 fn planned(alloc: Global, state: &State, count: u32) -> Result<StepPlan, Refusal>
     requires moving { IsMoving state.now.machine.balance }
     requires count { (1 ≤ count) × (count ≤ 1000) }
-    ensures moves { IfOk result (λ moves. planned state.now.machine.order (from_of state.now.machine.balance) (to_of state.now.machine.balance) count ≡ Ok moves) }
-    ensures picks { IfOk result (ArePicks state.now.machine.order (from_of state.now.machine.balance) (to_of state.now.machine.balance)) }
-    ensures check { Checks (room_refusal (planned state.now.machine.order (from_of state.now.machine.balance) (to_of state.now.machine.balance) count)) result }
+    ensures moves { IfOk result (λ moves. planned state.now.machine.order
+        (from_of state.now.machine.balance) (to_of state.now.machine.balance) count ≡ Ok moves) }
+    ensures picks { IfOk result (ArePicks state.now.machine.order
+        (from_of state.now.machine.balance) (to_of state.now.machine.balance)) }
+    ensures check { Checks (room_refusal (planned state.now.machine.order
+        (from_of state.now.machine.balance) (to_of state.now.machine.balance) count)) result }
 {
     match state.ranks().plan_step(count) {
         Ok(moves) => Ok(moves),
@@ -147,8 +149,10 @@ fn planned(alloc: Global, state: &State, count: u32) -> Result<StepPlan, Refusal
 // How many ranks are left in the old bucket after these moves, each of which takes one away.
 fn left_after(state: &State, moves: &StepPlan) -> u64
     requires moving { IsMoving state.now.machine.balance }
-    requires picks { ArePicks state.now.machine.order (from_of state.now.machine.balance) (to_of state.now.machine.balance) moves.now }
-    ensures { result ≡ left_in (from_of state.now.machine.balance) (after_moves state.now.machine.order moves.now) }
+    requires picks { ArePicks state.now.machine.order (from_of state.now.machine.balance)
+        (to_of state.now.machine.balance) moves.now }
+    ensures { result ≡ left_in (from_of state.now.machine.balance)
+        (after_moves state.now.machine.order moves.now) }
 {
     state.is_tracker();
     (state.ranks().left() - moves.moves().len()) as u64

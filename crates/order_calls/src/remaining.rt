@@ -20,13 +20,12 @@ pub fn burndown(
     sprint: SprintNo,
     part: Part,
 ) -> Result<Prepared, Refusal>
-    ensures { IsPrepared (burndown_meaning state.now.machine caller.0 sprint part) state.now result }
+    ensures { IsPrepared (burndown_meaning state.now.machine caller.0 sprint part)
+        state.now result }
 {
     let kept = sprint_to_plan(alloc, state, caller, sprint)?;
-    match told(alloc, state, sprint, kept, part) {
-        Ok(answer) => Ok(Prepared::Tell(answer)),
-        Err(_) => Err(Refusal::Memory),
-    }
+    let answer = told(alloc, state, sprint, kept, part)?;
+    Ok(Prepared::Tell(answer))
 }
 
 #[tactic(auto, unfolding(tracker_machine::specs::Sprints::burndown_answer))]

@@ -29,7 +29,8 @@ pub fn step_ops(
     moment: Moment,
     moves: &[(IssueNo, Rank)],
 ) -> Result<Vec<RowOp>, Memory>
-    ensures { IfOk result (λ ops. ops.items ≡ present_op balance change moment ∷ rank_ops moves.now) }
+    ensures { IfOk result (λ ops. ops.items ≡ present_op balance change moment
+        ∷ rank_ops moves.now) }
 {
     let mut ops = present_ops(alloc, balance, change, moment)?;
     for pair in moves {

@@ -90,15 +90,9 @@ fn regrouped(
     ensures { IsPrepared (regroups state.now.machine.setup (group.0 - 1)
         (users_named state.now.machine.setup names.now)) state.now result }
 {
-    let Ok(name) = group_name(alloc, state, group) else {
-        return Err(Refusal::Memory);
-    };
-    let Ok(new) = members_plan(alloc, state, group, names) else {
-        return Err(Refusal::Memory);
-    };
-    let Ok(rows) = members_ops(alloc, state, group, new.members.as_slice()) else {
-        return Err(Refusal::Memory);
-    };
+    let name = group_name(alloc, state, group)?;
+    let new = members_plan(alloc, state, group, names)?;
+    let rows = members_ops(alloc, state, group, new.members.as_slice())?;
     let answer = Answer::SetGroup {
         group: name,
         members: new.members.as_slice().len() as u64,

@@ -20,9 +20,7 @@ pub fn tick(alloc: Global, state: &State, to: Moment) -> Result<Prepared, Refusa
     if to == kept {
         return Ok(Prepared::Tell(answer));
     }
-    let Ok(rows) = present_ops(alloc, state.balance(), state.change(), to) else {
-        return Err(Refusal::Memory);
-    };
+    let rows = present_ops(alloc, state.balance(), state.change(), to)?;
     Ok(Prepared::Make {
         plan: Plan::Moment(to),
         answer,

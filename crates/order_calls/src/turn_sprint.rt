@@ -104,16 +104,15 @@ fn turn(
     sprint: SprintNo,
     next: SprintState,
 ) -> Result<Prepared, Refusal>
-    requires { MayTurn state.now.machine.moment state.now.machine.change state.now.machine.sprints sprint next }
+    requires { MayTurn state.now.machine.moment state.now.machine.change state.now.machine.sprints
+        sprint next }
     ensures { (kept : SprintState) → IsPrepared (turned sprint kept (Some next)) state.now result }
 {
     let answer = Answer::SprintPhase {
         sprint,
         state: phase_of(&next),
     };
-    let Ok(rows) = turn_ops(alloc, state, sprint, &next) else {
-        return Err(Refusal::Memory);
-    };
+    let rows = turn_ops(alloc, state, sprint, &next)?;
     Ok(Prepared::Make {
         plan: Plan::State {
             sprint,
@@ -132,7 +131,8 @@ fn turn_ops(
     sprint: SprintNo,
     next: &SprintState,
 ) -> Result<Vec<RowOp>, Memory>
-    requires { MayTurn state.now.machine.moment state.now.machine.change state.now.machine.sprints sprint next.now }
+    requires { MayTurn state.now.machine.moment state.now.machine.change state.now.machine.sprints
+        sprint next.now }
     ensures { IfOk result (λ ops. ops.items ≡ ops_of (NewState sprint next.now) state.now.machine) }
 {
     sprint_ops(alloc, sprint, name_of(state, sprint), next)

@@ -3,12 +3,15 @@ use Rattle.std.specs.Prelude.{ℕ, ◌+◌, List, [], ◌∷◌, length, drop, c
 use Rattle.std.specs.Str.{is_utf8}
 use Rattle.tracker_calls.specs.Asked.{Asked, need, no_other}
 use Rattle.tracker_calls.specs.Body.{body_of}
+use Rattle.tracker_calls.specs.declared.call.Call.{Call}
 use Rattle.tracker_calls.specs.declared.call.Call.TheVariants as call
 use Rattle.tracker_calls.specs.declared.call.Part.{Part}
 use Rattle.tracker_calls.specs.declared.reply.Refusal.TheVariants.{Form}
 use Rattle.tracker_http.specs.Numbers.{number_within}
 use Rattle.tracker_http.specs.Query.{pairs_of, text_in, first_unknown, part_in}
 use Rattle.tracker_http.specs.Routes.{before, path_of, route_of}
+use Rattle.tracker_http.specs.declared.got.ListOf.{ListOf}
+use Rattle.tracker_http.specs.declared.got.ListOf.TheVariants as lists
 use Rattle.tracker_http.specs.declared.query.Pair.{Pair}
 use Rattle.tracker_http.specs.declared.request.Request.{Request}
 use Rattle.tracker_http.specs.declared.route.Route.{Route}
@@ -68,20 +71,27 @@ search_of pairs user =
     need (text_in (codes "jql") pairs) (codes "jql") (λ jql.
     with_part (part_in 1000 (codes "jql" ∷ part_names) pairs) (λ part. Ok (user, call.Search jql part)))
 
-abbrev pub filter_of : List ℕ → List Pair → List ℕ → Asked
-filter_of path pairs user =
-    need (number_in (codes "/filters/") path) (codes "filter") (λ filter.
-    with_part (part_in 1000 part_names pairs) (λ part. Ok (user, call.Filter (record { 0 = filter }) part)))
+-- of a filter and a board the issues, of a sprint the changes of what it has left: by the number in the path
 
-abbrev pub board_of : List ℕ → List Pair → List ℕ → Asked
-board_of path pairs user =
-    need (number_in (codes "/boards/") path) (codes "board") (λ board.
-    with_part (part_in 1000 part_names pairs) (λ part. Ok (user, call.Board (record { 0 = board }) part)))
+abbrev pub front_of : ListOf → List ℕ
+front_of lists.Filter = codes "/filters/"
+front_of lists.Board = codes "/boards/"
+front_of lists.Sprint = codes "/sprints/"
 
-abbrev pub burndown_of : List ℕ → List Pair → List ℕ → Asked
-burndown_of path pairs user =
-    need (number_in (codes "/sprints/") path) (codes "sprint") (λ sprint.
-    with_part (part_in 1000 part_names pairs) (λ part. Ok (user, call.Burndown (record { 0 = sprint }) part)))
+abbrev pub member_of : ListOf → List ℕ
+member_of lists.Filter = codes "filter"
+member_of lists.Board = codes "board"
+member_of lists.Sprint = codes "sprint"
+
+abbrev pub list_call : ListOf → ℕ → Part → Call
+list_call lists.Filter number part = call.Filter (record { 0 = number }) part
+list_call lists.Board number part = call.Board (record { 0 = number }) part
+list_call lists.Sprint number part = call.Burndown (record { 0 = number }) part
+
+abbrev pub list_of : ListOf → List ℕ → List Pair → List ℕ → Asked
+list_of what path pairs user =
+    need (number_in (front_of what) path) (member_of what) (λ number.
+    with_part (part_in 1000 part_names pairs) (λ part. Ok (user, list_call what number part)))
 
 -- ---- requests
 
@@ -91,9 +101,9 @@ got route.Calls path pairs user = Err (Form (codes "line"))
 got route.Issue path pairs user = show_of path pairs user
 got route.History path pairs user = history_of path pairs user
 got route.Search path pairs user = search_of pairs user
-got route.Filter path pairs user = filter_of path pairs user
-got route.Board path pairs user = board_of path pairs user
-got route.Burndown path pairs user = burndown_of path pairs user
+got route.Filter path pairs user = list_of lists.Filter path pairs user
+got route.Board path pairs user = list_of lists.Board path pairs user
+got route.Burndown path pairs user = list_of lists.Sprint path pairs user
 
 abbrev pub path_call : Option Route → List ℕ → List Pair → List ℕ → Asked
 path_call None path pairs user = Err (Form (codes "line"))

@@ -6,7 +6,7 @@ ghost use Rattle.tracker_http.specs.Query.{pairs_of};
 ghost use Rattle.tracker_http.specs.Routes.{path_of, route_of, verb_of, path_verb};
 ghost use Rattle.tracker_http.specs.declared.verb.Verb.TheVariants.{Get};
 
-use crate::got::{board_of, burndown_of, filter_of, history_of, search_of, show_of};
+use crate::got::{ListOf, history_of, list_of, search_of, show_of};
 use crate::named::{query_of, user_of};
 use crate::query::{Pair, pairs_of};
 use crate::request::Request;
@@ -83,8 +83,8 @@ fn got(
         Route::Issue => show_of(alloc, path, pairs, user),
         Route::History => history_of(alloc, path, pairs, user),
         Route::Search => search_of(alloc, pairs, user),
-        Route::Filter => filter_of(alloc, path, pairs, user),
-        Route::Board => board_of(alloc, path, pairs, user),
-        Route::Burndown => burndown_of(alloc, path, pairs, user),
+        Route::Filter => list_of(alloc, ListOf::Filter, path, pairs, user),
+        Route::Board => list_of(alloc, ListOf::Board, path, pairs, user),
+        Route::Burndown => list_of(alloc, ListOf::Sprint, path, pairs, user),
     }
 }

@@ -52,7 +52,8 @@ pub fn count_named(bytes: &[u8], spans: &[HeaderSpan], name: &[u8]) -> usize
 /// The value of the first field of that name.
 pub fn value_named<'b>(bytes: &'b [u8], spans: &[HeaderSpan], name: &[u8]) -> Option<&'b [u8]>
     requires { All (IsHeaderWithin (length bytes.now)) spans.now }
-    ensures { option_map (λ v. v.now) result ≡ value_named name.now (fields_at bytes.now spans.now) }
+    ensures { option_map (λ v. v.now) result
+        ≡ value_named name.now (fields_at bytes.now spans.now) }
 {
     for &span in spans {
         if is_named(bytes, span, name) {

@@ -76,7 +76,8 @@ pub fn finish<S: Source>(
     requires taken { IsTaken (take len held.old.items) room.now spans body_len }
     requires len { len ≤ 8192 }
     requires size { body_len ≤ 65536 }
-    ensures bytes { TakesNext (prepend_known held.old.items (S.left source.old)) (prepend_known held.new.items (S.left source.new)) result }
+    ensures bytes { TakesNext (prepend_known held.old.items (S.left source.old))
+        (prepend_known held.new.items (S.left source.new)) result }
     ensures end { ¬ (result ≡ Next.End) }
     ensures failed { result ≡ Next.ReadFault → Rose (S.faults source.old) (S.faults source.new) }
     ensures later { S.faults source.old ≤ S.faults source.new }

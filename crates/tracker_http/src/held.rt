@@ -50,7 +50,8 @@ pub enum HeldHead {
 
 // Reads some bytes more.
 fn hold_more<S: Source>(source: &mut S, held: &mut Vec<u8>) -> More
-    ensures same { Consumes (prepend_known held.old.items (S.left source.old)) (prepend_known held.new.items (S.left source.new)) [] }
+    ensures same { Consumes (prepend_known held.old.items (S.left source.old))
+        (prepend_known held.new.items (S.left source.new)) [] }
     ensures more { HoldsMore held.old.items held.new.items (S.left source.new) result }
     ensures failed { result ≡ More.Failed → Rose (S.faults source.old) (S.faults source.new) }
     ensures later { S.faults source.old ≤ S.faults source.new }
@@ -75,7 +76,8 @@ fn hold_more<S: Source>(source: &mut S, held: &mut Vec<u8>) -> More
 
 /// Reads until so many bytes are held.
 pub fn hold_all<S: Source>(source: &mut S, held: &mut Vec<u8>, wanted: usize) -> More
-    ensures same { Consumes (prepend_known held.old.items (S.left source.old)) (prepend_known held.new.items (S.left source.new)) [] }
+    ensures same { Consumes (prepend_known held.old.items (S.left source.old))
+        (prepend_known held.new.items (S.left source.new)) [] }
     ensures grew { Grew held.old.items held.new.items }
     ensures all { HoldsAll wanted held.new.items (S.left source.new) result }
     ensures failed { result ≡ More.Failed → Rose (S.faults source.old) (S.faults source.new) }
@@ -94,7 +96,8 @@ pub fn hold_all<S: Source>(source: &mut S, held: &mut Vec<u8>, wanted: usize) ->
 
 /// Reads until a whole head is held.
 pub fn hold_head<S: Source>(source: &mut S, held: &mut Vec<u8>) -> HeldHead
-    ensures same { Consumes (prepend_known held.old.items (S.left source.old)) (prepend_known held.new.items (S.left source.new)) [] }
+    ensures same { Consumes (prepend_known held.old.items (S.left source.old))
+        (prepend_known held.new.items (S.left source.new)) [] }
     ensures head { HoldsHead held.new.items (S.left source.new) result }
     ensures failed { result ≡ HeldHead.Failed → Rose (S.faults source.old) (S.faults source.new) }
     ensures later { S.faults source.old ≤ S.faults source.new }

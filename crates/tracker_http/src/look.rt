@@ -77,7 +77,8 @@ fn has_bad_fields(bytes: &[u8], minor: u8, spans: &[HeaderSpan]) -> bool
 /// The length of the body, or 65,537 where it is too long.
 pub fn body_len(bytes: &[u8], spans: &[HeaderSpan]) -> usize
     requires within { All (IsHeaderWithin (length bytes.now)) spans.now }
-    requires readable { is_unreadable (value_named content_length (fields_at bytes.now spans.now)) ≡ false }
+    requires readable { is_unreadable (value_named content_length (fields_at bytes.now spans.now))
+        ≡ false }
     ensures { result ≡ min (body_len (fields_at bytes.now spans.now)) 65537 }
 {
     match value_named(bytes, spans, b"Content-Length") {

@@ -146,7 +146,8 @@ pub fn first_unknown<'p>(pairs: &'p [Pair], known: &[&str]) -> Option<&'p str>
 /// The part of a list, of `most` at most, that a query text asks for, which has none but these members; or the first member that is
 /// at fault.
 pub fn part_in<'p>(pairs: &'p [Pair], most: u32, known: &[&str]) -> Result<Part, &'p str>
-    ensures part { IfOk result (λ part. part_in most (map (λ n. n.now) known.now) pairs.now ≡ Ok part) }
+    ensures part { IfOk result (λ part. part_in most (map (λ n. n.now) known.now) pairs.now
+        ≡ Ok part) }
     ensures fault { IfErr result (λ name.
         part_in most (map (λ n. n.now) known.now) pairs.now ≡ Err name.now) }
 {

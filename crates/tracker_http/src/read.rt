@@ -16,7 +16,8 @@ use std::alloc::Global;
 
 /// Reads one request, however its bytes come in. `held` keeps the bytes that were read past it, for the next call.
 pub fn read_request<S: Source>(alloc: Global, source: &mut S, held: &mut Vec<u8>) -> Next
-    ensures bytes { TakesNext (prepend_known held.old.items (S.left source.old)) (prepend_known held.new.items (S.left source.new)) result }
+    ensures bytes { TakesNext (prepend_known held.old.items (S.left source.old))
+        (prepend_known held.new.items (S.left source.new)) result }
     ensures end { result ≡ Next.End → held.new.items ≡ [] }
     ensures failed { result ≡ Next.ReadFault → Rose (S.faults source.old) (S.faults source.new) }
     ensures later { S.faults source.old ≤ S.faults source.new }
@@ -47,7 +48,8 @@ pub fn read_request<S: Source>(alloc: Global, source: &mut S, held: &mut Vec<u8>
 fn take_request<S: Source>(alloc: Global, source: &mut S, held: &mut Vec<u8>, len: usize) -> Next
     requires within { len ≤ length held.old.items }
     requires whole { IsWholeHead (take len held.old.items) }
-    ensures bytes { TakesNext (prepend_known held.old.items (S.left source.old)) (prepend_known held.new.items (S.left source.new)) result }
+    ensures bytes { TakesNext (prepend_known held.old.items (S.left source.old))
+        (prepend_known held.new.items (S.left source.new)) result }
     ensures end { ¬ (result ≡ Next.End) }
     ensures failed { result ≡ Next.ReadFault → Rose (S.faults source.old) (S.faults source.new) }
     ensures later { S.faults source.old ≤ S.faults source.new }

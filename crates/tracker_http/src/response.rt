@@ -20,7 +20,8 @@ pub fn response_bytes(
     allow: Option<Verb>,
 ) -> Result<Vec<u8>, Memory>
     requires { IsStatus status }
-    ensures { IfOk result (λ v. v.items ≡ response status (option_map (λ b. b.now) body.entry) close allow) }
+    ensures { IfOk result (λ v. v.items
+        ≡ response status (option_map (λ b. b.now) body.entry) close allow) }
 {
     let mut out = Vec::new(alloc);
     put_start(&mut out, status)?;
@@ -73,7 +74,8 @@ fn put_fields(
     close: bool,
     allow: Option<Verb>,
 ) -> Result<(), Memory>
-    ensures { OnOk result (out.new.items ≡ out.old.items ++ fields (option_map (λ b. b.now) body.entry) close allow) }
+    ensures { OnOk result (out.new.items ≡ out.old.items
+        ++ fields (option_map (λ b. b.now) body.entry) close allow) }
 {
     put_length(out, body)?;
     put_allow(out, allow)?;
@@ -107,7 +109,8 @@ fn put_type(out: &mut Vec<u8>) -> Result<(), Memory>
 
 // Puts the line that tells the body's length at the end, where there is a body.
 fn put_length(out: &mut Vec<u8>, body: Option<&[u8]>) -> Result<(), Memory>
-    ensures { OnOk result (out.new.items ≡ out.old.items ++ length_line (option_map (λ b. b.now) body.entry)) }
+    ensures { OnOk result (out.new.items ≡ out.old.items
+        ++ length_line (option_map (λ b. b.now) body.entry)) }
 {
     let Some(bytes) = body else {
         return Ok(());
@@ -155,7 +158,8 @@ fn put_close(out: &mut Vec<u8>, close: bool) -> Result<(), Memory>
 // Puts the empty line after the fields at the end, and the body, where there is one.
 #[tactic(auto, unfolding(crate::specs::Response::after_head))]
 fn put_body(out: &mut Vec<u8>, body: Option<&[u8]>) -> Result<(), Memory>
-    ensures { OnOk result (out.new.items ≡ out.old.items ++ after_head (option_map (λ b. b.now) body.entry)) }
+    ensures { OnOk result (out.new.items ≡ out.old.items
+        ++ after_head (option_map (λ b. b.now) body.entry)) }
 {
     out.extend_from_slice(b"\r\n")?;
     if let Some(bytes) = body {

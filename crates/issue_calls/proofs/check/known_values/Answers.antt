@@ -17,8 +17,8 @@ returns-in-None-clause-sprints c =
     let given = c.args.set.now in
     let wants = wants_of given.setup given.set c.args.opening in
     let none : field_at_fault (names_in given.setup) wants ≡ None =
-    sym c.in-Ok.ensures.fault ∙ ap (λ (fault : Option FieldNo). option_map (λ f. f.0) fault) c.in-None.is in
+    sym c.in_ok-outcome.ensures.fault ∙ ap (λ (fault : Option FieldNo). option_map (λ f. f.0) fault) c.in-None.is in
     let known : missing_sprint m.sprints (sprint_given given.setup.field given.set) ≡ None =
     subst (λ (p : Parts). missing_sprint m.sprints (sprint_given p.field given.set) ≡ None) (sym c.requires.setup) c.requires.known in
-    subst (λ (cs : List Change). AreOfSprints (length m.sprints) cs) (sym c.in-Ok.ensures.changes)
+    subst (λ (cs : List Change). AreOfSprints (length m.sprints) cs) (sym c.in_ok-outcome.ensures.changes)
     (wants_of_sprints given.setup m.sprints given.set c.args.opening known (wanted_fit (names_in given.setup) wants none))

@@ -9,11 +9,11 @@ use Rattle.issue_calls.proofs.group.grouped.Goals as goal
 pub returns-clause-prepared : goal.returns-clause-prepared
 returns-clause-prepared c =
     let m = c.args.state.now.machine in
-    let new = c.in-Ok-new_group.new in
-    let rows = c.in-Ok-new_group.rows in
+    let new = c.in_ok-new.new in
+    let rows = c.in_ok-new.rows in
     let s = c.new_group.new.state in
-    let is = c.in-Ok-new_group.ensures in
+    let is = c.in_ok-new.ensures in
     let said : c.answer_of-answer.result ≡ group_answer c.args.call c.args.name.now (Some new.group.change) =
-    c.answer_of-answer.ensures ∙ ap (λ name. group_answer c.args.call name (Some new.group.change)) c.in-Ok.ensures in
+    c.answer_of-answer.ensures ∙ ap (λ name. group_answer c.args.call name (Some new.group.change)) c.in_ok-told.ensures in
     subst (λ a. IfSome (slice_get m.histories c.args.place) (λ h. IsReady (grouped (group_answer c.args.call c.args.name.now) m c.args.caller.0 c.args.place h c.args.net.items) s (plans.Group new) a rows.items)) (sym said)
     (group_made (group_answer c.args.call c.args.name.now) m c.args.caller.0 c.args.place (slice_get m.histories c.args.place) c.args.net.items s new rows.items refl is.some is.same is.place is.group is.allowed is.fits is.rows)

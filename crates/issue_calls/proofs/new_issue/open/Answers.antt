@@ -29,12 +29,12 @@ external_fits s (Some e) same room = record { same = same; room = room }
 pub returns-clause-prepared : goal.returns-clause-prepared
 returns-clause-prepared c =
     let m = c.args.state.now.machine in
-    let new = c.in-Ok.new in
+    let new = c.in_ok-new.new in
     let s = c.reserve.new.state in
     let values = c.args.values in
-    let is_new = c.in-Ok.ensures in
-    let room = c.in-Ok-reserve.ensures in
-    let rows = c.in-Ok-issue_ops.rows.items in
+    let is_new = c.in_ok-new.ensures in
+    let room = c.in_ok-reserve.ensures in
+    let rows = c.in_ok-rows.rows.items in
     let project = name_at (project_keys m.setup) values.project.0 in
     let changes = values.changes.items in
     let h : History = opened m c.args.caller.0 project (filled changes) in
@@ -61,7 +61,7 @@ returns-clause-prepared c =
     } in
     issue_ready m c.args.caller.0 project _ changes c.args.rank s new _ _ rows same next is_new.rank c.requires.name is_new.external may is_new.history
     (c.next_change.ensures ∙ ap (λ (n : Machine). n.change + 1) same)
-    (c.in-Ok-copy_of.ensures ∙ c.as_str.ensures.value ∙ is_new.key)
+    (c.in_ok-told.ensures ∙ c.as_str.ensures.value ∙ is_new.key)
     (record {
       room = room.room;
       ranks_room = room.ranks;
@@ -77,6 +77,6 @@ returns-clause-prepared c =
     })
     (subst (λ (e : Option (List ℕ)). rows ≡ present_op m.balance (m.change + 1) m.moment ∷ Put (issue_row (names_in m.setup) h) ∷ rank_op h.no c.args.rank ∷ external_ops h.no e) is_new.external
     (subst (λ r. rows ≡ present_op m.balance (m.change + 1) m.moment ∷ Put r ∷ rank_op h.no c.args.rank ∷ external_ops h.no (id_of new.external)) is_new.row
-    (subst (λ (r : RankParts). rows ≡ present_op m.balance (m.change + 1) m.moment ∷ Put c.in-Ok.row ∷ rank_op h.no r ∷ external_ops h.no (id_of new.external)) is_new.rank
-    (subst (λ (i : History). rows ≡ present_op m.balance (m.change + 1) m.moment ∷ Put c.in-Ok.row ∷ rank_op i.no new.rank ∷ external_ops i.no (id_of new.external)) is_new.history
-    c.in-Ok-issue_ops.ensures))))
+    (subst (λ (r : RankParts). rows ≡ present_op m.balance (m.change + 1) m.moment ∷ Put c.in_ok-new.row ∷ rank_op h.no r ∷ external_ops h.no (id_of new.external)) is_new.rank
+    (subst (λ (i : History). rows ≡ present_op m.balance (m.change + 1) m.moment ∷ Put c.in_ok-new.row ∷ rank_op i.no new.rank ∷ external_ops i.no (id_of new.external)) is_new.history
+    c.in_ok-rows.ensures))))

@@ -12,7 +12,7 @@ returns c =
     let passed = c.in_ok-check_drop.ensures in
     record {
       means = unrefused (drop_board_refusal m c.args.caller.0 c.args.no) _ passed;
-      keeps = c.in-Ok.ensures ∙ drop_board_ops_are m c.args.no;
+      keeps = c.in_ok-rows.ensures ∙ drop_board_ops_are m c.args.no;
       allowed = known_there (board_numbered m c.args.no) _ _ passed;
       fits = tt;
     }

@@ -15,7 +15,7 @@ returns c =
     let passed = c.in_ok-check_drop.ensures in
     record {
       means = unrefused (drop_filter_refusal m c.args.caller.0 c.args.no) _ passed;
-      keeps = c.in-Ok.ensures
+      keeps = c.in_ok-rows.ensures
           ∙ ap (λ (bs : List Board). Drop 8 c.args.no.0 ∷ board_drops c.args.no bs) (c.as_slice.ensures.boards ∙ c.boards.ensures.boards)
           ∙ drop_filter_ops_are m c.args.no;
       allowed = known_there (filter_numbered m c.args.no) _ _ passed;

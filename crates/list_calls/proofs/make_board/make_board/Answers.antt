@@ -22,17 +22,17 @@ returns-clause-prepared c =
     let m = c.args.state.now.machine in
     let passed = c.in_ok-check_make.ensures in
     let made = λ (n : BoardNo) (name : List ℕ). Makes (answer.MakeBoard n) (NewBoard (record { no = n; name = name; filter = c.args.filter })) in
-    let board : Board = record { no = c.free_number.result; name = c.in-Ok.name; filter = c.args.filter } in
-    let named : c.in-Ok.name ≡ c.args.name.now = c.in-Ok.ensures in
+    let board : Board = record { no = c.free_number.result; name = c.in_ok-name.name; filter = c.args.filter } in
+    let named : c.in_ok-name.name ≡ c.args.name.now = c.in_ok-name.ensures in
     let numbered : c.free_number.result ≡ next_board m = ap (λ (n : ℕ). record { 0 = n }) (c.free_number.ensures ∙ ap (free_from board_number 1) c.boards.ensures.boards) in
     let same : c.reserve_board.new.self.machine ≡ m = ap (λ (s : Held). s.machine) c.reserve_board.ensures.same in
     let may : MayMake m.filters m.boards (record { no = next_board m; name = c.args.name.now; filter = c.args.filter }) =
     may_make m c.args.caller.0 c.args.name.now c.args.filter c.is_tracker.ensures c.requires.title passed in
     record {
       means = unrefused (make_board_refusal m c.args.caller.0 c.args.filter) _ passed ∙ sym (ap₂ made numbered named);
-      keeps = c.in-Ok-board_ops.ensures ∙ board_ops_are m board ∙ ap (ops_of (NewBoard board)) (sym same);
+      keeps = c.in_ok-rows.ensures ∙ board_ops_are m board ∙ ap (ops_of (NewBoard board)) (sym same);
       allowed = subst (λ (n : Machine). MayMake n.filters n.boards board) (sym same)
-          (subst (λ (n : BoardNo). MayMake m.filters m.boards (record { no = n; name = c.in-Ok.name; filter = c.args.filter })) (sym numbered)
+          (subst (λ (n : BoardNo). MayMake m.filters m.boards (record { no = n; name = c.in_ok-name.name; filter = c.args.filter })) (sym numbered)
           (subst (λ (name : List ℕ). MayMake m.filters m.boards (record { no = next_board m; name = name; filter = c.args.filter })) (sym named) may));
-      fits = c.in-Ok-reserve_board.ensures.room;
+      fits = c.in_ok-reserve_board.ensures.room;
     }

@@ -31,14 +31,14 @@ returns-clause-prepared c =
     let histories : new.watched.histories ≡ m.histories = ap (λ (s : Held). s.watched.histories) c.reserve_filter.ensures.same ∙ seen.histories in
     record {
       means = refl;
-      keeps = c.in-Ok.ensures
+      keeps = c.in_ok-rows.ensures
           ∙ ap₂ (λ (p : Parts) (g : Filter). filter_op (names_in p) (saved_as g) ∷ []) c.setup.ensures c.filter.ensures
           ∙ save_ops_are m (saved_as f)
           ∙ ap (ops_of (NewFilter (saved_as f))) (sym same);
       allowed = subst (λ (n : Machine). MaySave n.setup n.filters (saved_as f)) (sym same) c.requires.may;
       fits = record {
         bound = subst (λ (n : Machine). IsBound n.setup f) (sym same) c.requires.bound;
-        room = λ free. c.in-Ok-reserve_filter.ensures.room;
+        room = λ free. c.in_ok-reserve_filter.ensures.room;
         right = subst (λ (s : Surroundings). AreVerdicts s new.watched.moment (condition_of f) new.watched.histories ready.verdicts.items) (sym around)
             (subst (λ t. AreVerdicts (surroundings_in m.setup m.sprints) t (condition_of f) new.watched.histories ready.verdicts.items) (sym moment)
             (subst (λ (hs : List History). AreVerdicts (surroundings_in m.setup m.sprints) m.moment (condition_of f) hs ready.verdicts.items) (sym histories) c.requires.right));

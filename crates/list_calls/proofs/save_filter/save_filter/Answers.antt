@@ -15,7 +15,7 @@ save-requires-clause-may g c =
     let query : Query = query_of c.in_ok-query.query in
     let asks : asked m.setup c.args.caller.0 c.args.jql.now ≡ Ok query =
     subst (λ (p : Parts). asked p c.args.caller.0 c.args.jql.now ≡ Ok query) c.setup.ensures c.in_ok-query.ensures.query in
-    subst (MaySave m.setup m.filters) (sym c.in-Ok.ensures.saved)
+    subst (MaySave m.setup m.filters) (sym c.in_ok-filter.ensures.saved)
     (may_save m c.args.caller.0 c.args.name.now c.args.jql.now query c.is_tracker.ensures c.requires.caller c.requires.title asks c.in_ok-check_filters.ensures)
 
 pub returns-clause-steps : goal.returns-clause-steps

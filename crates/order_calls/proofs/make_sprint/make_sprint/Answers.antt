@@ -22,16 +22,16 @@ returns-clause-prepared c =
     let m = c.args.state.now.machine in
     let passed = c.in_ok-check_make.ensures in
     let made = λ (n : SprintNo) (name : List ℕ). Makes (answer.MakeSprint n) (NewSprint name) in
-    let named : c.in-Ok.name ≡ c.args.name.now = c.in-Ok.ensures in
+    let named : c.in_ok-name.name ≡ c.args.name.now = c.in_ok-name.ensures in
     let numbered : c.next_sprint-sprint.result ≡ next_sprint m = c.next_sprint-sprint.ensures in
     let same : c.reserve_sprint.new.self.machine ≡ m = ap (λ (s : Held). s.machine) c.reserve_sprint.ensures.same in
     let may : MayMakeSprint m.sprints c.args.name.now = may_make_sprint m c.args.caller.0 c.args.name.now c.requires.title passed in
     record {
       means = unrefused (make_sprint_refusal m c.args.caller.0) _ passed ∙ sym (ap₂ made numbered named);
-      keeps = c.in-Ok-sprint_ops.ensures
+      keeps = c.in_ok-rows.ensures
           ∙ ap₂ (λ (n : SprintNo) (name : List ℕ). sprint_op n (future name) ∷ []) numbered c.as_str.ensures
-          ∙ sprint_ops_are m c.in-Ok.name ∙ ap (ops_of (NewSprint c.in-Ok.name)) (sym same);
-      allowed = subst (λ (n : Machine). MayMakeSprint n.sprints c.in-Ok.name) (sym same)
+          ∙ sprint_ops_are m c.in_ok-name.name ∙ ap (ops_of (NewSprint c.in_ok-name.name)) (sym same);
+      allowed = subst (λ (n : Machine). MayMakeSprint n.sprints c.in_ok-name.name) (sym same)
           (subst (MayMakeSprint m.sprints) (sym named) may);
-      fits = c.in-Ok-reserve_sprint.ensures.room;
+      fits = c.in_ok-reserve_sprint.ensures.room;
     }

@@ -19,8 +19,8 @@ returns c =
     record {
       means = given_means (moved_rank m issue c.args.place) (newly_ranked m name issue) rank c.in_ok-rank.ensures.rank
           ∙ ranked_anew m name issue rank (sym c.if-has_rank.ensures)
-          ∙ ap (λ (a : Answer). Makes a (NewRank issue rank)) (sym c.in-Ok.ensures.answer);
-      keeps = c.in-Ok.ensures.rows ∙ rank_ops_are m issue rank;
+          ∙ ap (λ (a : Answer). Makes a (NewRank issue rank)) (sym c.in_ok-answer.ensures.answer);
+      keeps = c.in_ok-answer.ensures.rows ∙ rank_ops_are m issue rank;
       allowed = record { place = c.args.place; named = c.requires; given = c.in_ok-rank.ensures.rank };
       fits = tt;
     }

@@ -16,7 +16,7 @@ returns c =
     record {
       means = starts m.balance next c.requires
           ∙ ap₂ (λ from to. Makes (answer.RebalanceStart from to) (NewBalance next)) (sym c.left_bucket.ensures) (sym c.empty_bucket.ensures.bucket);
-      keeps = c.in-Ok.ensures ∙ ap₂ (λ change moment. present_op next change moment ∷ []) c.change.ensures c.moment.ensures ∙ start_ops_are m next;
+      keeps = c.in_ok-rows.ensures ∙ ap₂ (λ change moment. present_op next change moment ∷ []) c.change.ensures c.moment.ensures ∙ start_ops_are m next;
       allowed = c.requires;
       fits = tt;
     }

@@ -30,7 +30,7 @@ returns c =
     record {
       means = ap (with_planned m.order from) c.in_ok-moves.ensures.moves
           ∙ ap₂ (λ n k. Makes (answer.RebalanceStep n k) (NewRanks moves)) (sym left) (sym (ap (λ (ms : List Move). length ms) c.moves-3.ensures));
-      keeps = c.in-Ok.ensures
+      keeps = c.in_ok-rows.ensures
           ∙ ap₂ (λ change moment. present_op c.balance_after.result change moment ∷ rank_ops c.moves-2.result.now) c.change.ensures c.moment.ensures
           ∙ ap (λ (ms : List Move). present_op c.balance_after.result m.change m.moment ∷ rank_ops ms) c.moves-2.ensures
           ∙ step_ops_are m moves c.balance_after.result after;

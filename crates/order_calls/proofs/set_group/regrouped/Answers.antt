@@ -7,8 +7,8 @@ use Rattle.order_calls.proofs.set_group.regrouped.Goals as goal
 pub returns : goal.returns
 returns c =
     let setup = c.args.state.now.machine.setup in
-    let new = c.in-Ok-members_plan.new in
-    let is = c.in-Ok-members_plan.ensures in
-    members_ready c.args.state.now c.args.group c.args.names.now new _ _ _ c.requires.from_one c.requires.there c.in-Ok.ensures
+    let new = c.in_ok-new.new in
+    let is = c.in_ok-new.ensures in
+    members_ready c.args.state.now c.args.group c.args.names.now new _ _ _ c.requires.from_one c.requires.there c.in_ok-name.ensures
     is.group is.members is.listed is.asked (ap length c.as_slice-2.ensures)
-    (c.in-Ok-members_ops.ensures ∙ ap (λ (us : List UserNo). members_op setup c.args.group us ∷ []) c.as_slice.ensures)
+    (c.in_ok-rows.ensures ∙ ap (λ (us : List UserNo). members_op setup c.args.group us ∷ []) c.as_slice.ensures)
