@@ -1,3 +1,5 @@
 pub mod Calls
 pub mod Import
 pub mod Export
+pub mod Load
+pub mod Stages
