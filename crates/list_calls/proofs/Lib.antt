@@ -4,5 +4,6 @@ pub mod Parted
 pub mod Passes
 pub mod Projects
 pub mod Saving
+pub mod Settled
 pub mod Shown
 pub mod Sorting

@@ -14,6 +14,7 @@ use change_history::Issue;
 use fields::{Memory, Steps, UserNo};
 use jql_bound::Bound;
 use jql_eval::holds;
+use jql_prepare::settle;
 use std::alloc::Global;
 use std::sync::ledger::Ledger;
 use tracker_calls::{Answer, Part, Refusal};
@@ -32,13 +33,30 @@ pub fn search<L: Ledger>(
     ensures prepared { IsPrepared (search_meaning state.now.machine caller.0 jql.now part) state.now result }
     ensures steps { steps.new ≤ steps.old + cost_to_prepare (search_meaning state.now.machine caller.0 jql.now part) state.now.machine }
 {
-    let bound = asked(alloc, state.setup(), caller, jql)?;
-    let answer = told(alloc, state, caller, &bound, part, steps);
+    let mut bound = asked(alloc, state.setup(), caller, jql)?;
+    let answer = answered(alloc, state, caller, &mut bound, part, steps);
     drop(bound);
     match answer {
         Ok(answer) => Ok(Prepared::Tell(answer)),
         Err(_) => Err(Refusal::Memory),
     }
+}
+
+// Tells them, with the query's dates worked out before any issue is asked: it is asked at this moment alone.
+fn answered<L: Ledger>(
+    alloc: Global,
+    state: &State,
+    caller: UserNo,
+    bound: &mut Bound,
+    part: Part,
+    steps: &mut Steps<L>,
+) -> Result<Answer, Memory>
+    ensures answer { IfOk result (λ answer. answer
+        ≡ search_answer state.now.machine caller.0 part (query_of bound.old)) }
+    ensures steps { steps.new ≤ steps.old + length state.now.machine.histories }
+{
+    settle(bound, state.context(), state.moment());
+    told(alloc, state, caller, bound, part, steps)
 }
 
 fn told<L: Ledger>(

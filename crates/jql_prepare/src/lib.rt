@@ -1,0 +1,8 @@
+//! A query made ready for many issues at one moment: what its dates mean at that moment is worked out once.
+#![tactic(auto)]
+
+mod date;
+mod leaf;
+mod query;
+
+pub use query::settle;
