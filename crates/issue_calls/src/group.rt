@@ -23,9 +23,9 @@ ghost use Rattle.std.specs.List.{All};
 
 use crate::rows::row_ops;
 use change_history::{Change, Entries, Entry, Group, Issue};
-use fields::{Memory, Moment, Setup, SprintNo, Text, UserNo};
+use fields::{Memory, Moment, Setup, SprintNo, UserNo};
 use std::alloc::Global;
-use tracker_calls::{Answer, Refusal};
+use tracker_calls::{Answer, Refusal, ToldText};
 use tracker_keeper::{Row, RowOp, group_text};
 use tracker_state::{GroupPlan, Plan, Prepared, State};
 use wanted_values::{bytes_of_entries, fitting_is_light, sprint_after};
@@ -61,7 +61,7 @@ pub fn grouped(
     ensures prepared { IfSome (slice_get state.old.machine.histories place) (λ h.
         IsPrepared (grouped (group_answer call name.now) state.old.machine caller.0 place h net.items) state.new result) }
 {
-    let Ok(told) = Text::copy_of(alloc, name) else {
+    let Ok(told) = ToldText::copy_of(alloc, name) else {
         return Err(Refusal::Memory);
     };
     if net.is_empty() {
@@ -78,7 +78,7 @@ pub fn grouped(
     })
 }
 
-fn answer_of(call: GroupCall, issue: Text, change: Option<u64>) -> Answer
+fn answer_of(call: GroupCall, issue: ToldText, change: Option<u64>) -> Answer
     ensures { result ≡ group_answer call issue change }
 {
     match call {

@@ -25,7 +25,7 @@ use change_history::{Change, Changes, Issue, Key};
 use fields::{IssueNo, Memory, ProjectNo, Text, UserNo};
 use rank_strings::Rank;
 use std::alloc::Global;
-use tracker_calls::{Answer, Refusal};
+use tracker_calls::{Answer, Refusal, ToldText};
 use tracker_keeper::{Created, Row, RowOp, issue_text};
 use tracker_state::no_room::refusal_of;
 use tracker_state::{IssuePlan, NewExternal, Plan, Prepared, State, external_op, put_rank};
@@ -92,7 +92,7 @@ fn open(
     let Ok(rows) = issue_ops(alloc, state, row, &new) else {
         return Err(Refusal::Memory);
     };
-    let Ok(told) = Text::copy_of(alloc, new.key.as_str()) else {
+    let Ok(told) = ToldText::copy_of(alloc, new.key.as_str()) else {
         return Err(Refusal::Memory);
     };
     let Ok(()) = reserve(state, &new) else {
