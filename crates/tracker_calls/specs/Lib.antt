@@ -9,3 +9,4 @@ pub mod Written
 pub mod Sorted
 pub mod Taken
 pub mod ToldText
+pub mod Plain

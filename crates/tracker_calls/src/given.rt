@@ -207,7 +207,7 @@ fn given_set(alloc: Global, value: Value) -> Result<Option<GivenFields>, Memory>
     }
 }
 
-fn without_twins(
+pub(crate) fn without_twins(
     alloc: Global,
     fields: GivenFields,
 ) -> Result<Option<GivenFields>, Memory>
