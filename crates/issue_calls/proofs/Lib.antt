@@ -2,3 +2,4 @@ pub mod Grouping
 pub mod Holding
 pub mod Means
 pub mod Ops
+pub mod Showing

@@ -15,7 +15,7 @@ ghost use Rattle.issue_calls.specs.Create.{IsTold, key_of_project};
 use change_history::Issue;
 use fields::{FieldNo, Memory, ProjectNo, Setup, Text, Value};
 use std::alloc::Global;
-use tracker_calls::{Answer, Refusal};
+use tracker_calls::{Answer, Refusal, ToldText};
 use tracker_state::State;
 use wanted_values::Opening;
 
@@ -65,7 +65,7 @@ fn told(alloc: Global, issue: &Issue) -> Result<Answer, Refusal>
     ensures { IsTold (Tells
         (Answer.Create true issue.now.history.change issue.now.history.key)) result }
 {
-    let key = Text::copy_of(alloc, issue.key().as_str())?;
+    let key = ToldText::copy_of(alloc, issue.key().as_str())?;
     Ok(Answer::Create {
         already: true,
         change: issue.change(),

@@ -23,9 +23,9 @@ ghost use Rattle.std.specs.List.{All};
 
 use crate::rows::row_ops;
 use change_history::{Change, Entries, Entry, Group, Issue};
-use fields::{Memory, Moment, Setup, SprintNo, Text, UserNo};
+use fields::{Memory, Moment, Setup, SprintNo, UserNo};
 use std::alloc::Global;
-use tracker_calls::{Answer, Refusal};
+use tracker_calls::{Answer, Refusal, ToldText};
 use tracker_keeper::{Row, RowOp, group_text};
 use tracker_state::{GroupPlan, Plan, Prepared, State};
 use wanted_values::{bytes_of_entries, fitting_is_light, sprint_after};
@@ -63,7 +63,7 @@ pub fn grouped(
         IsPrepared (grouped (group_answer call name.now) state.old.machine caller.0 place h
         net.items) state.new result) }
 {
-    let told = Text::copy_of(alloc, name)?;
+    let told = ToldText::copy_of(alloc, name)?;
     if net.is_empty() {
         return Ok(Prepared::Tell(answer_of(call, told, None)));
     }
@@ -76,7 +76,7 @@ pub fn grouped(
     })
 }
 
-fn answer_of(call: GroupCall, issue: Text, change: Option<u64>) -> Answer
+fn answer_of(call: GroupCall, issue: ToldText, change: Option<u64>) -> Answer
     ensures { result ≡ group_answer call issue change }
 {
     match call {

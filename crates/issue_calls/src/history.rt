@@ -8,11 +8,11 @@ ghost use Rattle.tracker_machine.specs.Entries.{history_meaning, history_answer_
 ghost use Rattle.tracker_machine.specs.Tracker.{AllEntriesHold, Holds};
 
 use crate::show::check_show;
-use crate::told::shown_value;
+use crate::told::{shown_value, user_name};
 use change_history::{Entry, Issue};
-use fields::{Memory, Setup, Text, UserNo, name_at};
+use fields::{Memory, Setup, UserNo};
 use std::alloc::Global;
-use tracker_calls::{Answer, Part, Refusal, ToldEntries, ToldEntry};
+use tracker_calls::{Answer, Part, Refusal, ToldEntries, ToldEntry, ToldText};
 use tracker_state::{Prepared, State};
 
 /// Tells a part of the issue's entries.
@@ -73,8 +73,8 @@ fn told_entry(alloc: Global, setup: &Setup, entry: &Entry) -> Result<ToldEntry, 
     requires to { Holds (names_in (parts setup.now)) entry.now.field entry.now.to }
     ensures { IfOk result (λ told. told ≡ told_entry (names_in (parts setup.now)) entry.now) }
 {
-    let by = name_at(alloc, setup.users.as_slice(), entry.author.0)?;
-    let field = Text::copy_of(alloc, setup.field_name(entry.field))?;
+    let by = user_name(alloc, setup, entry.author)?;
+    let field = ToldText::copy_of(alloc, setup.field_name(entry.field))?;
     let from = shown_value(alloc, setup, entry.field, &entry.from)?;
     let to = shown_value(alloc, setup, entry.field, &entry.to)?;
     Ok(ToldEntry {

@@ -25,7 +25,7 @@ use change_history::{Change, Changes, Issue, Key};
 use fields::{IssueNo, Memory, ProjectNo, Text, UserNo};
 use rank_strings::Rank;
 use std::alloc::Global;
-use tracker_calls::{Answer, Refusal};
+use tracker_calls::{Answer, Refusal, ToldText};
 use tracker_keeper::{Created, Row, RowOp, issue_text};
 use tracker_state::no_room::refusal_of;
 use tracker_state::{IssuePlan, NewExternal, Plan, Prepared, State, external_op, put_rank};
@@ -86,7 +86,7 @@ fn open(
     state.is_tracker();
     let (new, row) = new_issue(alloc, state, caller, values, rank, external)?;
     let rows = issue_ops(alloc, state, row, &new)?;
-    let told = Text::copy_of(alloc, new.key.as_str())?;
+    let told = ToldText::copy_of(alloc, new.key.as_str())?;
     reserve(state, &new)?;
     let answer = Answer::Create {
         already: false,

@@ -11,10 +11,11 @@ ghost use Rattle.tracker_machine.specs.Tracker.{Holds};
 
 use crate::told::shown_value;
 use change_history::Issue;
-use fields::{FieldNo, Memory, Permission, Setup, Text, UserNo};
+use fields::{Field, FieldNo, Memory, Permission, Setup, UserNo};
 use std::alloc::Global;
-use tracker_calls::{Answer, Refusal, ShownField, ShownFields};
+use tracker_calls::{Answer, Refusal, ShownField, ShownFields, ToldText};
 use tracker_state::{Prepared, State, check_access, known_issue};
+use wanted_values::built_in_fields;
 
 /// Tells the issue's present values.
 pub fn show(alloc: Global, state: &State, caller: UserNo, issue: &str) -> Result<Prepared, Refusal>
@@ -53,14 +54,12 @@ fn shown(alloc: Global, state: &State, place: usize) -> Result<Answer, Memory>
     issue_answer(alloc, state.setup(), issue)
 }
 
-#[tactic(auto, unfolding(tracker_machine::specs::Show::shown_issue))]
 fn issue_answer(alloc: Global, setup: &Setup, issue: &Issue) -> Result<Answer, Memory>
     requires { (f : FieldNo) → Holds (names_in (parts setup.now)) f (present issue.now.history f) }
     ensures { IfOk result (λ answer. answer ≡ Answer.Show issue.now.history.at (shown_issue (names_in (parts setup.now)) issue.now.history) issue.now.history.key (updated issue.now.history)) }
 {
-    let numbers = setup.field_numbers(alloc)?;
-    let fields = shown_fields(alloc, setup, issue, &numbers)?;
-    let key = Text::copy_of(alloc, issue.key().as_str())?;
+    let fields = shown_issue(alloc, setup, issue)?;
+    let key = ToldText::copy_of(alloc, issue.key().as_str())?;
     Ok(Answer::Show {
         created: issue.created(),
         fields,
@@ -69,20 +68,51 @@ fn issue_answer(alloc: Global, setup: &Setup, issue: &Issue) -> Result<Answer, M
     })
 }
 
-fn shown_fields(
+// All fields that aren't empty.
+fn shown_issue(alloc: Global, setup: &Setup, issue: &Issue) -> Result<ShownFields, Memory>
+    requires { (f : FieldNo) → Holds (names_in (parts setup.now)) f (present issue.now.history f) }
+    ensures { IfOk result (λ fields. fields ≡ shown_issue (names_in (parts setup.now)) issue.now.history) }
+{
+    let mut fields = ShownFields::new(alloc);
+    put_fields(alloc, setup, issue, built_in_fields(), &mut fields)?;
+    put_own_fields(alloc, setup, issue, setup.field.as_slice(), &mut fields)?;
+    Ok(fields)
+}
+
+// Puts some of the fields that every tracker has behind others.
+fn put_fields(
     alloc: Global,
     setup: &Setup,
     issue: &Issue,
     numbers: &[FieldNo],
-) -> Result<ShownFields, Memory>
+    fields: &mut ShownFields,
+) -> Result<(), Memory>
     requires { (f : FieldNo) → Holds (names_in (parts setup.now)) f (present issue.now.history f) }
-    ensures { IfOk result (λ fields. fields ≡ shown_fields (names_in (parts setup.now)) issue.now.history (map (λ f. f.0) numbers.now)) }
+    ensures { OnOk result (fields.new ≡ fields.old
+        ++ shown_fields (names_in (parts setup.now)) issue.now.history (map (λ f. f.0) numbers.now)) }
 {
-    let mut fields = ShownFields::new(alloc);
     for field in numbers {
-        put_field(alloc, setup, issue, *field, &mut fields)?;
+        put_field(alloc, setup, issue, *field, fields)?;
     }
-    Ok(fields)
+    Ok(())
+}
+
+// The same of a setup's own fields.
+fn put_own_fields(
+    alloc: Global,
+    setup: &Setup,
+    issue: &Issue,
+    own: &[Field],
+    fields: &mut ShownFields,
+) -> Result<(), Memory>
+    requires { (f : FieldNo) → Holds (names_in (parts setup.now)) f (present issue.now.history f) }
+    ensures { OnOk result (fields.new ≡ fields.old
+        ++ shown_fields (names_in (parts setup.now)) issue.now.history (map (λ f. f.number.0) own.now)) }
+{
+    for field in own {
+        put_field(alloc, setup, issue, field.number, fields)?;
+    }
+    Ok(())
 }
 
 // Puts the field, unless it is empty, behind the others.
@@ -100,6 +130,6 @@ fn put_field(
     let Some(value) = shown_value(alloc, setup, field, issue.value(field))? else {
         return Ok(());
     };
-    let name = Text::copy_of(alloc, setup.field_name(field))?;
+    let name = ToldText::copy_of(alloc, setup.field_name(field))?;
     fields.push(ShownField { name, value })
 }

@@ -10,12 +10,12 @@ ghost use Rattle.tracker_state.specs.Check.{Checks, room_refusal};
 ghost use Rattle.tracker_state.specs.Plan.{IsPrepared};
 ghost use Rattle.tracker_state.specs.Rows.{rank_op};
 
-use crate::rows::rank_ops;
+use crate::rows::rank_rows;
 use board::Place;
-use fields::{IssueNo, Memory, Permission, Text, UserNo};
+use fields::{IssueNo, Memory, Permission, UserNo};
 use rank_strings::Rank;
 use std::alloc::Global;
-use tracker_calls::{Answer, Refusal};
+use tracker_calls::{Answer, Refusal, ToldText};
 use tracker_keeper::RowOp;
 use tracker_state::no_room::refusal_of;
 use tracker_state::{Plan, Prepared, RankPlan, State, check_access, known_issue};
@@ -148,9 +148,9 @@ fn told(
     ensures answer { IfOk result (λ r. r.0 ≡ move_answer name.now rank.now) }
     ensures rows { IfOk result (λ r. r.1.items ≡ rank_op issue rank.now ∷ []) }
 {
-    let rows = rank_ops(alloc, issue, rank)?;
     let text = rank.text(alloc)?;
-    let told = Text::copy_of(alloc, text.as_str())?;
-    let issue = Text::copy_of(alloc, name)?;
+    let rows = rank_rows(alloc, issue, text.as_str())?;
+    let told = ToldText::copy_of(alloc, text.as_str())?;
+    let issue = ToldText::copy_of(alloc, name)?;
     Ok((Answer::Move { issue, rank: told }, rows))
 }

@@ -3,10 +3,10 @@ ghost use Rattle.std.specs.Prelude.{◌≡◌, map, IfOk};
 ghost use Rattle.tracker_machine.specs.Ranks.{ranked_key, ranks_answer, ranks_meaning};
 ghost use Rattle.tracker_state.specs.Plan.{IsPrepared};
 
-use fields::{IssueNo, Memory, Permission, Text, UserNo};
+use fields::{IssueNo, Memory, Permission, UserNo};
 use rank_strings::Rank;
 use std::alloc::Global;
-use tracker_calls::{Answer, Part, RankedKey, RankedKeys, Refusal};
+use tracker_calls::{Answer, Part, RankedKey, RankedKeys, Refusal, ToldText};
 use tracker_state::{Prepared, State, check_permission, key_numbered, part_of};
 
 /// Tells a part of the issues by rank.
@@ -52,8 +52,8 @@ fn ranked_key(
     ensures { IfOk result (λ told. told
         ≡ ranked_key state.now.machine.histories (rank.now, issue)) }
 {
-    let key = Text::copy_of(alloc, key_numbered(state, issue))?;
+    let key = ToldText::copy_of(alloc, key_numbered(state, issue))?;
     let text = rank.text(alloc)?;
-    let rank = Text::copy_of(alloc, text.as_str())?;
+    let rank = ToldText::copy_of(alloc, text.as_str())?;
     Ok(RankedKey { issue: key, rank })
 }

@@ -6,10 +6,10 @@ ghost use Rattle.tracker_state.specs.Plan.{IsPrepared};
 
 use crate::turn_sprint::{phase_of, sprint_to_plan};
 use burndown::BurnRow;
-use fields::{Memory, SprintNo, Text, UserNo};
+use fields::{Memory, SprintNo, UserNo};
 use sprints::SprintState;
 use std::alloc::Global;
-use tracker_calls::{Answer, BurnedRow, BurnedRows, Part, Refusal};
+use tracker_calls::{Answer, BurnedRow, BurnedRows, Part, Refusal, ToldText};
 use tracker_state::{Prepared, State, key_numbered, part_of};
 
 /// Tells what the sprint has left and had at its start, and a part of the changes of it between start and close.
@@ -68,7 +68,7 @@ fn told_row(alloc: Global, state: &State, row: &BurnRow) -> Result<BurnedRow, Me
         at: row.at,
         by: row.by,
         change: row.change,
-        issue: Text::copy_of(alloc, key_numbered(state, row.issue))?,
+        issue: ToldText::copy_of(alloc, key_numbered(state, row.issue))?,
         left: row.left,
     })
 }

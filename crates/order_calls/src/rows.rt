@@ -1,23 +1,28 @@
 // The operations that keep ranks and sprints.
 ghost use Rattle.std.specs.Prelude.{◌≡◌, ◌∷◌, [], IfOk};
-ghost use Rattle.tracker_state.specs.Rows.{present_op, rank_op};
+ghost use Rattle.tracker_state.specs.Rows.{present_op};
 ghost use Rattle.order_calls.specs.Rows.{rank_ops, sprint_op};
 
-use fields::{IssueNo, Memory, Moment, SprintNo};
+use fields::{IssueNo, Memory, Moment, SprintNo, Text};
 use rank_balancer::Balance;
 use rank_strings::Rank;
 use sprints::SprintState;
 use std::alloc::Global;
 use tracker_keeper::{Row, RowOp, sprint_text};
-use tracker_state::{present_ops, put_rank, rank_op};
+use tracker_state::{present_ops, put_rank};
 
-/// The operation that keeps another rank of an issue.
-pub fn rank_ops(alloc: Global, issue: IssueNo, rank: &Rank) -> Result<Vec<RowOp>, Memory>
-    ensures { IfOk result (λ ops. ops.items ≡ rank_op issue rank.now ∷ []) }
+/// The operation that keeps another rank of an issue, whose text is given.
+pub fn rank_rows(alloc: Global, issue: IssueNo, rank: &str) -> Result<Vec<RowOp>, Memory>
+    ensures { IfOk result (λ ops. ops.items
+        ≡ RowOp.Put (record { kind = 5; no = issue.0; body = rank.now }) ∷ []) }
 {
-    let op = rank_op(alloc, issue, rank)?;
-    let mut ops = Vec::new(alloc);
-    ops.push(op)?;
+    let body = Text::copy_of(alloc, rank)?;
+    let mut ops = Vec::with_capacity(alloc, 1)?;
+    ops.push(RowOp::Put(Row {
+        kind: 5,
+        no: u64::from(issue.0),
+        body,
+    }))?;
     Ok(ops)
 }
 

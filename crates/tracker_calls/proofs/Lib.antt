@@ -7,3 +7,4 @@ pub mod WorkedLines
 pub mod Taking
 pub mod Bodies
 pub mod WorkedBodies
+pub mod PlainLines

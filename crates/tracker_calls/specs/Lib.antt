@@ -8,3 +8,5 @@ pub mod Seen
 pub mod Written
 pub mod Sorted
 pub mod Taken
+pub mod ToldText
+pub mod Plain

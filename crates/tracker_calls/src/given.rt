@@ -62,6 +62,15 @@ impl GivenFields {
         }
     }
 
+    /// The same with room for so many.
+    pub(crate) fn with_room(alloc: Global, room: usize) -> Result<Self, Memory>
+        ensures { IfOk result (λ fields. fields ≡ []) }
+    {
+        Ok(GivenFields {
+            list: Vec::with_capacity(alloc, room)?,
+        })
+    }
+
     /// Puts one more at the end, or leaves all as it is.
     pub fn push(&mut self, field: GivenField) -> Result<(), Memory>
         ensures ok { OnOk result (self.new ≡ self.old ++ field ∷ []) }
@@ -198,7 +207,10 @@ fn given_set(alloc: Global, value: Value) -> Result<Option<GivenFields>, Memory>
     }
 }
 
-fn without_twins(alloc: Global, fields: GivenFields) -> Result<Option<GivenFields>, Memory>
+pub(crate) fn without_twins(
+    alloc: Global,
+    fields: GivenFields,
+) -> Result<Option<GivenFields>, Memory>
     ensures { IfOk result (λ set. set ≡ without_twins fields) }
 {
     if has_twins(alloc, fields.as_slice())? {
@@ -210,7 +222,7 @@ fn without_twins(alloc: Global, fields: GivenFields) -> Result<Option<GivenField
 fn fields_of(alloc: Global, members: Map<String, Value>) -> Result<GivenFields, Memory>
     ensures { IfOk result (λ fields. fields ≡ fields_of (members_view members.entries)) }
 {
-    let mut fields = GivenFields::new(alloc);
+    let mut fields = GivenFields::with_room(alloc, members.len())?;
     for (name, value) in members {
         put_given(alloc, &mut fields, name, value)?;
     }

@@ -44,6 +44,25 @@ impl JsonText {
         })
     }
 
+    /// Nothing is written, and what will be goes into the room of these bytes, in place of them.
+    pub fn in_room(bytes: Vec<u8>) -> Self
+        ensures { result ≡ [] }
+    {
+        let mut bytes = bytes;
+        bytes.clear();
+        JsonText {
+            writer: Writer::new(bytes),
+        }
+    }
+
+    /// The bytes that were written.
+    pub fn into_bytes(self) -> Vec<u8>
+        ensures { result.items ≡ print self }
+    {
+        let JsonText { writer } = self;
+        writer.into_inner()
+    }
+
     /// The text that was written.
     pub fn into_text(self) -> Text
         ensures { result ≡ print self }

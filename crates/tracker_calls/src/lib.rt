@@ -16,6 +16,9 @@ mod json_text;
 mod line;
 mod members;
 mod named;
+mod plain_calls;
+mod plain_line;
+mod plain_members;
 mod ranks_json;
 mod reply;
 mod reply_copy;
@@ -23,6 +26,7 @@ mod reply_json;
 mod show_json;
 mod sprints_json;
 mod taken;
+mod told_text;
 mod user_name;
 
 pub use body::read_body;
@@ -36,8 +40,9 @@ pub use reply::{
     RankedKeys, Refusal, Reply, Shown, ShownField, ShownFields, SprintPhase, Thing, ToldEntries,
     ToldEntry,
 };
-pub use reply_json::{KEEPER_TEXT, MEMORY_TEXT, reply_text};
+pub use reply_json::{KEEPER_TEXT, MEMORY_TEXT, reply_bytes, reply_text};
 pub use request_lines::{
     Clock, Failed, ListClock, MemorySink, MemorySource, Sink, Source, write_all,
 };
+pub use told_text::ToldText;
 pub use user_name::UserName;

@@ -7,6 +7,7 @@ ghost use Rattle.tracker_calls.specs.Taken.{object_of};
 use crate::asked::asked_in;
 use crate::call::{Call, kind_named};
 use crate::members::{misses, text_at};
+use crate::plain_line::plain_line;
 use crate::reply::Refusal;
 use crate::user_name::UserName;
 use serde_json::{Map, Value};
@@ -25,6 +26,15 @@ pub fn read_line(alloc: Global, bytes: &[u8]) -> Result<(UserName, Call), Refusa
 }
 
 fn read_text(alloc: Global, text: &str) -> Result<(UserName, Call), Refusal>
+    ensures { UnlessMemory result (line_of text.now) }
+{
+    match plain_line(alloc, text)? {
+        Some(asked) => Ok(asked),
+        None => read_tree(alloc, text),
+    }
+}
+
+fn read_tree(alloc: Global, text: &str) -> Result<(UserName, Call), Refusal>
     ensures { UnlessMemory result (line_of text.now) }
 {
     match Value::from_str(alloc, text) {

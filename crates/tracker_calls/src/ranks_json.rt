@@ -6,10 +6,11 @@ ghost use Rattle.tracker_calls.specs.Written.{after, after_items};
 
 use crate::json_text::JsonText;
 use crate::reply::{BalanceState, RankedKey};
-use field_values::{Memory, Text};
+use crate::told_text::ToldText;
+use field_values::Memory;
 
 /// Writes the rank that an issue was given.
-pub fn write_move(out: &mut JsonText, issue: &Text, rank: &Text) -> Result<(), Memory>
+pub fn write_move(out: &mut JsonText, issue: &ToldText, rank: &ToldText) -> Result<(), Memory>
     ensures { OnOk result (out.new ≡ after (move_data issue.now rank.now) out.old) }
 {
     out.begin_object()?;

@@ -1,6 +1,7 @@
 ghost use Rattle.std.specs.Prelude.{◌≡◌, ◌∷◌, ◌++◌, [], OnOk, OnErr};
 ghost use Rattle.tracker_calls.specs.declared.reply.Refusal.TheVariants.{Memory as OutOfMemory};
 
+use crate::told_text::ToldText;
 use field_values::{
     BoardNo, FilterNo, Memory, Moment, Names, Permission, Sequence, SprintNo, Text,
 };
@@ -29,19 +30,19 @@ pub enum Answer {
     Create {
         already: bool,
         change: u64,
-        issue: Text,
+        issue: ToldText,
     },
 
     /// The number of the change group, where the edit changed anything.
     Edit {
         change: Option<u64>,
-        issue: Text,
+        issue: ToldText,
     },
 
     /// The number of the change group, where the transition changed anything.
     Transition {
         change: Option<u64>,
-        issue: Text,
+        issue: ToldText,
     },
 
     /// The present moment, as it is now.
@@ -53,7 +54,7 @@ pub enum Answer {
     Show {
         created: Moment,
         fields: ShownFields,
-        issue: Text,
+        issue: ToldText,
         updated: Moment,
     },
 
@@ -71,8 +72,8 @@ pub enum Answer {
 
     /// The rank that the issue has now.
     Move {
-        issue: Text,
-        rank: Text,
+        issue: ToldText,
+        rank: ToldText,
     },
 
     /// Some of the issues with their ranks, and how many issues there are.
@@ -188,7 +189,7 @@ pub struct BurnedRow {
     /// The change group's number.
     pub change: u64,
     /// The issue's key.
-    pub issue: Text,
+    pub issue: ToldText,
     /// What is left after the group.
     pub left: i64,
 }
@@ -199,8 +200,8 @@ pub type BurnedRows = Sequence<BurnedRow>;
 /// An issue's key and its rank.
 #[derive(Drop)]
 pub struct RankedKey {
-    pub issue: Text,
-    pub rank: Text,
+    pub issue: ToldText,
+    pub rank: ToldText,
 }
 
 /// The ranks that an answer tells.
@@ -220,9 +221,9 @@ pub enum BalanceState {
 #[derive(Drop)]
 pub struct ToldEntry {
     pub at: Moment,
-    pub by: Text,
+    pub by: ToldText,
     pub change: u64,
-    pub field: Text,
+    pub field: ToldText,
     pub from: Option<Shown>,
     pub to: Option<Shown>,
 }
@@ -233,13 +234,13 @@ pub type ToldEntries = Sequence<ToldEntry>;
 /// A field that isn't empty, by its name.
 #[derive(Drop)]
 pub struct ShownField {
-    pub name: Text,
+    pub name: ToldText,
     pub value: Shown,
 }
 
 /// A field's value as an answer tells it.
 pub enum Shown {
-    Text(Text),
+    Text(ToldText),
     /// The names of a set, or labels.
     List(Names),
     /// A sprint.

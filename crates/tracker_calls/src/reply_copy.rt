@@ -7,6 +7,7 @@ use crate::reply::{
     Answer, BurnedRow, BurnedRows, Column, Columns, RankedKey, RankedKeys, Refusal, Reply, Shown,
     ShownField, ShownFields, Thing, ToldEntries, ToldEntry,
 };
+use crate::told_text::ToldText;
 use field_values::{Memory, Moment, Names, Permission, Text};
 use std::alloc::Global;
 
@@ -104,7 +105,12 @@ impl Answer {
     }
 }
 
-fn copy_create(alloc: Global, already: bool, change: u64, issue: &Text) -> Result<Answer, Memory>
+fn copy_create(
+    alloc: Global,
+    already: bool,
+    change: u64,
+    issue: &ToldText,
+) -> Result<Answer, Memory>
     ensures { IfOk result (λ a. a ≡ answers.Create already change issue.now) }
 {
     let issue = issue.copy(alloc)?;
@@ -115,14 +121,14 @@ fn copy_create(alloc: Global, already: bool, change: u64, issue: &Text) -> Resul
     })
 }
 
-fn copy_edit(alloc: Global, change: Option<u64>, issue: &Text) -> Result<Answer, Memory>
+fn copy_edit(alloc: Global, change: Option<u64>, issue: &ToldText) -> Result<Answer, Memory>
     ensures { IfOk result (λ a. a ≡ answers.Edit change issue.now) }
 {
     let issue = issue.copy(alloc)?;
     Ok(Answer::Edit { change, issue })
 }
 
-fn copy_transition(alloc: Global, change: Option<u64>, issue: &Text) -> Result<Answer, Memory>
+fn copy_transition(alloc: Global, change: Option<u64>, issue: &ToldText) -> Result<Answer, Memory>
     ensures { IfOk result (λ a. a ≡ answers.Transition change issue.now) }
 {
     let issue = issue.copy(alloc)?;
@@ -133,7 +139,7 @@ fn copy_show(
     alloc: Global,
     created: Moment,
     fields: &ShownFields,
-    issue: &Text,
+    issue: &ToldText,
     updated: Moment,
 ) -> Result<Answer, Memory>
     ensures { IfOk result (λ a. a ≡ answers.Show created fields.now issue.now updated) }
@@ -162,7 +168,7 @@ fn copy_search(alloc: Global, issues: &Names, total: u64) -> Result<Answer, Memo
     Ok(Answer::Search { issues, total })
 }
 
-fn copy_moved(alloc: Global, issue: &Text, rank: &Text) -> Result<Answer, Memory>
+fn copy_moved(alloc: Global, issue: &ToldText, rank: &ToldText) -> Result<Answer, Memory>
     ensures { IfOk result (λ a. a ≡ answers.Move issue.now rank.now) }
 {
     let issue = issue.copy(alloc)?;

@@ -15,6 +15,7 @@ use crate::ranks_json::{
 use crate::reply::{Answer, BalanceKept, Limit, Refusal, Reply, SprintPhase, Thing};
 use crate::show_json::{write_show, write_texts};
 use crate::sprints_json::{write_burndown, write_make_sprint, write_sprint_phase};
+use crate::told_text::ToldText;
 use field_values::{Memory, Moment, Permission, Text};
 use std::alloc::Global;
 
@@ -32,6 +33,16 @@ pub fn reply_text(alloc: Global, reply: &Reply) -> Result<Text, Memory>
     let mut text = JsonText::new(alloc)?;
     write_reply(alloc, &mut text, reply)?;
     Ok(text.into_text())
+}
+
+/// The bytes of that text, in the room of these, which it takes the place of.
+#[tactic(auto, unfolding(crate::specs::Reply::reply_text), using(crate::proofs::Texts::whole))]
+pub fn reply_bytes(alloc: Global, reply: &Reply, room: Vec<u8>) -> Result<Vec<u8>, Memory>
+    ensures { IfOk result (λ bytes. bytes.items ≡ reply_text reply.now) }
+{
+    let mut text = JsonText::in_room(room);
+    write_reply(alloc, &mut text, reply)?;
+    Ok(text.into_bytes())
 }
 
 fn write_reply(alloc: Global, out: &mut JsonText, reply: &Reply) -> Result<(), Memory>
@@ -99,7 +110,12 @@ fn write_answer(alloc: Global, out: &mut JsonText, answer: &Answer) -> Result<()
     }
 }
 
-fn write_create(out: &mut JsonText, already: bool, change: u64, issue: &Text) -> Result<(), Memory>
+fn write_create(
+    out: &mut JsonText,
+    already: bool,
+    change: u64,
+    issue: &ToldText,
+) -> Result<(), Memory>
     ensures { OnOk result (out.new ≡ after (create_data already change issue.now) out.old) }
 {
     out.begin_object()?;
@@ -109,7 +125,7 @@ fn write_create(out: &mut JsonText, already: bool, change: u64, issue: &Text) ->
     out.end_object()
 }
 
-fn write_edit(out: &mut JsonText, change: Option<u64>, issue: &Text) -> Result<(), Memory>
+fn write_edit(out: &mut JsonText, change: Option<u64>, issue: &ToldText) -> Result<(), Memory>
     ensures { OnOk result (out.new ≡ after (edit_data change issue.now) out.old) }
 {
     out.begin_object()?;

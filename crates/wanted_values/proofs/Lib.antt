@@ -3,4 +3,5 @@ pub mod Counting
 pub mod Fitting
 pub mod InSprints
 pub mod Named
+pub mod Outcomes
 pub mod Resolving

@@ -14,7 +14,8 @@ use Rattle.tracker_machine.specs.Known.{names_field}
 use Rattle.tracker_machine.specs.Wanted.{given_for, sprint_number}
 use Rattle.sprints.specs.declared.sprint.Sprint.{Sprint}
 use Rattle.tracker_machine.specs.Checks.{sprint_given, missing_sprint, sprint_refusal, name_refusal, names_refusal, refused_names, sooner, first_with}
-use Rattle.wanted_values.specs.Resolved.{NamedField, named_in, refusal_of, sooner_of, found_with, first_of}
+use Rattle.wanted_values.specs.declared.resolved.ResolvedName.{ResolvedName}
+use Rattle.wanted_values.specs.Resolved.{NamedField, named_in, resolved, IsResolved, last_given, refusal_of, sooner_of, found_with, first_of}
 
 -- ---- what is given for a field
 
@@ -25,9 +26,32 @@ or_given None true given before = refl
 or_given None false given before = refl
 
 -- one more name: what it gives stands over what was given before it
-pub given_more : (fields : List Field) (n : ℕ) (g : GivenField) (gs : List GivenField) (before : Option Given)
+given_more : (fields : List Field) (n : ℕ) (g : GivenField) (gs : List GivenField) (before : Option Given)
     → option_or (given_for fields n (g ∷ gs)) before ≡ option_or (given_for fields n gs) (if names_field fields n g.name then Some g.given else before)
 given_more fields n g gs before = or_given (given_for fields n gs) (names_field fields n g.name) g.given before
+
+-- the last of the resolved names of a field gives what `set` gives for it, and where none does, that is what was given before
+last_given_over : (fields : List Field) (n : ℕ) (names : List ResolvedName) (set : List GivenField) (before : Option Given)
+    → map resolved names ≡ map (named_in fields) set → map (λ r. r.given.now) names ≡ map (λ g. g.given) set
+    → last_given n before names ≡ option_or (given_for fields n set) before
+last_given_over fields n [] [] before named given = refl
+last_given_over fields n [] (g ∷ gs) before named given = absurd (cc)
+last_given_over fields n (r ∷ rs) [] before named given = absurd (cc)
+last_given_over fields n (r ∷ rs) (g ∷ gs) before named given =
+    let same : resolved r ≡ named_in fields g = cc in
+    let field : option_map (λ f. f.0) r.field ≡ field_named fields g.name = ap (λ (p : NamedField). p.1) same in
+    let gave : r.given.now ≡ g.given = cc in
+    rw (field, gave)
+    (last_given_over fields n rs gs (if names_field fields n g.name then Some g.given else before) (cc) (cc)
+    ∙ sym (given_more fields n g gs before))
+
+pub last_given_is : (fields : List Field) (n : ℕ) (names : List ResolvedName) (set : List GivenField)
+    → IsResolved fields set names → last_given n None names ≡ given_for fields n set
+last_given_is fields n names set resolved =
+    last_given_over fields n names set None resolved.named resolved.given ∙ or_none (given_for fields n set) where
+      or_none : (o : Option Given) → option_or o None ≡ o
+      or_none None = refl
+      or_none (Some g) = refl
 
 -- ---- names that are refused
 

@@ -1,9 +1,6 @@
 -- What `set` gives, with each name looked up once.
-use Rattle.std.specs.Prelude.{◌≡◌, ℕ, ◌==◌, List, [], ◌∷◌, map, Option, Some, None, option_map, if◌then◌else◌}
-use Rattle.std.specs.Option.{is_some}
-use Rattle.std.specs.Borrow.{Bor}
-use Rattle.std.specs.BTreeMap.{BTreeMap, get}
-use Rattle.std.specs.Ordering.{nat_cmp}
+use Rattle.std.specs.Prelude.{◌≡◌, ℕ, ◌==◌, List, [], ◌∷◌, map, Bool, false, Option, Some, None, option_map, if◌then◌else◌}
+use Rattle.std.specs.Option.{is_some, option_map_or}
 use Rattle.field_values.specs.declared.numbers.TheConstants.FieldNo as number
 use Rattle.field_values.specs.declared.field.Field.{Field}
 use Rattle.field_values.specs.Parts.{Parts}
@@ -14,7 +11,6 @@ use Rattle.tracker_calls.specs.declared.given.GivenField.{GivenField}
 use Rattle.tracker_calls.specs.declared.reply.Refusal.{Refusal}
 use Rattle.tracker_calls.specs.declared.reply.Refusal.TheVariants as refusal
 use Rattle.tracker_calls.specs.declared.reply.Thing.TheVariants as thing
-use Rattle.tracker_machine.specs.Wanted.{given_for}
 use Rattle.tracker_machine.specs.Checks.{sprint_refusal}
 use Rattle.wanted_values.specs.declared.resolved.ResolvedName.{ResolvedName}
 
@@ -33,14 +29,18 @@ named_in fields g = (g.name, field_named fields g.name)
 abbrev pub resolved : ResolvedName → NamedField
 resolved r = (r.name.now, option_map (λ n. n.0) r.field)
 
--- what is kept for a field
-abbrev pub given_by : BTreeMap ℕ (Bor Given) → ℕ → Option Given
-given_by by_field n = option_map (λ g. g.now) (get nat_cmp by_field n)
-
--- the names are those of `set`, and for each field that is kept which `set` gives
-pub record IsResolved (fields : List Field) (set : List GivenField) (names : List ResolvedName) (by_field : BTreeMap ℕ (Bor Given)) : Type 0 where
+-- the names are those of `set`, and so is what is given by each
+pub record IsResolved (fields : List Field) (set : List GivenField) (names : List ResolvedName) : Type 0 where
   pub named : map resolved names ≡ map (named_in fields) set
-  pub found : (n : ℕ) → given_by by_field n ≡ given_for fields n set
+  pub given : map (λ r. r.given.now) names ≡ map (λ g. g.given) set
+
+abbrev pub is_of : ℕ → ResolvedName → Bool
+is_of n r = option_map_or (λ k. k == n) (option_map (λ f. f.0) r.field) false
+
+-- what is given by the last name that is the field's, and where none is, what was found before
+abbrev pub last_given : ℕ → Option Given → List ResolvedName → Option Given
+last_given n before [] = before
+last_given n before (r ∷ rs) = last_given n (if is_of n r then Some r.given.now else before) rs
 
 -- ---- names that are refused
 

@@ -1,31 +1,30 @@
 // What a call gives for fields, with each name looked up once.
-ghost use Rattle.std.specs.Prelude.{◌≡◌, ◌==◌, ℕ, map, option_map, IfOk, OnOk, Some, false, if◌then◌else◌};
+ghost use Rattle.std.specs.Prelude.{◌≡◌, ◌==◌, map, option_map, IfOk, None, false, IsTrue};
 ghost use Rattle.std.specs.Option.{option_map_or};
 ghost use Rattle.fields.specs.SetupParts.{parts};
 ghost use Rattle.tracker_machine.specs.Wanted.{given_for};
-ghost use Rattle.wanted_values.specs.Resolved.{IsResolved, named_in, resolved, given_by};
+ghost use Rattle.wanted_values.specs.Resolved.{IsResolved, named_in, resolved, is_of, last_given};
 
 use fields::{FieldNo, Memory, Setup};
 use std::alloc::Global;
-use std::collections::BTreeMap;
 use std::marker::Model;
 use tracker_calls::{Given, GivenField};
 
-/// A name in `set`, and its field, if it is a field's.
+/// A name in `set`, its field, if it is a field's, and what is given by it.
 #[derive(Clone, Copy)]
 pub struct ResolvedName<'a> {
     pub name: &'a str,
     pub field: Option<FieldNo>,
+    pub given: &'a Given,
 }
 
-/// What `set` gives for fields. Each of its names is looked up once, and what is given for a field is then found in
-/// logarithmic time. Contracts see `set`, and the setup by which its names are read.
+/// What `set` gives for fields. Each of its names is looked up once; what is given for a field is then found by its number
+/// among them. Contracts see `set`, and the setup by which its names are read.
 #[derive(Drop)]
 pub struct ResolvedSet<'a> {
     setup: &'a Setup,
     set: &'a [GivenField],
     names: Vec<ResolvedName<'a>>,
-    by_field: BTreeMap<u16, &'a Given>,
 }
 
 impl<'a> Model for ResolvedSet<'a> {
@@ -36,7 +35,7 @@ impl<'a> Model for ResolvedSet<'a> {
 
     ghost view = { λ s. record { setup = parts s.setup.now; set = s.set.now } };
 
-    ghost invariant = { λ s. IsResolved s.setup.now.field s.set.now s.names.items s.by_field };
+    ghost invariant = { λ s. IsResolved s.setup.now.field s.set.now s.names.items };
 }
 
 impl<'a> ResolvedSet<'a> {
@@ -45,13 +44,8 @@ impl<'a> ResolvedSet<'a> {
         ensures setup { IfOk result (λ given. given.setup ≡ parts setup.now) }
         ensures set { IfOk result (λ given. given.set ≡ set.now) }
     {
-        let (names, by_field) = resolve(alloc, setup, set)?;
-        Ok(ResolvedSet {
-            setup,
-            set,
-            names,
-            by_field,
-        })
+        let names = resolve(alloc, setup, set)?;
+        Ok(ResolvedSet { setup, set, names })
     }
 
     /// The setup by which the names are read.
@@ -69,43 +63,53 @@ impl<'a> ResolvedSet<'a> {
     }
 
     /// What is given for a field: the last of its names counts.
+    #[tactic(auto, using(crate::proofs::Resolving::last_given_is))]
     pub fn given_for(&self, field: FieldNo) -> Option<&'a Given>
         ensures { option_map (λ g. g.now) result ≡ given_for self.now.setup.field field.0 self.now.set }
     {
-        self.by_field.get(&field.0).copied()
+        last_given(&self.names, field)
     }
 }
 
-// Looks each name up, and keeps by field what is given last.
+// Looks each name up.
 fn resolve<'a>(
     alloc: Global,
     setup: &Setup,
     set: &'a [GivenField],
-) -> Result<(Vec<ResolvedName<'a>>, BTreeMap<u16, &'a Given>), Memory>
-    ensures { IfOk result (λ r. IsResolved setup.now.field set.now r.0.items r.1) }
+) -> Result<Vec<ResolvedName<'a>>, Memory>
+    ensures { IfOk result (λ names. IsResolved setup.now.field set.now names.items) }
 {
-    let mut names = Vec::new(alloc);
-    let mut by_field = BTreeMap::new(alloc);
+    let mut names = Vec::with_capacity(alloc, set.len())?;
     for given in set {
         let name = given.name.as_str();
         let field = setup.field_named(name);
-        names.push(ResolvedName { name, field })?;
-        put_given(&mut by_field, field, &given.given)?;
+        names.push(ResolvedName {
+            name,
+            field,
+            given: &given.given,
+        })?;
     }
-    Ok((names, by_field))
+    Ok(names)
 }
 
-// Keeps what is given for a field, in place of what was given before, if it is given for one.
-fn put_given<'a>(
-    by_field: &mut BTreeMap<u16, &'a Given>,
-    field: Option<FieldNo>,
-    given: &'a Given,
-) -> Result<(), Memory>
-    ensures { OnOk result ((n : ℕ) → given_by by_field.new n
-        ≡ (if option_map_or (λ k. k == n) (option_map (λ f. f.0) field) false then Some given.now else given_by by_field.old n)) }
+fn is_of(name: ResolvedName<'_>, field: FieldNo) -> bool
+    ensures { result ≡ is_of field.0 name.entry }
 {
-    if let Some(field) = field {
-        by_field.insert(field.0, given)?;
+    match name.field {
+        Some(own) => own.0 == field.0,
+        None => false,
     }
-    Ok(())
+}
+
+// What is given by the last of the names that is the field's.
+fn last_given<'a>(names: &[ResolvedName<'a>], field: FieldNo) -> Option<&'a Given>
+    ensures { option_map (λ g. g.now) result ≡ last_given field.0 None names.now }
+{
+    let mut found = None;
+    for name in names {
+        if is_of(*name, field) {
+            found = Some(name.given);
+        }
+    }
+    found
 }

@@ -2,6 +2,7 @@
 ghost use Rattle.std.specs.Prelude.{◌≡◌, ◌∷◌, ◌++◌, [], option_map, IfOk, OnOk, Some, None, map, if◌then◌else◌};
 ghost use Rattle.std.specs.Option.{is_some};
 ghost use Rattle.field_forms.specs.Known.{value_of, listed_value_of};
+ghost use Rattle.fields.specs.Naming.{built_in_numbers};
 ghost use Rattle.fields.specs.SetupParts.{parts, names_in};
 ghost use Rattle.workflow.specs.Inputs.{least_with};
 ghost use Rattle.tracker_machine.specs.Wanted.{given_for, wanted_or, wanted_by, wanted_given, wanted_in, takes_text, sprint_wanted, sprint_number, is_fault, faults_in, field_at_fault, change_to, changes_to, changes_of};
@@ -11,10 +12,13 @@ ghost use Rattle.wanted_values.specs.Wants.{wants_of};
 use crate::names::sprint_number;
 use crate::resolved::ResolvedSet;
 use change_history::Change;
-use fields::{FieldNo, Memory, Setup, SprintNo, Text, UserNo, Value};
+use fields::{Field, FieldNo, Memory, Setup, SprintNo, Text, UserNo, Value};
 use std::alloc::Global;
 use tracker_calls::Given;
 use tracker_machine::Wanted;
+
+// The fields of which a create says something beside `set`: type, summary, status and reporter.
+const BESIDE: usize = 4;
 
 /// What a create says of fields beside `set`.
 #[derive(Clone, Copy)]
@@ -232,31 +236,100 @@ fn put_change(changes: &mut Vec<Change>, field: FieldNo, wanted: Wanted) -> Resu
     }
 }
 
-// What comes of some fields.
-fn outcome_of(
+// Puts what comes of one more field behind what came of others.
+fn put_outcome(
+    alloc: Global,
+    set: &ResolvedSet<'_>,
+    opening: Option<Opening<'_>>,
+    field: FieldNo,
+    outcome: &mut Outcome,
+) -> Result<(), Memory>
+    ensures fault { OnOk result (option_map (λ f. f.0) outcome.new.fault
+        ≡ least_with (option_map (λ f. f.0) outcome.old.fault)
+        (faults_in (names_in set.now.setup) (wants_of set.now.setup set.now.set opening.entry) (field.0 ∷ []))) }
+    ensures changes { OnOk result (outcome.new.changes.items ≡ outcome.old.changes.items
+        ++ change_to field.0 (wants_of set.now.setup set.now.set opening.entry field.0)) }
+{
+    let wanted = wanted(alloc, set, opening, field)?;
+    outcome.fault = fault_after(set.setup(), outcome.fault, field, &wanted);
+    put_change(&mut outcome.changes, field, wanted)
+}
+
+// The same of some of the fields that every tracker has.
+fn put_outcomes(
     alloc: Global,
     set: &ResolvedSet<'_>,
     opening: Option<Opening<'_>>,
     numbers: &[FieldNo],
-) -> Result<Outcome, Memory>
-    ensures fault { IfOk result (λ outcome. option_map (λ f. f.0) outcome.fault
-        ≡ least_with None (faults_in (names_in set.now.setup) (wants_of set.now.setup set.now.set opening.entry) (map (λ f. f.0) numbers.now))) }
-    ensures changes { IfOk result (λ outcome. outcome.changes.items
-        ≡ changes_to (wants_of set.now.setup set.now.set opening.entry) (map (λ f. f.0) numbers.now)) }
+    outcome: &mut Outcome,
+) -> Result<(), Memory>
+    ensures fault { OnOk result (option_map (λ f. f.0) outcome.new.fault
+        ≡ least_with (option_map (λ f. f.0) outcome.old.fault)
+        (faults_in (names_in set.now.setup) (wants_of set.now.setup set.now.set opening.entry) (map (λ f. f.0) numbers.now))) }
+    ensures changes { OnOk result (outcome.new.changes.items ≡ outcome.old.changes.items
+        ++ changes_to (wants_of set.now.setup set.now.set opening.entry) (map (λ f. f.0) numbers.now)) }
 {
-    let mut changes = Vec::new(alloc);
-    let mut fault = None;
     for field in numbers {
-        let wanted = wanted(alloc, set, opening, *field)?;
-        fault = fault_after(set.setup(), fault, *field, &wanted);
-        put_change(&mut changes, *field, wanted)?;
+        put_outcome(alloc, set, opening, *field, outcome)?;
     }
-    Ok(Outcome { changes, fault })
+    Ok(())
+}
+
+// The same of a setup's own fields.
+fn put_own_outcomes(
+    alloc: Global,
+    set: &ResolvedSet<'_>,
+    opening: Option<Opening<'_>>,
+    fields: &[Field],
+    outcome: &mut Outcome,
+) -> Result<(), Memory>
+    ensures fault { OnOk result (option_map (λ f. f.0) outcome.new.fault
+        ≡ least_with (option_map (λ f. f.0) outcome.old.fault)
+        (faults_in (names_in set.now.setup) (wants_of set.now.setup set.now.set opening.entry) (map (λ f. f.number.0) fields.now))) }
+    ensures changes { OnOk result (outcome.new.changes.items ≡ outcome.old.changes.items
+        ++ changes_to (wants_of set.now.setup set.now.set opening.entry) (map (λ f. f.number.0) fields.now)) }
+{
+    for field in fields {
+        put_outcome(alloc, set, opening, field.number, outcome)?;
+    }
+    Ok(())
+}
+
+// Nothing has come of any field yet, and there is room for the changes that most calls make.
+fn no_outcome(alloc: Global, set: &ResolvedSet<'_>) -> Result<Outcome, Memory>
+    ensures fault { IfOk result (λ outcome. outcome.fault ≡ None) }
+    ensures changes { IfOk result (λ outcome. outcome.changes.items ≡ []) }
+{
+    let room = set.names().len().saturating_add(BESIDE);
+    Ok(Outcome {
+        changes: Vec::with_capacity(alloc, room)?,
+        fault: None,
+    })
+}
+
+/// The fields that every tracker has, by number.
+pub fn built_in_fields() -> &'static [FieldNo]
+    ensures { map (λ f. f.0) result.now ≡ built_in_numbers }
+{
+    &[
+        FieldNo::TYPE,
+        FieldNo::SUMMARY,
+        FieldNo::DESCRIPTION,
+        FieldNo::STATUS,
+        FieldNo::ASSIGNEE,
+        FieldNo::REPORTER,
+        FieldNo::PRIORITY,
+        FieldNo::RESOLUTION,
+        FieldNo::FIX_VERSION,
+        FieldNo::LABELS,
+        FieldNo::DUE,
+        FieldNo::POINTS,
+        FieldNo::SPRINT,
+    ]
 }
 
 /// The changes of all fields of which values are wanted, and the first field at fault, if any is: by what `set` gives, and by
 /// what stands beside it in a create.
-#[tactic(auto, unfolding(tracker_machine::specs::Wanted::changes_of, tracker_machine::specs::Wanted::field_at_fault))]
 pub fn outcome_of_all(
     alloc: Global,
     set: &ResolvedSet<'_>,
@@ -267,6 +340,14 @@ pub fn outcome_of_all(
     ensures changes { IfOk result (λ outcome. outcome.changes.items
         ≡ changes_of (names_in set.now.setup) (wants_of set.now.setup set.now.set opening.entry)) }
 {
-    let numbers = set.setup().field_numbers(alloc)?;
-    outcome_of(alloc, set, opening, &numbers)
+    let mut outcome = no_outcome(alloc, set)?;
+    put_outcomes(alloc, set, opening, built_in_fields(), &mut outcome)?;
+    put_own_outcomes(
+        alloc,
+        set,
+        opening,
+        set.setup().field.as_slice(),
+        &mut outcome,
+    )?;
+    Ok(outcome)
 }

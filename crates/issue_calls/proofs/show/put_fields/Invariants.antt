@@ -1,9 +1,10 @@
 use Rattle.std.proofs.Common.{◌≡◌, ◌++◌, drop, map}
 use Rattle.fields.specs.SetupParts.{parts, names_in}
 use Rattle.tracker_machine.specs.Show.{shown_fields}
-use Rattle.issue_calls.proofs.show.shown_fields.Given as goal
+use Rattle.issue_calls.proofs.show.put_fields.Given as goal
 
+-- what is left to be put comes to the same
 abbrev pub invariant-loop-field : goal.invariant-loop-field
 invariant-loop-field l =
-    shown_fields (names_in (parts l.setup)) l.issue.history (map (λ f. f.0) l.numbers)
+    l.fn.fields ++ shown_fields (names_in (parts l.setup)) l.issue.history (map (λ f. f.0) l.numbers)
     ≡ l.fields ++ shown_fields (names_in (parts l.setup)) l.issue.history (map (λ f. f.0) (drop l.field-index l.numbers))

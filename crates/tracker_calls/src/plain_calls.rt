@@ -1,0 +1,214 @@
+// The calls that a plain line may ask for.
+ghost use Rattle.std.specs.Prelude.{◌≡◌, Ok, IfOk, IfSome, List, ℕ, None};
+ghost use Rattle.serde_json.specs.Data.{object};
+ghost use Rattle.tracker_calls.specs.Asked.{asked_by, first_other, names_of};
+ghost use Rattle.tracker_calls.specs.Plain.{values_of};
+
+use crate::call::{Call, CallKind, MOST_ENTRIES, MOST_LISTED, Part};
+use crate::plain_members::{member, set_at, set_if_there, text_member};
+use field_values::{Memory, Text};
+use json::Value;
+use std::alloc::Global;
+
+/// The call of that kind, whoever asks for it, of members among which is no other; `None` where it isn't known to be one.
+pub fn kind_call<'a>(
+    alloc: Global,
+    kind: CallKind,
+    members: &[(&'a str, Value<'a>)],
+) -> Result<Option<Call>, Memory>
+    requires { first_other kind (names_of (values_of members.now)) ≡ None }
+    ensures { IfOk result (λ found. IfSome found (λ call. (user : List ℕ)
+        → asked_by kind (object (values_of members.now)) (values_of members.now) user ≡ Ok (user, call))) }
+{
+    match kind {
+        CallKind::Create => create_in(alloc, members),
+        CallKind::Edit => edit_in(alloc, members),
+        CallKind::Transition => transition_in(alloc, members),
+        CallKind::MoveBefore => move_before_in(alloc, members),
+        CallKind::MoveAfter => move_after_in(alloc, members),
+        CallKind::Show => show_in(alloc, members),
+        CallKind::History => history_in(alloc, members),
+        CallKind::Search => search_in(alloc, members),
+        _ => Ok(None),
+    }
+}
+
+// A create without an external id.
+fn create_in<'a>(alloc: Global, members: &[(&'a str, Value<'a>)]) -> Result<Option<Call>, Memory>
+    requires { first_other CallKind.Create (names_of (values_of members.now)) ≡ None }
+    ensures { IfOk result (λ found. IfSome found (λ call. (user : List ℕ)
+        → asked_by CallKind.Create (object (values_of members.now)) (values_of members.now) user ≡ Ok (user, call))) }
+{
+    let Some(project) = text_member(members, "project") else {
+        return Ok(None);
+    };
+    let Some(issue_type) = text_member(members, "type") else {
+        return Ok(None);
+    };
+    let Some(summary) = text_member(members, "summary") else {
+        return Ok(None);
+    };
+    let None = member(members, "external") else {
+        return Ok(None);
+    };
+    let Some(set) = set_if_there(alloc, members)? else {
+        return Ok(None);
+    };
+    let project = Text::copy_of(alloc, project)?;
+    let issue_type = Text::copy_of(alloc, issue_type)?;
+    let summary = Text::copy_of(alloc, summary)?;
+    Ok(Some(Call::Create {
+        project,
+        issue_type,
+        summary,
+        set,
+        external: None,
+    }))
+}
+
+fn edit_in<'a>(alloc: Global, members: &[(&'a str, Value<'a>)]) -> Result<Option<Call>, Memory>
+    requires { first_other CallKind.Edit (names_of (values_of members.now)) ≡ None }
+    ensures { IfOk result (λ found. IfSome found (λ call. (user : List ℕ)
+        → asked_by CallKind.Edit (object (values_of members.now)) (values_of members.now) user ≡ Ok (user, call))) }
+{
+    let Some(issue) = text_member(members, "issue") else {
+        return Ok(None);
+    };
+    let Some(set) = set_at(alloc, members)? else {
+        return Ok(None);
+    };
+    let issue = Text::copy_of(alloc, issue)?;
+    Ok(Some(Call::Edit { issue, set }))
+}
+
+fn transition_in<'a>(
+    alloc: Global,
+    members: &[(&'a str, Value<'a>)],
+) -> Result<Option<Call>, Memory>
+    requires { first_other CallKind.Transition (names_of (values_of members.now)) ≡ None }
+    ensures { IfOk result (λ found. IfSome found (λ call. (user : List ℕ)
+        → asked_by CallKind.Transition (object (values_of members.now)) (values_of members.now) user ≡ Ok (user, call))) }
+{
+    let Some(issue) = text_member(members, "issue") else {
+        return Ok(None);
+    };
+    let Some(transition) = text_member(members, "transition") else {
+        return Ok(None);
+    };
+    let Some(set) = set_if_there(alloc, members)? else {
+        return Ok(None);
+    };
+    let issue = Text::copy_of(alloc, issue)?;
+    let transition = Text::copy_of(alloc, transition)?;
+    Ok(Some(Call::Transition {
+        issue,
+        transition,
+        set,
+    }))
+}
+
+fn move_before_in<'a>(
+    alloc: Global,
+    members: &[(&'a str, Value<'a>)],
+) -> Result<Option<Call>, Memory>
+    requires { first_other CallKind.MoveBefore (names_of (values_of members.now)) ≡ None }
+    ensures { IfOk result (λ found. IfSome found (λ call. (user : List ℕ)
+        → asked_by CallKind.MoveBefore (object (values_of members.now)) (values_of members.now) user ≡ Ok (user, call))) }
+{
+    let Some(issue) = text_member(members, "issue") else {
+        return Ok(None);
+    };
+    let Some(other) = text_member(members, "other") else {
+        return Ok(None);
+    };
+    if other == issue {
+        return Ok(None);
+    }
+    let issue = Text::copy_of(alloc, issue)?;
+    let other = Text::copy_of(alloc, other)?;
+    Ok(Some(Call::MoveBefore { issue, other }))
+}
+
+fn move_after_in<'a>(
+    alloc: Global,
+    members: &[(&'a str, Value<'a>)],
+) -> Result<Option<Call>, Memory>
+    requires { first_other CallKind.MoveAfter (names_of (values_of members.now)) ≡ None }
+    ensures { IfOk result (λ found. IfSome found (λ call. (user : List ℕ)
+        → asked_by CallKind.MoveAfter (object (values_of members.now)) (values_of members.now) user ≡ Ok (user, call))) }
+{
+    let Some(issue) = text_member(members, "issue") else {
+        return Ok(None);
+    };
+    let Some(other) = text_member(members, "other") else {
+        return Ok(None);
+    };
+    if other == issue {
+        return Ok(None);
+    }
+    let issue = Text::copy_of(alloc, issue)?;
+    let other = Text::copy_of(alloc, other)?;
+    Ok(Some(Call::MoveAfter { issue, other }))
+}
+
+fn show_in<'a>(alloc: Global, members: &[(&'a str, Value<'a>)]) -> Result<Option<Call>, Memory>
+    requires { first_other CallKind.Show (names_of (values_of members.now)) ≡ None }
+    ensures { IfOk result (λ found. IfSome found (λ call. (user : List ℕ)
+        → asked_by CallKind.Show (object (values_of members.now)) (values_of members.now) user ≡ Ok (user, call))) }
+{
+    let Some(issue) = text_member(members, "issue") else {
+        return Ok(None);
+    };
+    let issue = Text::copy_of(alloc, issue)?;
+    Ok(Some(Call::Show { issue }))
+}
+
+// A history from its beginning.
+fn history_in<'a>(alloc: Global, members: &[(&'a str, Value<'a>)]) -> Result<Option<Call>, Memory>
+    requires { first_other CallKind.History (names_of (values_of members.now)) ≡ None }
+    ensures { IfOk result (λ found. IfSome found (λ call. (user : List ℕ)
+        → asked_by CallKind.History (object (values_of members.now)) (values_of members.now) user ≡ Ok (user, call))) }
+{
+    let Some(issue) = text_member(members, "issue") else {
+        return Ok(None);
+    };
+    let None = member(members, "from") else {
+        return Ok(None);
+    };
+    let None = member(members, "count") else {
+        return Ok(None);
+    };
+    let issue = Text::copy_of(alloc, issue)?;
+    Ok(Some(Call::History {
+        issue,
+        part: Part {
+            from: 0,
+            count: MOST_ENTRIES,
+        },
+    }))
+}
+
+// The first issues of a search.
+fn search_in<'a>(alloc: Global, members: &[(&'a str, Value<'a>)]) -> Result<Option<Call>, Memory>
+    requires { first_other CallKind.Search (names_of (values_of members.now)) ≡ None }
+    ensures { IfOk result (λ found. IfSome found (λ call. (user : List ℕ)
+        → asked_by CallKind.Search (object (values_of members.now)) (values_of members.now) user ≡ Ok (user, call))) }
+{
+    let Some(jql) = text_member(members, "jql") else {
+        return Ok(None);
+    };
+    let None = member(members, "from") else {
+        return Ok(None);
+    };
+    let None = member(members, "count") else {
+        return Ok(None);
+    };
+    let jql = Text::copy_of(alloc, jql)?;
+    Ok(Some(Call::Search {
+        jql,
+        part: Part {
+            from: 0,
+            count: MOST_LISTED,
+        },
+    }))
+}

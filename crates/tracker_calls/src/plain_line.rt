@@ -1,0 +1,140 @@
+// Plain lines: their members are texts, and `set` is an object of texts, as in most lines. They are read without a tree of values
+// that owns its texts, so that no text is copied but those of the call. Any other line, and each that has a fault, is left to `line`.
+ghost use Rattle.std.specs.Prelude.{◌≡◌, true, Ok, IfOk, IfSome, codes, option_map, option_and_then};
+ghost use Rattle.std.specs.List.{list_all};
+ghost use Rattle.json.specs.Json.{if_last};
+ghost use Rattle.json.specs.Value.{value_view, members_view};
+ghost use Rattle.serde_json.specs.Data.{object, no_members};
+ghost use Rattle.serde_json.specs.Read.{of_json, of_members};
+ghost use Rattle.tracker_calls.specs.Asked.{line_of, call_of, need};
+ghost use Rattle.tracker_calls.specs.Plain.{is_plain, values_of};
+
+use crate::call::{Call, kind_named};
+use crate::plain_calls::kind_call;
+use crate::plain_members::{are_texts, has_no_other, text_member};
+use crate::user_name::UserName;
+use field_values::Memory;
+use json::{Error, Reader, Scratch, Value};
+use std::alloc::Global;
+
+// How deep the JSON of a line may nest.
+const MAX_DEPTH: usize = 127;
+
+/// The user and the call of a plain line whose members are those of its call; `None` where it isn't known to be such a line.
+pub fn plain_line(alloc: Global, text: &str) -> Result<Option<(UserName, Call)>, Memory>
+    ensures { IfOk result (λ found. IfSome found (λ asked. line_of text.now ≡ Ok asked)) }
+{
+    if has_list(text) {
+        return Ok(None);
+    }
+    let mut scratch = Scratch::new(alloc);
+    let Ok(mut reader) = Reader::new(text, &mut scratch) else {
+        return Err(Memory);
+    };
+    match Value::read(alloc, &mut reader, MAX_DEPTH) {
+        Ok(value) => {
+            let found = last_value_call(alloc, &mut reader, &value);
+            drop(value);
+            found
+        }
+        Err(Error::OutOfMemory) => Err(Memory),
+        Err(_) => Ok(None),
+    }
+}
+
+// So that a line with a list isn't read twice.
+fn has_list(text: &str) -> bool {
+    text.as_bytes().contains(&b'[')
+}
+
+// That of a value behind which nothing is left.
+fn last_value_call(
+    alloc: Global,
+    reader: &mut Reader<'_>,
+    value: &Value<'_>,
+) -> Result<Option<(UserName, Call)>, Memory>
+    ensures { IfOk result (λ found. IfSome found (λ asked.
+        need (option_and_then of_json (if_last (value_view value.now) reader.old)) (codes "line") call_of
+        ≡ Ok asked)) }
+{
+    if reader.next().is_some() {
+        return Ok(None);
+    }
+    value_call(alloc, value)
+}
+
+fn value_call(alloc: Global, value: &Value<'_>) -> Result<Option<(UserName, Call)>, Memory>
+    ensures { IfOk result (λ found. IfSome found (λ asked.
+        need (of_json (value_view value.now)) (codes "line") call_of ≡ Ok asked)) }
+{
+    match value {
+        Value::Object(members) => members_call(alloc, members),
+        _ => Ok(None),
+    }
+}
+
+#[tactic(auto, using(crate::proofs::PlainLines::values_are_read))]
+fn members_call<'a>(
+    alloc: Global,
+    members: &[(&'a str, Value<'a>)],
+) -> Result<Option<(UserName, Call)>, Memory>
+    ensures { IfOk result (λ found. IfSome found (λ asked.
+        need (option_map object (of_members (members_view members.now) no_members)) (codes "line") call_of
+        ≡ Ok asked)) }
+{
+    if !are_plain(members) {
+        return Ok(None);
+    }
+    plain_call(alloc, members)
+}
+
+// Whether the value is known to be a text or an object of texts.
+#[tactic(auto, using(crate::proofs::PlainLines::text_is_plain))]
+fn is_plain(value: &Value<'_>) -> bool
+    ensures { result ≡ true → is_plain (value_view value.now) ≡ true }
+{
+    if value.as_str().is_some() {
+        return true;
+    }
+    match value {
+        Value::Object(members) => are_texts(members),
+        _ => false,
+    }
+}
+
+fn are_plain<'a>(members: &[(&'a str, Value<'a>)]) -> bool
+    ensures { result ≡ true → list_all (λ m. is_plain (value_view m.1)) members.now ≡ true }
+{
+    for member in members {
+        if !is_plain(&member.1) {
+            return false;
+        }
+    }
+    true
+}
+
+fn plain_call<'a>(
+    alloc: Global,
+    members: &[(&'a str, Value<'a>)],
+) -> Result<Option<(UserName, Call)>, Memory>
+    ensures { IfOk result (λ found. IfSome found (λ asked.
+        call_of (object (values_of members.now)) ≡ Ok asked)) }
+{
+    let Some(user) = text_member(members, "user") else {
+        return Ok(None);
+    };
+    let Some(call) = text_member(members, "call") else {
+        return Ok(None);
+    };
+    let Some(kind) = kind_named(call) else {
+        return Ok(None);
+    };
+    if !has_no_other(kind, members) {
+        return Ok(None);
+    }
+    let user = UserName::copy_of(alloc, user)?;
+    match kind_call(alloc, kind, members)? {
+        Some(call) => Ok(Some((user, call))),
+        None => Ok(None),
+    }
+}
