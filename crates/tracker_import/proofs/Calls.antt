@@ -86,7 +86,8 @@ cut_within caller old middle new done rest all text front back failures c mark i
 rose_none : (a : ℕ) → RoseBy a a 0
 rose_none a = omega arith
 
-rose_again : (a b c n k : ℕ) → RoseBy a b n → RoseBy b c k → RoseBy a c (n + k)
+-- a count that rose, and rose again
+pub rose_again : (a b c n k : ℕ) → RoseBy a b n → RoseBy b c k → RoseBy a c (n + k)
 rose_again a b c n k one other = omega arith
 
 module _ {P : Type 0} (keeps : P → Rows → Type 0) (tells : P → Type 0) (faults : P → ℕ) where

@@ -42,7 +42,8 @@ pub fn export_rows<P: Keeper + Drop, T: Sink>(
 ) -> ExportEnd
     ensures run { EndsExport (export_text desk.now.machine)
         (T.taken out.old) (T.taken out.new) result }
-    ensures write_cause { result ≡ ExportEnd.WriteFault → Rose (T.faults out.old) (T.faults out.new) }
+    ensures write_cause { result ≡ ExportEnd.WriteFault →
+        Rose (T.faults out.old) (T.faults out.new) }
     ensures write_later { T.faults out.old ≤ T.faults out.new }
 {
     let mut pending = Vec::new(alloc);
@@ -130,7 +131,8 @@ fn put_issue(
 
 // Writes what is pending, where that is a piece.
 fn pass_on<T: Sink>(pending: &mut Vec<u8>, out: &mut T) -> Result<(), Failed>
-    ensures bytes { PassesOn (T.taken out.old) (T.taken out.new) pending.old.items pending.new.items result }
+    ensures bytes { PassesOn (T.taken out.old)
+        (T.taken out.new) pending.old.items pending.new.items result }
     ensures cause { HasCause (T.faults out.old) (T.faults out.new) result }
 {
     if pending.len() < PIECE {

@@ -45,7 +45,8 @@ pub fn import_rows<L: Ledger, P: Keeper + Drop, T: Sink>(
 ) -> ImportEnd
     ensures run { EndsImport P.keeps P.tells P.faults caller.now desk.old bytes.now
         (T.taken out.old) (T.taken out.new) result desk.new }
-    ensures write_cause { result ≡ ImportEnd.WriteFault → Rose (T.faults out.old) (T.faults out.new) }
+    ensures write_cause { result ≡ ImportEnd.WriteFault →
+        Rose (T.faults out.old) (T.faults out.new) }
     ensures write_later { T.faults out.old ≤ T.faults out.new }
 {
     let Ok(mut answer) = Vec::with_capacity(alloc, ANSWER_ROOM) else {
@@ -68,7 +69,8 @@ fn import_each<L: Ledger, P: Keeper + Drop, T: Sink>(
     ensures run { (batch : Batch) → reader.old ≡ Some batch →
         EndsBatch P.keeps P.tells P.faults caller.now desk.old batch
         (T.taken out.old) (T.taken out.new) result desk.new }
-    ensures write_cause { result ≡ ImportEnd.WriteFault → Rose (T.faults out.old) (T.faults out.new) }
+    ensures write_cause { result ≡ ImportEnd.WriteFault →
+        Rose (T.faults out.old) (T.faults out.new) }
     ensures write_later { T.faults out.old ≤ T.faults out.new }
 {
     'calls: loop {
