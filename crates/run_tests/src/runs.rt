@@ -170,27 +170,138 @@ fn import_takes_a_user_that_is_no_option(rt: HostRuntime) -> Result<(), Fail> {
     Ok(())
 }
 
+// Words that are no command's.
+const NO_COMMANDS: [&[&str]; 24] = [
+    &[],
+    &[""],
+    &["Exec"],
+    &["exec "],
+    &["Check"],
+    &["help"],
+    &["help", "exec"],
+    &["-h"],
+    &["exec", "-h"],
+    &["exec", "--"],
+    &["exec", "exec"],
+    &["export", ""],
+    &["Export"],
+    &["import"],
+    &["import", "-"],
+    &["import", "anna", "bo"],
+    &["generate"],
+    &["generate", "0"],
+    &["generate", "007"],
+    &["generate", "+5"],
+    &["generate", "20001"],
+    &["generate", "5 "],
+    &["generate", "five"],
+    &["generate", "5", "6"],
+];
+
+const USAGE: &[u8] = b"usage: exec, check, init, import USER, export, generate N\n";
+
+fn words_of(alloc: Global, list: &[&str]) -> Result<Vec<String>, AllocError> {
+    let mut words = Vec::new(alloc);
+    for word in list {
+        words.push(String::from_str(alloc, word)?)?;
+    }
+    Ok(words)
+}
+
+// The status and the output of a run without input over a sink with room for so many bytes, and its keeper.
+fn ran_in_room(
+    alloc: Global,
+    list: &[&str],
+    room: usize,
+    keeper: MemoryKeeper,
+) -> Result<(u8, Vec<u8>, MemoryKeeper), AllocError> {
+    let mut source = MemorySource::new(Vec::new(alloc), Vec::new(alloc), Vec::new(alloc));
+    let mut sink = MemorySink::new(alloc, room, Vec::new(alloc))?;
+    let (status, keeper) = run(
+        alloc,
+        &words_of(alloc, list)?,
+        &mut source,
+        &mut sink,
+        keeper,
+    );
+    Ok((status, sink.taken().to_vec(alloc)?, keeper))
+}
+
 #[test]
 fn words_that_are_no_command_are_a_usage_error(rt: HostRuntime) -> Result<(), Fail> {
     let alloc = rt.alloc();
-    for word in [
-        "", "Exec", "exec ", "Check", "help", "-h", "import", "Export",
-    ] {
-        let mut source = MemorySource::new(Vec::new(alloc), Vec::new(alloc), Vec::new(alloc));
-        let mut sink = MemorySink::new(alloc, 100, Vec::new(alloc))?;
-        let (status, _) = run(
-            alloc,
-            &words(alloc, word)?,
-            &mut source,
-            &mut sink,
-            keeper(alloc)?,
-        );
-        assert_eq!(rt; status, 1);
-        assert_eq!(rt;
-            sink.taken(),
-            b"usage: exec, check, init, import USER, export\n".as_slice()
-        );
+    let mut right = true;
+    for &list in &NO_COMMANDS {
+        let (status, out, _) = ran_in_room(alloc, list, 100, keeper(alloc)?)?;
+        right = right && status == 1 && out.as_slice() == USAGE;
     }
+    assert!(rt; right);
+    Ok(())
+}
+
+/// What the load of four issues comes to.
+const FOUR: &[u8] = b"calls 20 refused 0 members 1 left 3000 bucket 1\n";
+
+// Loads by their numbers, and what they come to.
+const LOADS: [(&str, &[u8]); 3] = [
+    ("4", FOUR),
+    ("20", b"calls 81 refused 0 members 3 left 19000 bucket 1\n"),
+    (
+        "1000",
+        b"calls 3789 refused 0 members 125 left 1001000 bucket 1\n",
+    ),
+];
+
+#[test]
+fn a_load_is_made_in_an_empty_keeper_alone(rt: HostRuntime) -> Result<(), Fail> {
+    let alloc = rt.alloc();
+    let mut right = true;
+    for &(number, text) in &LOADS {
+        let list = ["generate", number];
+        let (status, out, keeper) = ran_in_room(alloc, &list, 100, keeper(alloc)?)?;
+        right = right && status == 0 && out.as_slice() == text;
+        let (status, out, _) = ran_in_room(alloc, &list, 100, keeper)?;
+        right = right && status == 9 && out.as_slice() == b"held\n".as_slice();
+    }
+    assert!(rt; right);
+    Ok(())
+}
+
+// At which call the keeper fails, and the kinds of the rows that are kept then. Its calls: to ask for rows, to keep the opening rows,
+// and those of the load, of which the first is a tick and the second makes an issue.
+const FAILING_LOADS: [(u64, &[u8]); 5] = [
+    (1, b""),
+    (2, b""),
+    (3, b"\x01\x02\x0a\x0a\x0a"),
+    (4, b"\x01\x02\x0a\x0a\x0a"),
+    (5, b"\x01\x02\x03\x05\x0a\x0a\x0a"),
+];
+
+#[test]
+fn a_load_ends_where_the_keeper_fails(rt: HostRuntime) -> Result<(), Fail> {
+    let alloc = rt.alloc();
+    let mut right = true;
+    for &(failing, kinds) in &FAILING_LOADS {
+        let keeper = failing_keeper(alloc, [failing].to_vec(alloc)?)?;
+        let (status, out, mut kept) = ran_in_room(alloc, &["generate", "4"], 100, keeper)?;
+        right = right && status == 4 && out.is_empty();
+        right = right && kinds_of(alloc, &mut kept)?.as_slice() == kinds;
+    }
+    assert!(rt; right);
+    Ok(())
+}
+
+#[test]
+fn a_sink_takes_a_front_of_what_a_load_comes_to(rt: HostRuntime) -> Result<(), Fail> {
+    let alloc = rt.alloc();
+    let mut right = true;
+    for room in 0..FOUR.len() {
+        let (status, out, kept) = ran_in_room(alloc, &["generate", "4"], room, keeper(alloc)?)?;
+        right = right && status == 3 && out.as_slice() == &FOUR[..room];
+        let (status, out, _) = ran_in_room(alloc, &["generate", "4"], 3, kept)?;
+        right = right && status == 3 && out.as_slice() == b"hel".as_slice();
+    }
+    assert!(rt; right);
     Ok(())
 }
 

@@ -1,4 +1,4 @@
--- From the desk of `import` and `export` to what the top call says.
+-- From the desk of `import`, `export` and `generate` to what the top call says.
 use Rattle.std.proofs.Common.{◌≡◌, ℕ, List, [], ◌++◌, refl, sym, subst, Option, Some, None, IfSome, inl, inr, append-nil, arith}
 use Rattle.std.specs.Prelude.{◌⊎◌, ◌≤◌, length}
 use Rattle.std.specs.Io.KnownBytes.{Appends, Consumes, IsAtEnd}
@@ -32,7 +32,7 @@ of_whole P (Some all) (Some rest) bytes read end p = subst P (was_all all rest b
 
 -- ---- a desk that hands its keeper back
 
-handed : {P : Type 0} (keeps : P → Rows → Type 0) (tells : P → Type 0) (faults : P → ℕ) (old new : DeskParts P) (last : P) (n : ℕ) → last ≡ new.keeper
+pub handed : {P : Type 0} (keeps : P → Rows → Type 0) (tells : P → Type 0) (faults : P → ℕ) (old new : DeskParts P) (last : P) (n : ℕ) → last ≡ new.keeper
     → HasKept keeps tells faults old new n → HandsBack keeps tells faults old last new.machine n
 handed keeps tells faults old new last n back kept = record {
   rows = λ had. subst (λ k. keeps k (rows_of new.machine)) (sym back) (kept.rows had);
@@ -93,7 +93,7 @@ module _ {P : Type 0} (keeps : P → Rows → Type 0) (tells : P → Type 0) (fa
   begins : (tells last → tells start.keeper) → BeginsIn keeps tells setup_text keeper last start.machine
   begins told = λ rows is now. opened rows is (told now)
 
-  has_rows : (m : Machine) (n : ℕ) → HandsBack keeps tells faults start last m n → HasRowsOf keeps tells faults keeper last m n
+  pub has_rows : (m : Machine) (n : ℕ) → HandsBack keeps tells faults start last m n → HasRowsOf keeps tells faults keeper last m n
   has_rows m n back = record {
     rows = λ rows is told. back.rows (kept rows is (back.told told));
     counted = rose_later _ _ _ n later back.counted;

@@ -1,5 +1,7 @@
 pub mod Commands
 pub mod Counted
+pub mod Grammar
+pub mod Loads
 pub mod Outcomes
 pub mod Served
-pub mod Words
+pub mod WordLists

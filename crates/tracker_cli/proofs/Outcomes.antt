@@ -1,10 +1,10 @@
 -- From how the loop over lines ends to what the top call says.
-use Rattle.std.proofs.Common.{◌≡◌, ℕ, List, [], ◌∷◌, ◌++◌, refl, ap, sym, subst, Option, Some, None, IfSome, inl, inr, append-nil, ◌∙◌}
+use Rattle.std.proofs.Common.{◌≡◌, ℕ, List, [], ◌∷◌, ◌++◌, refl, ap, sym, subst, Option, Some, None, IfSome, inl, inr, append-nil, ◌∙◌, arith}
 use Rattle.std.specs.Prelude.{◌⊎◌, ◌+◌, ◌≤◌, ◌<◌, length}
 use Rattle.std.specs.Io.KnownBytes.{Appends, Consumes, IsAtEnd}
 use Rattle.setup_reading.specs.Reading.{Explains}
 use Rattle.std.proofs.lemmas.Option.{IfSome_then}
-use Rattle.request_lines.specs.Lines.{lines, StopsAtLong, StopsAtMany}
+use Rattle.request_lines.specs.Lines.{lines, AreWithinLimits, StopsAtLong, StopsAtMany}
 use Rattle.request_lines.specs.Run.{AreAnswered, IsCutShort, IsFrontOfNext, Ends}
 use Rattle.request_lines.specs.declared.run.End.{End}
 use Rattle.request_lines.specs.declared.run.End.TheVariants.{Done, ReadFault, WriteFault, Memory, LongLine, ManyLines}
@@ -14,7 +14,7 @@ use Rattle.jql_check.specs.Check.{IsReply}
 use Rattle.tracker_machine.specs.Machine.{Machine}
 use Rattle.tracker_machine.specs.Run.{IsRun, IsFrontOfReply, requests}
 use Rattle.tracker_machine.proofs.Runs.{IsRun-nil, IsRun-line, front_of_reply}
-use Rattle.tracker_cli.specs.Outcome.{BeginsIn, HasRowsOf, IsExec, IsCheck, AreReplies, AreCutReplies, AreChecked, AreCutChecks, IsFrontOfCheck, AreRepliesOf, AreCutRepliesOf, GrewBy, GrewByFront, IsInitText, IsKeptText, IsLimitText, IsCutLimitText, EndsRun, limit_line, limit_lines, setup_limit}
+use Rattle.tracker_cli.specs.Outcome.{BeginsIn, HasRowsOf, IsExec, IsCheck, IsOfLines, AreReplies, AreCutReplies, AreChecked, AreCutChecks, IsFrontOfCheck, AreRepliesOf, AreCutRepliesOf, GrewBy, GrewByFront, IsInitText, IsKeptText, IsLimitText, IsCutLimitText, EndsRun, limit_line, limit_lines, setup_limit}
 use Rattle.tracker_keeper.specs.Rows.{Rows}
 use Rattle.tracker_core.specs.Desk.{DeskParts, IsOpened, IsOpenFault}
 use Rattle.tracker_core.specs.declared.desk.OpenFault.{OpenFault}
@@ -247,6 +247,33 @@ pub nothing_yet : (Begins : Machine → Type 0) (Kept : Machine → ℕ → Type
     → IfSome left (λ bytes. EndsRun (AreReplies Begins Kept) (AreCutReplies Begins Kept Unopened) bytes after t t Memory)
 nothing_yet Begins Kept Unopened None after t same = tt
 nothing_yet Begins Kept Unopened (Some bytes) after t same = ([], inl (refl, same), Appends-nil t)
+
+none_within : AreWithinLimits []
+none_within = record { few = omega arith; short = tt }
+
+nothing_checked : (bytes : List ℕ) → AreCutChecks bytes []
+nothing_checked bytes = record {
+  done = [];
+  rest = lines bytes;
+  all_is = refl;
+  within = none_within;
+  whole = [];
+  checked = refl;
+  front = [];
+  next = inl refl;
+  text_is = refl;
+}
+
+-- no line was read, whichever the command is
+nothing_of : (Begins : Machine → Type 0) (Kept : Machine → ℕ → Type 0) (Unopened : Type 0) (words : List (List ℕ)) (bytes : List ℕ) → Unopened → IsOfLines words
+    → AreCutRepliesOf Begins Kept Unopened words bytes []
+nothing_of Begins Kept Unopened words bytes same (inl exec) = inl (exec, inl (refl, same))
+nothing_of Begins Kept Unopened words bytes same (inr check) = inr (check, nothing_checked bytes)
+
+pub nothing_read : (Begins : Machine → Type 0) (Kept : Machine → ℕ → Type 0) (Unopened : Type 0) (words : List (List ℕ)) (left t : Option (List ℕ)) → Unopened → IsOfLines words
+    → IfSome left (λ bytes. GrewBy t t (AreCutRepliesOf Begins Kept Unopened words bytes))
+nothing_read Begins Kept Unopened words None t same of = tt
+nothing_read Begins Kept Unopened words (Some bytes) t same of = ([], nothing_of Begins Kept Unopened words bytes same of, Appends-nil t)
 
 abbrev LongAt : Whole → Option (List ℕ) → Option (List ℕ) → List ℕ → Type 0
 LongAt R t s bytes = (done : List (List ℕ)) × StopsAtLong (lines bytes) done × GrewBy t s (R done)

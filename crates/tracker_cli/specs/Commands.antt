@@ -1,17 +1,18 @@
--- What comes of `import` and `export`, by their status.
+-- What comes of `import`, `export` and `generate`, by their status.
 use Rattle.std.specs.Prelude.{◌≡◌, ◌≢◌, ◌⊎◌, ◌<◌, ◌≤◌, ℕ, List, ◌++◌, length, Option, Some, None, IfSome}
 use Rattle.std.specs.Io.KnownBytes.{Appends, IsAtEnd}
 use Rattle.tracker_calls.specs.declared.call.Call.{Call}
 use Rattle.tracker_keeper.specs.Rows.{Rows}
 use Rattle.tracker_machine.specs.Machine.{Machine}
 use Rattle.tracker_machine.specs.Kept.{rows_of}
-use Rattle.tracker_core.specs.Desk.{DeskParts}
+use Rattle.tracker_core.specs.Desk.{DeskParts, HasNoRow, IsNew}
 use Rattle.issue_csv.specs.Reading.{batch_in}
 use Rattle.tracker_import.specs.Calls.{AreMade, AreCutCalls}
 use Rattle.tracker_import.specs.Export.{export_text}
+use Rattle.tracker_import.specs.Load.{end_of, load_calls, load_summary, loaded}
 use Rattle.tracker_cli.specs.Answering.{RoseBy}
-use Rattle.tracker_cli.specs.Outcome.{BeginsIn, HasRowsOf, GrewBy, GrewByFront, IsKeptText, limit_input}
-use Rattle.tracker_cli.specs.Texts.{csv_line}
+use Rattle.tracker_cli.specs.Outcome.{BeginsIn, HasRowsOf, GrewBy, GrewByFront, IsKeptText, held, limit_input}
+use Rattle.tracker_cli.specs.Texts.{csv_line, load_line}
 
 -- a desk was opened, and no call was made: the keeper has the rows of the state where the desk began
 abbrev pub Stands : {P : Type 0} → (P → Rows → Type 0) → (P → Type 0) → (P → ℕ) → List ℕ → P → P → Type 0
@@ -111,6 +112,53 @@ pub record ImportedEnd
   pub record_is : status ≡ 8 → IfSome left (λ bytes. GrewBy old new (IsRecordText Made bytes))
   pub statuses : (status ≤ 8) × (status ≢ 1)
 
+-- ---- generate
+
+-- it had no row, so far as it tells them
+abbrev pub HadNoRow : {P : Type 0} → (P → Rows → Type 0) → (P → Type 0) → P → P → Type 0
+HadNoRow keeps tells old new = (rows : Rows) → keeps old rows → tells new → HasNoRow rows
+
+-- the text tells what the load of that many issues comes to in a new tracker of this setup; and the keeper, which had no row, has the
+-- rows of the tracker behind it
+pub record IsGenerated {P : Type 0} (keeps : P → Rows → Type 0) (tells : P → Type 0) (faults : P → ℕ) (setup_text : List ℕ) (old new : P) (n : ℕ) (text : List ℕ) : Type 0 where
+  pub start : Machine
+  pub begins : IsNew setup_text start
+  pub text_is : text ≡ load_line (load_summary n start)
+  pub none : HadNoRow keeps tells old new
+  pub kept : HasRowsOf keeps tells faults old new (loaded n start) 0
+
+-- the first calls of that load were made in a new tracker, and no other one; and the keeper, which had no row, has the rows of the
+-- tracker behind them
+pub record IsBegun {P : Type 0} (keeps : P → Rows → Type 0) (tells : P → Type 0) (faults : P → ℕ) (setup_text : List ℕ) (old new : P) (n failures : ℕ) : Type 0 where
+  pub start : Machine
+  pub begins : IsNew setup_text start
+  pub done : List Call
+  pub rest : List Call
+  pub calls_are : load_calls n ≡ done ++ rest
+  pub none : HadNoRow keeps tells old new
+  pub kept : HasRowsOf keeps tells faults old new (end_of start done) failures
+
+-- a write failed on the text of a load, or on that on a row, which `Held` says that the keeper has
+abbrev pub IsUnwrittenLoad : (List ℕ → Type 0) → Type 0 → Type 0 → Option (List ℕ) → Option (List ℕ) → Type 0
+IsUnwrittenLoad Generated Same Held old new = GrewByFront old new Generated ⊎ (GrewByFront old new (λ due. due ≡ held) × Held × Same)
+
+-- what comes of `generate`, where `Generated` says which text tells what the load comes to, `Begun` that its first calls were made and
+-- that the keeper failed so often, `Same` that the keeper has the rows that it had, and `Held` that it has some
+pub record GeneratedEnd
+    (Generated : List ℕ → Type 0) (Begun : ℕ → Type 0) (Same Held : Type 0) (status : ℕ) (left after old new : Option (List ℕ)) : Type 0 where
+  -- all calls were made, and what they come to was written
+  pub done : status ≡ 0 → GrewBy old new Generated
+  pub written : status ≡ 3 → IsUnwrittenLoad Generated Same Held old new
+  -- the keeper failed, at a call or before any, and nothing was written
+  pub unkept : status ≡ 4 → (new ≡ old) × (Begun 1 ⊎ Same)
+  -- want of memory, on the way or before any call, and nothing was written
+  pub memory : status ≡ 6 → (new ≡ old) × (Begun 0 ⊎ Same)
+  -- the keeper has a row
+  pub held_is : status ≡ 9 → Appends old new held × Held × Same
+  -- the input isn't read
+  pub unread : after ≡ left
+  pub statuses : (status ≡ 0) ⊎ (status ≡ 3) ⊎ (status ≡ 4) ⊎ (status ≡ 6) ⊎ (status ≡ 9)
+
 -- ---- on the way
 
 -- the keeper that a desk hands back has the rows of this state, if the desk's had its own, and its count rose by so many failures
@@ -128,3 +176,10 @@ AreMadeFrom keeps tells faults old new user calls text =
 abbrev pub AreCutFrom : {P : Type 0} → (P → Rows → Type 0) → (P → Type 0) → (P → ℕ) → DeskParts P → P → List ℕ → List Call → List ℕ → Type 0
 AreCutFrom keeps tells faults old new user calls text =
     (last : Machine) × (failures : ℕ) × AreCutCalls user old.machine calls text last failures × HandsBack keeps tells faults old new last failures
+
+-- the first calls of a load were made by a desk, and its keeper handed back
+pub record IsBegunFrom {P : Type 0} (keeps : P → Rows → Type 0) (tells : P → Type 0) (faults : P → ℕ) (old : DeskParts P) (new : P) (n failures : ℕ) : Type 0 where
+  pub done : List Call
+  pub rest : List Call
+  pub calls_are : load_calls n ≡ done ++ rest
+  pub back : HandsBack keeps tells faults old new (end_of old.machine done) failures

@@ -5,3 +5,4 @@ pub mod Outcome
 pub mod Serving
 pub mod Store
 pub mod Texts
+pub mod Words

@@ -16,6 +16,7 @@ use Rattle.tracker_machine.specs.Kept.{rows_of}
 use Rattle.tracker_machine.specs.Run.{IsRun, IsCutRun, requests}
 use Rattle.tracker_core.specs.Desk.{HasNoRow, HasRow, IsOpened}
 use Rattle.tracker_cli.specs.Answering.{RoseBy}
+use Rattle.tracker_cli.specs.Numerals.{IsNumberOf}
 use Rattle.tracker_cli.specs.Texts.{kept_line, setup_line}
 
 -- ---- the words
@@ -48,14 +49,21 @@ IsImport words user = (words ≡ codes "import" ∷ user ∷ []) × IsTrue (is_p
 abbrev pub IsImportOfSome : List (List ℕ) → Type 0
 IsImportOfSome words = (user : List ℕ) × IsImport words user
 
+-- the words are `generate` and this number of issues
+abbrev pub IsGenerate : List (List ℕ) → ℕ → Type 0
+IsGenerate words n = (word : List ℕ) × (words ≡ codes "generate" ∷ word ∷ []) × IsNumberOf 1 20_000 word n
+
+abbrev pub IsGenerateOfSome : List (List ℕ) → Type 0
+IsGenerateOfSome words = (n : ℕ) × IsGenerate words n
+
 -- the words are a command's
 abbrev pub IsCommand : List (List ℕ) → Type 0
-IsCommand words = IsOfLines words ⊎ IsInit words ⊎ IsExport words ⊎ IsImportOfSome words
+IsCommand words = IsOfLines words ⊎ IsInit words ⊎ IsExport words ⊎ IsImportOfSome words ⊎ IsGenerateOfSome words
 
 -- ---- texts
 
 abbrev pub usage : List ℕ
-usage = codes "usage: exec, check, init, import USER, export\n"
+usage = codes "usage: exec, check, init, import USER, export, generate N\n"
 
 abbrev pub held : List ℕ
 held = codes "held\n"
@@ -171,11 +179,13 @@ EndsRun Replies Cut bytes left old new ManyLines = (done : List (List ℕ)) × S
 
 -- ---- by status
 
--- what comes of words that are no command's: their text was written, or a front of it where the sink failed
+-- what comes of words that are no command's: their text was written, or a front of it where the sink failed, or there was no memory
+-- to read them
 pub record UsageEnd (status : ℕ) (old new : Option (List ℕ)) : Type 0 where
   pub told : status ≡ 1 → Appends old new usage
   pub written : status ≡ 3 → GrewByFront old new (λ due. due ≡ usage)
-  pub statuses : (status ≡ 1) ⊎ (status ≡ 3)
+  pub memory : status ≡ 6 → new ≡ old
+  pub statuses : (status ≡ 1) ⊎ (status ≡ 3) ⊎ (status ≡ 6)
 
 -- a bad row is told
 abbrev pub IsKeptText : (ℕ → ℕ → Type 0) → List ℕ → Type 0

@@ -11,6 +11,7 @@ ghost use Rattle.tracker_core.specs.Desk.{HasNoRow};
 ghost use Rattle.tracker_cli.specs.Texts.{setup_line};
 ghost use Rattle.tracker_cli.specs.Outcome.{held, limit_input, setup_limit, GrewBy, GrewByFront, HasItsRows, HasSomeRow, IsCreated, IsSetupText, IsInitText};
 
+use crate::held::tell_held;
 use crate::texts::setup_line;
 use fields::{Setup, SetupFault};
 use std::alloc::Global;
@@ -103,10 +104,7 @@ fn create<T: Sink, P: Keeper + Drop>(alloc: Global, setup: Setup, out: &mut T, k
         Ok(desk) => (0, desk.close()),
         Err((OpenFault::Keeper, keeper)) => (4, keeper),
         Err((OpenFault::Memory, keeper)) => (6, keeper),
-        Err((OpenFault::Held, keeper)) => match write_all(out, b"held\n") {
-            Ok(()) => (9, keeper),
-            Err(Failed) => (3, keeper),
-        },
+        Err((OpenFault::Held, keeper)) => (tell_held(out), keeper),
         Err((OpenFault::BadRow { .. }, _keeper)) => unreachable!(),
     }
 }

@@ -7,6 +7,8 @@ mod check;
 mod command;
 mod exec;
 mod export;
+mod generate;
+mod held;
 mod import;
 mod init;
 mod lines;
@@ -15,6 +17,7 @@ mod number;
 mod serving;
 mod store;
 mod texts;
+mod words;
 
 pub use adapters::{Reading, Writing};
 pub use check::Checks;

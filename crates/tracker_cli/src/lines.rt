@@ -1,14 +1,13 @@
 // The commands that answer line after line.
-ghost use Rattle.std.specs.Prelude.{◌≡◌, ◌≢◌, ◌∷◌, [], ◌⊎◌, List, ℕ, Some, ◌≤◌, ◌<◌, map, string_bytes, IfSome, IfOk, IfErr};
+ghost use Rattle.std.specs.Prelude.{◌≡◌, ◌≢◌, ◌∷◌, [], ◌⊎◌, ◌↔◌, List, ℕ, Some, ◌≤◌, ◌<◌, map, string_bytes, IfSome, IfOk, IfErr, IsTrue};
 ghost use Rattle.std.specs.Io.KnownBytes.{Appends, Consumes, IsAtEnd};
 ghost use Rattle.request_lines.specs.Causes.{Rose};
 ghost use Rattle.request_lines.specs.Lines.{lines, whole_lines, AreWithinLimits};
 ghost use Rattle.tracker_core.specs.Desk.{HasBadRow, IsOpenFault};
-ghost use Rattle.tracker_cli.specs.Outcome.{IsExec, IsOfLines, AreReplies, AreCutReplies, AreChecked, AreCutChecks, AreRepliesOf, AreCutRepliesOf, BeginsIn, HasRowsOf, HasItsRows, GrewBy, GrewByFront, IsKeptText, IsLimitText, IsCutLimitText, EndsRun};
+ghost use Rattle.tracker_cli.specs.Outcome.{IsExec, IsCheck, IsOfLines, AreReplies, AreCutReplies, AreChecked, AreCutChecks, AreRepliesOf, AreCutRepliesOf, BeginsIn, HasRowsOf, HasItsRows, GrewBy, GrewByFront, IsKeptText, IsLimitText, IsCutLimitText, EndsRun};
 
 use crate::bad_row::tell_row;
 use crate::check::Checks;
-use crate::command::is_check;
 use crate::exec::RequestLines;
 use fields::{BUILT_IN, Steps};
 use request_lines::{End, answer_lines};
@@ -19,15 +18,17 @@ use tracker_calls::{Failed, Sink, Source, write_all};
 use tracker_core::{Desk, OpenFault};
 use tracker_keeper::Keeper;
 
-/// Has the lines of the input answered by the words' command, answers the status and hands the keeper back.
+/// Has the lines of the input answered by the words' command, which is `check` or `exec`, answers the status and hands the keeper back.
 pub(crate) fn run_lines<S: Source, T: Sink, P: Keeper + Drop>(
     alloc: Global,
     words: &[String],
+    is_check: bool,
     input: &mut S,
     out: &mut T,
     keeper: P,
 ) -> (u8, P)
-    requires { IsOfLines (map string_bytes words.now) }
+    requires command { IsOfLines (map string_bytes words.now) }
+    requires check { IsTrue is_check ↔ IsCheck (map string_bytes words.now) }
     ensures done { result.0 ≡ 0 → IfSome (S.left input.old) (λ bytes. IsAtEnd (S.left input.new) × AreWithinLimits (lines bytes)
         × GrewBy (T.taken out.old) (T.taken out.new) (AreRepliesOf (BeginsIn P.keeps P.tells BUILT_IN.now keeper result.1)
         (HasRowsOf P.keeps P.tells P.faults keeper result.1) (map string_bytes words.now) (lines bytes))) }
@@ -60,7 +61,7 @@ pub(crate) fn run_lines<S: Source, T: Sink, P: Keeper + Drop>(
     ensures write_later { T.faults out.old ≤ T.faults out.new }
     ensures statuses { (result.0 ≤ 7) × (result.0 ≢ 1) }
 {
-    match carry_out::<Brand, S, T, P>(alloc, words, input, out, keeper, Blank::new(1)) {
+    match carry_out::<Brand, S, T, P>(alloc, words, is_check, input, out, keeper, Blank::new(1)) {
         Ok((End::Done, keeper)) => (0, keeper),
         Ok((End::ReadFault, keeper)) => (2, keeper),
         Ok((End::WriteFault, keeper)) => (3, keeper),
@@ -84,12 +85,14 @@ pub(crate) fn run_lines<S: Source, T: Sink, P: Keeper + Drop>(
 fn carry_out<L: Ledger, S: Source, T: Sink, P: Keeper + Drop>(
     alloc: Global,
     words: &[String],
+    is_check: bool,
     input: &mut S,
     out: &mut T,
     keeper: P,
     blank: Blank,
 ) -> Result<(End, P), (OpenFault, P)>
     requires command { IsOfLines (map string_bytes words.now) }
+    requires check { IsTrue is_check ↔ IsCheck (map string_bytes words.now) }
     requires name { blank.name ≡ L.name }
     requires parts { blank.parts ≡ L.parts }
     requires some { 0 < L.parts }
@@ -109,7 +112,7 @@ fn carry_out<L: Ledger, S: Source, T: Sink, P: Keeper + Drop>(
     ensures read_later { S.faults input.old ≤ S.faults input.new }
     ensures write_later { T.faults out.old ≤ T.faults out.new }
 {
-    if is_check(words) {
+    if is_check {
         let end = check(alloc, input, out);
         return Ok((end, keeper));
     }

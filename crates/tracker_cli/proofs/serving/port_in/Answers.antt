@@ -3,7 +3,7 @@ use Rattle.std.proofs.lemmas.Option.{IfSome_then}
 use Rattle.std.proofs.lemmas.Slice.Eq.{bytes_eq-Decides}
 use Rattle.tracker_cli.specs.Numerals.{IsPort}
 use Rattle.tracker_cli.specs.Serving.{IsServe}
-use Rattle.tracker_cli.proofs.Words.{two_words}
+use Rattle.tracker_cli.proofs.WordLists.{two_words}
 use Rattle.tracker_cli.proofs.serving.port_in.Goals as goal
 
 serves : (words : List (List ℕ)) (first second text : List ℕ) (port : ℕ) → words ≡ first ∷ second ∷ [] → first ≡ codes "serve" → text ≡ second
