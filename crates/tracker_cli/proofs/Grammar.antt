@@ -1,13 +1,13 @@
 -- What `clap` makes of the words of a command line.
-use Rattle.std.proofs.Common.{◌≡◌, ◌≢◌, ◌<◌, ◌≤◌, ◌==◌, ◌&&◌, ◌⊎◌, ℕ, List, [], ◌∷◌, ◌++◌, Bool, true, false, not, Option, Some, None, codes, decimal, get_or, refl, ◌∙◌, map, option_map, fold, sym, ap, ap₂, subst, inl, inr, append_assoc, append-nil, arith, rules}
-use Rattle.std.specs.Prelude.{IsTrue, IfSome, MatchOption}
+use Rattle.std.proofs.Common.{◌≡◌, ◌≢◌, ◌<◌, ◌==◌, ◌&&◌, ℕ, List, [], ◌∷◌, ◌++◌, Bool, true, false, not, Option, Some, None, codes, decimal, get_or, refl, ◌∙◌, option_map, fold, sym, ap, ap₂, subst, inl, inr, append_assoc, append-nil, arith}
+use Rattle.std.specs.Prelude.{IfSome}
 use Rattle.std.specs.Str.{bytes_eq}
 use Rattle.std.specs.List.{list_all}
 use Rattle.std.proofs.lemmas.Bool.{cases_Bool}
 use Rattle.std.proofs.lemmas.Fmt.{first_decimal}
 use Rattle.std.proofs.lemmas.Option.{same_Some}
 use Rattle.std.proofs.lemmas.Slice.Eq.{bytes_eq-Decides}
-use Rattle.clap.specs.Words.{App, Row, Rule, Text, app_of, first_of, is_simple, subcommand_of}
+use Rattle.clap.specs.Words.{App, Row, Rule, Text, first_of, is_simple, subcommand_of}
 use Rattle.clap.specs.Lexer.{strip_byte}
 use Rattle.clap.specs.Walk.{Names, Walk, nothing_held, walk_from, walked}
 use Rattle.clap.specs.Matches.{subcommand_name_of}
@@ -22,7 +22,7 @@ use Rattle.clap.specs.declared.parser.matches.ArgMatches.{ArgMatches}
 use Rattle.clap.proofs.FaultLemmas.{stopped_fault}
 use Rattle.clap.proofs.OnLiterals.{clap_on_literals}
 use Rattle.tracker_cli.specs.Numerals.{IsNumberOf}
-use Rattle.tracker_cli.specs.Outcome.{IsExec, IsCheck, IsInit, IsExport, IsImport, IsGenerate, IsOfLines, IsCommand, is_plain}
+use Rattle.tracker_cli.specs.Outcome.{IsCommand, is_plain}
 use Rattle.tracker_cli.specs.Words.{grammar, words_of}
 
 pub is_free : is_simple_and_free grammar ≡ true

@@ -1,9 +1,9 @@
 // The words of a command line, which `clap` reads by a grammar.
 ghost use Rattle.std.specs.Prelude.{◌≡◌, ◌∷◌, [], map, option_map, string_bytes, IfOk, IfSome, IsTrue, MatchOption};
 ghost use Rattle.std.specs.List.{list_all};
-ghost use Rattle.clap.specs.Words.{app_of};
+ghost use Rattle.clap.specs.Words.{app_of, new_app};
 ghost use Rattle.tracker_cli.specs.Outcome.{IsCommand, is_plain};
-ghost use Rattle.tracker_cli.specs.Words.{Asks, grammar, words_of};
+ghost use Rattle.tracker_cli.specs.Words.{Asks, grammar, taking_one, top, with_one, words_of};
 
 use crate::number::number_in;
 use clap::error::ErrorKind;
@@ -74,34 +74,56 @@ fn is_plain(word: &str) -> bool
 
 // ---- the grammar
 
-// All words are the program's, one of them has to be a command's, and there is no help.
 fn grammar<'a>(alloc: Global) -> Result<clap::Command<'a>, AllocError>
     ensures { IfOk result (λ c. app_of c ≡ grammar) }
 {
-    let user = Arg::new(alloc, "operand")
-        .required(true)
-        .action(ArgAction::Set);
-    let number = Arg::new(alloc, "operand")
-        .required(true)
-        .action(ArgAction::Set);
-    let import = clap::Command::new(alloc, "import").arg(user)?;
-    let generate = clap::Command::new(alloc, "generate").arg(number)?;
-    let exec = clap::Command::new(alloc, "exec");
-    let check = clap::Command::new(alloc, "check");
-    let init = clap::Command::new(alloc, "init");
-    let export = clap::Command::new(alloc, "export");
-    let top = clap::Command::new(alloc, "tracker")
+    let one = with_plain(alloc, top(alloc), "exec")?;
+    let two = with_plain(alloc, one, "check")?;
+    let three = with_plain(alloc, two, "init")?;
+    let four = with_operand(alloc, three, "import")?;
+    let five = with_plain(alloc, four, "export")?;
+    let six = with_operand(alloc, five, "generate")?;
+    Ok(six)
+}
+
+// All words are the program's, one of them has to be a command's, and there is no help.
+fn top<'a>(alloc: Global) -> clap::Command<'a>
+    ensures { app_of result ≡ top }
+{
+    clap::Command::new(alloc, "tracker")
         .no_binary_name(true)
         .disable_help_flag(true)
         .disable_help_subcommand(true)
-        .subcommand_required(true);
-    let one = top.subcommand(exec)?;
-    let two = one.subcommand(check)?;
-    let three = two.subcommand(init)?;
-    let four = three.subcommand(import)?;
-    let five = four.subcommand(export)?;
-    let six = five.subcommand(generate)?;
-    Ok(six)
+        .subcommand_required(true)
+}
+
+// With a command of that name, behind which no word comes.
+fn with_plain<'a>(
+    alloc: Global,
+    all: clap::Command<'a>,
+    name: &'a str,
+) -> Result<clap::Command<'a>, AllocError>
+    ensures { IfOk result (λ c. app_of c ≡ with_one (app_of all.entry) (new_app name.now)) }
+{
+    let one = clap::Command::new(alloc, name);
+    let both = all.subcommand(one)?;
+    Ok(both)
+}
+
+// With a command of that name, behind which one word has to come.
+fn with_operand<'a>(
+    alloc: Global,
+    all: clap::Command<'a>,
+    name: &'a str,
+) -> Result<clap::Command<'a>, AllocError>
+    ensures { IfOk result (λ c. app_of c ≡ with_one (app_of all.entry) (taking_one name.now)) }
+{
+    let operand = Arg::new(alloc, "operand")
+        .required(true)
+        .action(ArgAction::Set);
+    let one = clap::Command::new(alloc, name).arg(operand)?;
+    let both = all.subcommand(one)?;
+    Ok(both)
 }
 
 // ---- names

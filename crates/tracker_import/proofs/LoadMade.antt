@@ -1,6 +1,5 @@
 -- A load, call by call, and what it comes to.
-use Rattle.std.proofs.Common.{◌≡◌, ◌+◌, ◌≤◌, ◌<◌, ℕ, Bool, true, false, List, [], ◌∷◌, ◌++◌, length, Option, Some, None, Result, Ok, Err, if◌then◌else◌, refl, sym, ap, ◌∙◌, subst, append_assoc, append-nil, arith}
-use Rattle.std.specs.List.{fold}
+use Rattle.std.proofs.Common.{◌≡◌, ◌+◌, ◌≤◌, ◌<◌, ℕ, Bool, true, List, [], ◌∷◌, ◌++◌, length, if◌then◌else◌, refl, sym, ap, ◌∙◌, subst, append_assoc, append-nil, arith}
 use Rattle.std.proofs.lemmas.List.{length-append}
 use Rattle.tracker_calls.specs.declared.call.Call.{Call}
 use Rattle.tracker_calls.specs.declared.reply.Reply.{Reply}
@@ -10,13 +9,12 @@ use Rattle.tracker_calls.specs.declared.reply.Refusal.TheVariants as refusal
 use Rattle.tracker_keeper.specs.Rows.{Rows}
 use Rattle.tracker_machine.specs.Machine.{Machine}
 use Rattle.tracker_machine.specs.Kept.{rows_of}
-use Rattle.tracker_machine.specs.Meaning.{Meaning, reply_to, next_after, IsDue, Performs}
+use Rattle.tracker_machine.specs.Meaning.{reply_to, next_after, IsDue, Performs}
 use Rattle.tracker_machine.specs.Meaning.Meaning.{Refuses}
 use Rattle.tracker_machine.specs.Step.{meaning, reply_of, next_of, IsStep}
 use Rattle.tracker_core.specs.Desk.{DeskParts, IsOwed}
 use Rattle.tracker_import.specs.Calls.{RoseBy, HasKept}
 use Rattle.tracker_import.specs.Load.{loader, end_of, is_refused, refused_at, refused_in, load_calls, loaded, load_summary, summary_of, outcome_of, HasMade, HasMadeFront, HasMadeLoad, IsMadeInLoad, IsLeftInLoad, MakesInLoad}
-use Rattle.tracker_import.specs.Stages.{HandsOut}
 use Rattle.tracker_import.specs.declared.load.LoadSummary.{LoadSummary}
 use Rattle.tracker_import.specs.declared.load.Tally.{Tally}
 use Rattle.tracker_import.proofs.Calls.{kept_same, kept_on}

@@ -1,5 +1,5 @@
 -- How many issues a filter shows its owner, by the filters that a state keeps.
-use Rattle.std.proofs.Common.{◌≡◌, ℕ, List, length, map, Option, Some, None, option_map, sym, ap, ◌∙◌}
+use Rattle.std.proofs.Common.{◌≡◌, ℕ, List, length, Option, Some, None, option_map, sym, ap, ◌∙◌}
 use Rattle.std.specs.Option.{option_map_or}
 use Rattle.change_history.specs.History.{History}
 use Rattle.field_values.specs.declared.numbers.FilterNo.{FilterNo}

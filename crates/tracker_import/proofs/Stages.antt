@@ -1,13 +1,12 @@
 -- From one stage of a load to the next, and how many calls it has.
-use Rattle.std.proofs.Common.{◌≡◌, ◌+◌, ◌-◌, ◌*◌, ◌/◌, ◌≤◌, ◌<◌, ℕ, suc, Bool, true, false, List, [], ◌∷◌, ◌++◌, length, map, Option, Some, None, if◌then◌else◌, refl, sym, ap, ◌∙◌, arith}
-use Rattle.std.specs.Prelude.{sum_by}
+use Rattle.std.proofs.Common.{◌≡◌, ◌+◌, ◌-◌, ◌*◌, ◌/◌, ◌≤◌, ◌<◌, ℕ, suc, Bool, true, false, List, [], ◌∷◌, ◌++◌, length, map, Some, if◌then◌else◌, refl, sym, ap, ◌∙◌, arith}
 use Rattle.std.specs.List.{flat_map, range_with_len}
 use Rattle.std.proofs.lemmas.List.{length-append, length-map}
 use Rattle.std.proofs.lemmas.List.FromFn.{length-range_with_len}
 use Rattle.tracker_calls.specs.declared.call.Call.{Call}
 use Rattle.tracker_calls.specs.declared.call.Call.TheVariants as call
-use Rattle.tracker_import.specs.Load.{numbers, multiples, create, created, into_sprint, start, finish, finished, is_finished, move_up, worked_on, make_sprint, step, steps_for, load_calls}
-use Rattle.tracker_import.specs.Stages.{behind_creates, behind_edits, behind_moves, behind_sprint, behind_steps, behind_work, calls_left, next_call, with_first}
+use Rattle.tracker_import.specs.Load.{numbers, multiples, create, created, into_sprint, start, finish, is_finished, move_up, worked_on, make_sprint, step, steps_for, load_calls}
+use Rattle.tracker_import.specs.Stages.{behind_creates, behind_edits, behind_moves, behind_steps, behind_work, calls_left, next_call, with_first}
 use Rattle.tracker_import.specs.declared.load_calls.Stage.{Stage}
 use Rattle.tracker_import.specs.declared.load_calls.Stage.TheVariants as stage
 

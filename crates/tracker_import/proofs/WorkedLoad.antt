@@ -1,8 +1,7 @@
 -- The number of calls of some loads, and the calls of a small one.
-use Rattle.std.proofs.Common.{◌≡◌, ℕ, List, [], ◌∷◌, length, refl}
-use Rattle.tracker_calls.specs.declared.call.Call.{Call}
+use Rattle.std.proofs.Common.{◌≡◌, [], ◌∷◌, length, refl}
 use Rattle.tracker_calls.specs.declared.call.Call.TheVariants as call
-use Rattle.tracker_import.specs.Load.{create, finish, into_sprint, last_tick, load_calls, make_sprint, move_up, save_filter, start, start_sprint, step}
+use Rattle.tracker_import.specs.Load.{create, finish, into_sprint, load_calls, make_sprint, move_up, save_filter, start, start_sprint, step}
 
 pub calls_of_four : length (load_calls 4) ≡ 20
 calls_of_four = refl
