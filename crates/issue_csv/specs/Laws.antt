@@ -38,4 +38,5 @@ CallsAreOfRecords = (records : List (List (List ℕ))) → AreCalls records (bat
 
 -- and these are all records that csv reads from the input
 abbrev pub RecordsAreAll : Type 0
-RecordsAreAll = (bytes : List ℕ) → AreRecords default_config st.StartRecord (strip_bom bytes) (records_of bytes)
+RecordsAreAll =
+    (bytes : List ℕ) → AreRecords default_config st.StartRecord (strip_bom bytes) (records_of bytes)

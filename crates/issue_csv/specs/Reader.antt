@@ -115,7 +115,8 @@ phase_after next.Fails = phase.Failed
 -- is to come and no record is bad
 abbrev pub HandsOut : Option Batch → Option Call → Option Batch → Type 0
 HandsOut old None new = (old ≡ Some all_done) × (new ≡ old)
-HandsOut old (Some call) new = (rest : Batch) × (old ≡ Some (with_call call rest)) × (new ≡ Some rest)
+HandsOut old (Some call) new =
+    (rest : Batch) × (old ≡ Some (with_call call rest)) × (new ≡ Some rest)
 
 -- a record is told as bad exactly where no call is to come before it; once memory lacked the reader has failed for good
 abbrev pub TellsFault : Option Batch → ImportFault → Option Batch → Type 0

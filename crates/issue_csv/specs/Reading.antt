@@ -84,7 +84,8 @@ with_call call batch = record { calls = call ∷ batch.calls; bad = batch.bad }
 unfoldable pub batch_from : ℕ → List (List (List ℕ)) → Batch
 batch_from number [] = all_done
 batch_from number (fields ∷ rest) =
-    if is_good fields then with_call (call_of fields) (batch_from (number + 1) rest) else bad_at number
+    if is_good fields then with_call (call_of fields) (batch_from (number + 1) rest)
+    else bad_at number
 
 -- of all records; where the header isn't there or another, it is record 0 that is bad
 abbrev pub batch_of : List (List (List ℕ)) → Batch

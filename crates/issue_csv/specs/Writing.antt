@@ -15,14 +15,16 @@ use Rattle.change_history.specs.History.{History, present}
 -- the columns
 abbrev pub export_header : List (List ℕ)
 export_header =
-    codes "key" ∷ codes "external" ∷ codes "project" ∷ codes "type" ∷ codes "summary" ∷ codes "status"
+    codes "key" ∷ codes "external" ∷ codes "project" ∷ codes "type" ∷ codes "summary"
+    ∷ codes "status"
     ∷ codes "assignee" ∷ codes "reporter" ∷ codes "priority" ∷ codes "resolution" ∷ codes "points"
     ∷ codes "due" ∷ []
 
 -- the columns from the fourth on are those of these fields
 abbrev pub exported_fields : List FieldNo
 exported_fields =
-    number.TYPE ∷ number.SUMMARY ∷ number.STATUS ∷ number.ASSIGNEE ∷ number.REPORTER ∷ number.PRIORITY
+    number.TYPE ∷ number.SUMMARY ∷ number.STATUS ∷ number.ASSIGNEE ∷ number.REPORTER
+    ∷ number.PRIORITY
     ∷ number.RESOLUTION ∷ number.POINTS ∷ number.DUE ∷ []
 
 -- what stands in the column of a field for a value: a text itself, a choice or a user by name as the setup spells it, a number by
@@ -48,7 +50,8 @@ project_of key = before_first (λ byte. byte == 45) key
 
 -- the fields of an issue's record, where this text stands for its external id
 abbrev pub columns_of : Names → History → List ℕ → List (List ℕ)
-columns_of names h external = h.key ∷ external ∷ project_of h.key ∷ map (column_of names h) exported_fields
+columns_of names h external =
+    h.key ∷ external ∷ project_of h.key ∷ map (column_of names h) exported_fields
 
 -- the text of a record: in quotes only where needed, and a line feed alone at its end
 abbrev pub record_text : List (List ℕ) → List ℕ
@@ -63,4 +66,5 @@ issue_text names h external = record_text (columns_of names h (unwrap_or externa
 
 -- each field holds nothing or a value that fits it
 abbrev pub HoldsFitting : Names → History → Type 0
-HoldsFitting names h = (f : FieldNo) → (present h f ≡ value.Empty) ⊎ (fits names f.0 (present h f) ≡ true)
+HoldsFitting names h =
+    (f : FieldNo) → (present h f ≡ value.Empty) ⊎ (fits names f.0 (present h f) ≡ true)

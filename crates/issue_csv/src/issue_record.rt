@@ -57,7 +57,8 @@ pub fn write_issue(
 ) -> Result<(), Memory>
     requires { HoldsFitting (names setup.now) issue.now.history }
     ensures ok { OnOk result (out.new.items ≡ out.old.items
-        ++ issue_text (names setup.now) issue.now.history (option_map (λ id. id.now) external.entry)) }
+        ++ issue_text (names setup.now) issue.now.history
+        (option_map (λ id. id.now) external.entry)) }
     ensures err { OnErr result (out.new.items ≡ out.old.items) }
 {
     let columns = columns_of(alloc, setup, issue, external.unwrap_or(""))?;

@@ -69,7 +69,8 @@ history_of path pairs user =
 abbrev pub search_of : List Pair → List ℕ → Asked
 search_of pairs user =
     need (text_in (codes "jql") pairs) (codes "jql") (λ jql.
-    with_part (part_in 1000 (codes "jql" ∷ part_names) pairs) (λ part. Ok (user, call.Search jql part)))
+    with_part (part_in 1000 (codes "jql" ∷ part_names) pairs) (λ part.
+    Ok (user, call.Search jql part)))
 
 -- of a filter and a board the issues, of a sprint the changes of what it has left: by the number in the path
 

@@ -31,17 +31,20 @@ is_named name field = str_eq_ignore_ascii_case field.0 name
 -- how many fields have that name
 abbrev pub count_named : List ℕ → Fields → ℕ
 count_named name [] = 0
-count_named name (field ∷ fields) = if is_named name field then count_named name fields + 1 else count_named name fields
+count_named name (field ∷ fields) =
+    if is_named name field then count_named name fields + 1 else count_named name fields
 
 -- the value of the first field of that name
 abbrev pub value_named : List ℕ → Fields → Option (List ℕ)
 value_named name [] = None
-value_named name (field ∷ fields) = if is_named name field then Some field.1 else value_named name fields
+value_named name (field ∷ fields) =
+    if is_named name field then Some field.1 else value_named name fields
 
 -- white space, the word close in any case, and white space
 unfoldable pub is_close : List ℕ → Bool
 is_close piece =
-    nat_le 5 (length (skip_ows piece)) && str_eq_ignore_ascii_case (take 5 (skip_ows piece)) (codes "close")
+    nat_le 5 (length (skip_ows piece))
+    && str_eq_ignore_ascii_case (take 5 (skip_ows piece)) (codes "close")
     && list_all is_ows (drop 5 (skip_ows piece))
 
 -- one token of a comma list is close

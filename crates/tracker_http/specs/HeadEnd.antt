@@ -20,7 +20,8 @@ fields_len (line ∷ lines) = with_line line (if is_empty_line line then Some 0 
 -- the same with the request line, before which empty lines may stand
 abbrev pub lines_len : List (List ℕ) → Option ℕ
 lines_len [] = None
-lines_len (line ∷ lines) = with_line line (if is_empty_line line then lines_len lines else fields_len lines)
+lines_len (line ∷ lines) =
+    with_line line (if is_empty_line line then lines_len lines else fields_len lines)
 
 -- how many bytes the whole head has with which these bytes begin, where they do
 unfoldable pub head_len : List ℕ → Option ℕ

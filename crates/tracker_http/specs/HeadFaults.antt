@@ -19,7 +19,13 @@ pub record Head : Type 0 where
 
 -- what a head of the grammar says
 abbrev pub head_of : RequestHead → Head
-head_of h = record { method = h.method; target = h.target; minor = h.minor; fields = map name_and_value h.fields }
+head_of h =
+    record {
+      method = h.method;
+      target = h.target;
+      minor = h.minor;
+      fields = map name_and_value h.fields;
+    }
 
 -- a request of HTTP/1.1 has exactly one Host
 abbrev pub lacks_host : ℕ → Fields → Bool
@@ -32,7 +38,8 @@ is_unreadable (Some value) = not (is_number value)
 -- no field that may stand once stands twice, and a length can be read
 abbrev pub has_bad_fields : ℕ → Fields → Bool
 has_bad_fields minor fields =
-    lacks_host minor fields || nat_lt 1 (count_named x_user fields) || nat_lt 1 (count_named content_length fields)
+    lacks_host minor fields || nat_lt 1 (count_named x_user fields)
+    || nat_lt 1 (count_named content_length fields)
     || is_unreadable (value_named content_length fields)
 
 -- the status by which the fields are refused, in this order
@@ -50,7 +57,8 @@ refused status allow = record { status = status; allow = allow }
 -- a path has a route, and the request has its method
 abbrev pub verb_fault : List ℕ → Option Verb → Option HeadFault
 verb_fault method None = Some (refused 404 None)
-verb_fault method (Some verb) = if bytes_eq method (verb_name verb) then None else Some (refused 405 (Some verb))
+verb_fault method (Some verb) =
+    if bytes_eq method (verb_name verb) then None else Some (refused 405 (Some verb))
 
 -- the path is looked at where nothing else is wrong
 abbrev pub fault_after : Option ℕ → List ℕ → List ℕ → Option HeadFault

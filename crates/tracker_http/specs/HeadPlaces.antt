@@ -5,10 +5,12 @@ use Rattle.tracker_http.specs.declared.head_end.HeadPlace.TheVariants.{Before, B
 
 -- where a byte leads, or None where it ends the head
 abbrev pub next_place : HeadPlace → ℕ → Option HeadPlace
-next_place Before byte = if byte == 10 then Some Before else (if byte == 13 then Some BeforeReturn else Some Inside)
+next_place Before byte =
+    if byte == 10 then Some Before else (if byte == 13 then Some BeforeReturn else Some Inside)
 next_place BeforeReturn byte = if byte == 10 then Some Before else Some Inside
 next_place Inside byte = if byte == 10 then Some Start else Some Inside
-next_place Start byte = if byte == 10 then None else (if byte == 13 then Some StartReturn else Some Inside)
+next_place Start byte =
+    if byte == 10 then None else (if byte == 13 then Some StartReturn else Some Inside)
 next_place StartReturn byte = if byte == 10 then None else Some Inside
 
 -- one byte, and what the head has after it

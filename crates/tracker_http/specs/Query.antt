@@ -49,7 +49,8 @@ from_in pairs = option_and_then (number_or 0 0 2_000_000) (once (values_of (code
 
 -- how many are told at most: as many as may be, where the member isn't there
 abbrev pub count_in : ℕ → List Pair → Option ℕ
-count_in most pairs = option_and_then (number_or most 1 most) (once (values_of (codes "count") pairs))
+count_in most pairs =
+    option_and_then (number_or most 1 most) (once (values_of (codes "count") pairs))
 
 -- ---- the members that aren't the call's
 

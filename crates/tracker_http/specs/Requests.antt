@@ -54,7 +54,9 @@ pub record IsFaulty (bytes : List ℕ) (refusal : HeadFault) (is_head : Bool) : 
 
 -- why the bytes are refused
 abbrev pub IsRefused : List ℕ → HeadFault → Bool → Type 0
-IsRefused bytes refusal is_head = IsTooLong bytes refusal is_head ⊎ (IsNotGrammar bytes refusal is_head ⊎ IsFaulty bytes refusal is_head)
+IsRefused bytes refusal is_head =
+    IsTooLong bytes refusal is_head
+    ⊎ (IsNotGrammar bytes refusal is_head ⊎ IsFaulty bytes refusal is_head)
 
 -- not empty, and too few bytes for a whole head or for one to be missed
 pub record LacksHead (bytes : List ℕ) : Type 0 where
@@ -82,6 +84,7 @@ abbrev pub TakesNext : Option (List ℕ) → Option (List ℕ) → Next → Type
 TakesNext old new (next.Request r) = (bytes : List ℕ) × IsRequest bytes r × Consumes old new bytes
 TakesNext old new next.End = Consumes old new [] × IsAtEnd new
 TakesNext old new next.Cut = (bytes : List ℕ) × IsCut bytes × Consumes old new bytes × IsAtEnd new
-TakesNext old new (next.Refused status allow is_head) = (bytes : List ℕ) × IsRefused bytes (refused status allow) is_head × Consumes old new bytes
+TakesNext old new (next.Refused status allow is_head) =
+    (bytes : List ℕ) × IsRefused bytes (refused status allow) is_head × Consumes old new bytes
 TakesNext old new next.ReadFault = Consumes old new []
 TakesNext old new next.Memory = Consumes old new []

@@ -17,11 +17,13 @@ path_of target = before 63 target
 
 -- the path begins like that
 abbrev pub begins_with : List ℕ → List ℕ → Bool
-begins_with front path = nat_le (length front) (length path) && bytes_eq (take (length front) path) front
+begins_with front path =
+    nat_le (length front) (length path) && bytes_eq (take (length front) path) front
 
 -- a name of at least one byte without a slash, and then the back
 abbrev pub is_name_then : List ℕ → List ℕ → Bool
-is_name_then back rest = nat_lt 0 (length (before 47 rest)) && bytes_eq (drop (length (before 47 rest)) rest) back
+is_name_then back rest =
+    nat_lt 0 (length (before 47 rest)) && bytes_eq (drop (length (before 47 rest)) rest) back
 
 -- the front, a name, and the back
 unfoldable pub is_under : List ℕ → List ℕ → List ℕ → Bool

@@ -21,7 +21,8 @@ head_at bytes room spans = record {
 }
 
 -- all spans lie in the head
-pub record SpansAreWithin (bytes : List ℕ) (room : List HeaderSpan) (spans : RequestSpans) : Type 0 where
+pub record SpansAreWithin (bytes : List ℕ) (room : List HeaderSpan)
+    (spans : RequestSpans) : Type 0 where
   pub method : IsWithin (length bytes) spans.method
   pub path : IsWithin (length bytes) spans.path
   pub count : spans.headers ≤ length room

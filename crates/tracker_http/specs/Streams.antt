@@ -13,10 +13,12 @@ pub data Ending : Type 0 where
 abbrev pub EndsBy : List ℕ → Ending → Type 0
 EndsBy bytes at_end = bytes ≡ []
 EndsBy bytes inside = IsCut bytes
-EndsBy bytes (refuses refusal is_head) = (text : List ℕ) × (rest : List ℕ) × (bytes ≡ text ++ rest) × IsRefused text refusal is_head
+EndsBy bytes (refuses refusal is_head) =
+    (text : List ℕ) × (rest : List ℕ) × (bytes ≡ text ++ rest) × IsRefused text refusal is_head
 
 -- these requests stand in the bytes, one behind another, and that ends them
 abbrev pub AreRequests : List ℕ → List Request → Ending → Type 0
 AreRequests bytes [] ending = EndsBy bytes ending
 AreRequests bytes (r ∷ rs) ending =
-    (text : List ℕ) × (rest : List ℕ) × (bytes ≡ text ++ rest) × IsRequest text r × AreRequests rest rs ending
+    (text : List ℕ) × (rest : List ℕ) × (bytes ≡ text ++ rest) × IsRequest text r
+    × AreRequests rest rs ending

@@ -11,7 +11,8 @@ use Rattle.tracker_http.specs.declared.see.HeadSeen.{HeadSeen}
 use Rattle.tracker_http.specs.declared.see.HeadSeen.TheVariants as seen
 
 -- a whole head isn't refused, and its body has that length
-pub record IsTaken (bytes : List ℕ) (room : List HeaderSpan) (spans : RequestSpans) (size : ℕ) : Type 0 where
+pub record IsTaken (bytes : List ℕ) (room : List HeaderSpan) (spans : RequestSpans)
+    (size : ℕ) : Type 0 where
   pub whole : IsWholeHead bytes
   pub read : IsReadAt bytes room spans
   pub taken : fault_of (head_at bytes room spans) ≡ None

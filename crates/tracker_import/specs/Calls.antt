@@ -31,7 +31,8 @@ next_under keeper m caller c = m
 abbrev pub text_of_calls : Machine → List ℕ → List MarkedCall → List ℕ
 text_of_calls m caller [] = []
 text_of_calls m caller (x ∷ xs) =
-    reply_line (reply_under x.mark m caller x.call) ++ text_of_calls (next_under x.mark m caller x.call) caller xs
+    reply_line (reply_under x.mark m caller x.call)
+    ++ text_of_calls (next_under x.mark m caller x.call) caller xs
 
 abbrev pub end_of_calls : Machine → List ℕ → List MarkedCall → Machine
 end_of_calls m caller [] = m
@@ -42,7 +43,8 @@ failures_of [] = 0
 failures_of (x ∷ xs) = failures_at x.mark + failures_of xs
 
 -- these calls are answered by this text, and lead to this state, under some marks, so many of which are of a keeper that failed
-pub record AreMade (caller : List ℕ) (old : Machine) (calls : List Call) (text : List ℕ) (new : Machine) (failures : ℕ) : Type 0 where
+pub record AreMade (caller : List ℕ) (old : Machine) (calls : List Call) (text : List ℕ)
+    (new : Machine) (failures : ℕ) : Type 0 where
   pub marked : List MarkedCall
   pub calls_are : map (λ x. x.call) marked ≡ calls
   pub text_is : text ≡ text_of_calls old caller marked
@@ -54,11 +56,13 @@ abbrev pub IsFrontOfCall : List ℕ → Machine → List Call → List ℕ → M
 IsFrontOfCall caller m rest front new failures =
     ((front ≡ []) × (new ≡ m) × (failures ≡ 0))
     ⊎ ((c : Call) × (more : List Call) × (mark : Mark) × (back : List ℕ) × (rest ≡ c ∷ more)
-    × (reply_line (reply_under mark m caller c) ≡ front ++ back) × (new ≡ next_under mark m caller c) × (failures ≡ failures_at mark))
+    × (reply_line (reply_under mark m caller c) ≡ front ++ back)
+    × (new ≡ next_under mark m caller c) × (failures ≡ failures_at mark))
 
 -- the first of these calls have their whole replies, and at most the next one was made too and has a front of its reply; this
 -- is the state after them
-pub record AreCutCalls (caller : List ℕ) (old : Machine) (all : List Call) (text : List ℕ) (new : Machine) (failures : ℕ) : Type 0 where
+pub record AreCutCalls (caller : List ℕ) (old : Machine) (all : List Call) (text : List ℕ)
+    (new : Machine) (failures : ℕ) : Type 0 where
   pub done : List Call
   pub rest : List Call
   pub all_is : all ≡ done ++ rest
@@ -79,7 +83,8 @@ abbrev pub RoseBy : ℕ → ℕ → ℕ → Type 0
 RoseBy before now n = min (before + n) (2 ^ 64 - 1) ≤ now
 
 -- the keeper has the tracker's rows, if it had them before, and its count rose by so many failures
-pub record HasKept {P : Type 0} (keeps : P → Rows → Type 0) (tells : P → Type 0) (faults : P → ℕ) (old new : DeskParts P) (failures : ℕ) : Type 0 where
+pub record HasKept {P : Type 0} (keeps : P → Rows → Type 0) (tells : P → Type 0)
+    (faults : P → ℕ) (old new : DeskParts P) (failures : ℕ) : Type 0 where
   pub rows : keeps old.keeper (rows_of old.machine) → keeps new.keeper (rows_of new.machine)
   pub told : tells new.keeper → tells old.keeper
   pub counted : RoseBy (faults old.keeper) (faults new.keeper) failures

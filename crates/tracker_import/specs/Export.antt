@@ -19,7 +19,8 @@ external_at ids number = option_map (λ e. e.id) (by_number external_number numb
 -- a record of each of these issues, where these are the external ids
 abbrev pub issues_text : Names → List ExternalId → List History → List ℕ
 issues_text names ids [] = []
-issues_text names ids (h ∷ hs) = issue_text names h (external_at ids h.no.0) ++ issues_text names ids hs
+issues_text names ids (h ∷ hs) =
+    issue_text names h (external_at ids h.no.0) ++ issues_text names ids hs
 
 -- the header, and a record of each issue by number
 unfoldable pub export_text : Machine → List ℕ
@@ -41,6 +42,8 @@ EndsExport text taken_old taken_new Memory = WritesFront taken_old taken_new tex
 -- ---- on the way
 
 -- some of what was pending was written, and the rest is pending; or a front of it was written
-abbrev pub PassesOn : {T E : Type 0} → Option (List ℕ) → Option (List ℕ) → List ℕ → List ℕ → Result T E → Type 0
-PassesOn taken_old taken_new old new (Ok x) = (written : List ℕ) × (old ≡ written ++ new) × Appends taken_old taken_new written
+abbrev pub PassesOn : {T E : Type 0} → Option (List ℕ) → Option (List ℕ) → List ℕ → List ℕ
+    → Result T E → Type 0
+PassesOn taken_old taken_new old new (Ok x) =
+    (written : List ℕ) × (old ≡ written ++ new) × Appends taken_old taken_new written
 PassesOn taken_old taken_new old new (Err e) = WritesFront taken_old taken_new old

@@ -18,14 +18,17 @@ use Rattle.tracker_import.specs.declared.import.ImportEnd.TheVariants.{Done, Bad
 -- ---- one call
 
 -- a call is made under some mark, this is its reply, and the keeper has what it leaves
-pub record IsMadeCall {P : Type 0} (keeps : P → Rows → Type 0) (tells : P → Type 0) (faults : P → ℕ) (caller : List ℕ) (old : DeskParts P) (c : Call) (r : Reply) (new : DeskParts P) : Type 0 where
+pub record IsMadeCall {P : Type 0} (keeps : P → Rows → Type 0) (tells : P → Type 0) (faults : P → ℕ)
+    (caller : List ℕ) (old : DeskParts P) (c : Call) (r : Reply) (new : DeskParts P) : Type 0 where
   pub mark : Mark
   pub reply_is : r ≡ reply_under mark old.machine caller c
   pub new_is : new.machine ≡ next_under mark old.machine caller c
   pub kept : HasKept keeps tells faults old new (failures_at mark)
 
 -- a call is made, and the sink has the line of its reply or only a front of it
-pub record AnswersCall {P T E : Type 0} (keeps : P → Rows → Type 0) (tells : P → Type 0) (faults : P → ℕ) (caller : List ℕ) (old : DeskParts P) (c : Call) (taken_old taken_new : Option (List ℕ)) (result : Result T E) (new : DeskParts P) : Type 0 where
+pub record AnswersCall {P T E : Type 0} (keeps : P → Rows → Type 0) (tells : P → Type 0)
+    (faults : P → ℕ) (caller : List ℕ) (old : DeskParts P) (c : Call)
+    (taken_old taken_new : Option (List ℕ)) (result : Result T E) (new : DeskParts P) : Type 0 where
   pub reply : Reply
   pub made : IsMadeCall keeps tells faults caller old c reply new
   pub written : WritesAll taken_old taken_new result (reply_line reply)
@@ -39,7 +42,9 @@ IsHaltCause before now (Err halt.Memory) = Unit {0}
 -- ---- all calls
 
 -- the calls were made, and the sink has the lines of their replies
-pub record HasImported {P : Type 0} (keeps : P → Rows → Type 0) (tells : P → Type 0) (faults : P → ℕ) (caller : List ℕ) (old : DeskParts P) (calls : List Call) (taken_old taken_new : Option (List ℕ)) (new : DeskParts P) : Type 0 where
+pub record HasImported {P : Type 0} (keeps : P → Rows → Type 0) (tells : P → Type 0)
+    (faults : P → ℕ) (caller : List ℕ) (old : DeskParts P) (calls : List Call)
+    (taken_old taken_new : Option (List ℕ)) (new : DeskParts P) : Type 0 where
   pub text : List ℕ
   pub failures : ℕ
   pub made : AreMade caller old.machine calls text new.machine failures
@@ -47,7 +52,9 @@ pub record HasImported {P : Type 0} (keeps : P → Rows → Type 0) (tells : P �
   pub written : Appends taken_old taken_new text
 
 -- the first of the calls were made, and the sink has the lines of their replies, where the last one may be cut
-pub record HasBegun {P : Type 0} (keeps : P → Rows → Type 0) (tells : P → Type 0) (faults : P → ℕ) (caller : List ℕ) (old : DeskParts P) (calls : List Call) (taken_old taken_new : Option (List ℕ)) (new : DeskParts P) : Type 0 where
+pub record HasBegun {P : Type 0} (keeps : P → Rows → Type 0) (tells : P → Type 0)
+    (faults : P → ℕ) (caller : List ℕ) (old : DeskParts P) (calls : List Call)
+    (taken_old taken_new : Option (List ℕ)) (new : DeskParts P) : Type 0 where
   pub text : List ℕ
   pub failures : ℕ
   pub made : AreCutCalls caller old.machine calls text new.machine failures
@@ -55,17 +62,21 @@ pub record HasBegun {P : Type 0} (keeps : P → Rows → Type 0) (tells : P → 
   pub written : Appends taken_old taken_new text
 
 -- how the import of these records ends: where all are good, each call is made; where one is bad, each call of those before it
-abbrev pub EndsBatch : {P : Type 0} → (P → Rows → Type 0) → (P → Type 0) → (P → ℕ) → List ℕ → DeskParts P → Batch → Option (List ℕ) → Option (List ℕ) → ImportEnd → DeskParts P → Type 0
+abbrev pub EndsBatch : {P : Type 0} → (P → Rows → Type 0) → (P → Type 0) → (P → ℕ) → List ℕ
+    → DeskParts P → Batch → Option (List ℕ) → Option (List ℕ) → ImportEnd → DeskParts P → Type 0
 EndsBatch keeps tells faults caller old batch taken_old taken_new Done new =
-    (batch.bad ≡ None) × HasImported keeps tells faults caller old batch.calls taken_old taken_new new
+    (batch.bad ≡ None)
+    × HasImported keeps tells faults caller old batch.calls taken_old taken_new new
 EndsBatch keeps tells faults caller old batch taken_old taken_new (BadRecord number) new =
-    (batch.bad ≡ Some number) × HasImported keeps tells faults caller old batch.calls taken_old taken_new new
+    (batch.bad ≡ Some number)
+    × HasImported keeps tells faults caller old batch.calls taken_old taken_new new
 EndsBatch keeps tells faults caller old batch taken_old taken_new WriteFault new =
     HasBegun keeps tells faults caller old batch.calls taken_old taken_new new
 EndsBatch keeps tells faults caller old batch taken_old taken_new Memory new =
     HasBegun keeps tells faults caller old batch.calls taken_old taken_new new
 
 -- how that of an input ends
-abbrev pub EndsImport : {P : Type 0} → (P → Rows → Type 0) → (P → Type 0) → (P → ℕ) → List ℕ → DeskParts P → List ℕ → Option (List ℕ) → Option (List ℕ) → ImportEnd → DeskParts P → Type 0
+abbrev pub EndsImport : {P : Type 0} → (P → Rows → Type 0) → (P → Type 0) → (P → ℕ) → List ℕ
+    → DeskParts P → List ℕ → Option (List ℕ) → Option (List ℕ) → ImportEnd → DeskParts P → Type 0
 EndsImport keeps tells faults caller old bytes taken_old taken_new end new =
     EndsBatch keeps tells faults caller old (batch_in bytes) taken_old taken_new end new
