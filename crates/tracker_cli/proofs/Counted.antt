@@ -13,10 +13,7 @@ use Rattle.tracker_machine.specs.Run.{Mark, plain, memory, keeper, asked_reply, 
 use Rattle.tracker_machine.proofs.Replies.{RepliesTo-step}
 use Rattle.tracker_core.specs.Desk.{IsOwed}
 use Rattle.tracker_cli.specs.Answering.{RoseBy, IsReplied}
-
--- a count that rose, and rose again
-pub rose_again : (a b c n k : ℕ) → RoseBy a b n → RoseBy b c k → RoseBy a c (n + k)
-rose_again a b c n k one other = omega arith
+pub use Rattle.tracker_import.proofs.Calls.{rose_again}
 
 pub rose_later : (a b c n : ℕ) → a ≤ b → RoseBy b c n → RoseBy a c n
 rose_later a b c n later rose = omega arith

@@ -1,15 +1,12 @@
 -- A line that a desk answers, and what it has kept then.
-use Rattle.std.specs.Prelude.{ℕ, ◌+◌, ◌-◌, ◌^◌, ◌≤◌, min, List}
+use Rattle.std.specs.Prelude.{ℕ, List}
 use Rattle.tracker_core.specs.Desk.{DeskParts}
 use Rattle.tracker_keeper.specs.Rows.{Rows}
 use Rattle.tracker_machine.specs.Kept.{rows_of}
 use Rattle.tracker_calls.specs.declared.reply.Reply.{Reply}
 use Rattle.tracker_machine.specs.Machine.{Machine}
 use Rattle.tracker_machine.specs.Run.{AnswersLine, RepliesTo, failures_at}
-
--- the count rose by so many, or more, or it stands at its last value
-abbrev pub RoseBy : ℕ → ℕ → ℕ → Type 0
-RoseBy before now n = min (before + n) (2 ^ 64 - 1) ≤ now
+pub use Rattle.tracker_import.specs.Calls.{RoseBy}
 
 -- the reply to a line and the state after it, under some mark; and where that is of a keeper that failed, its count rose
 pub record IsReplied (old : Machine) (line : List ℕ) (reply : Reply) (new : Machine) (before now : ℕ) : Type 0 where

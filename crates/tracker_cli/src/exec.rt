@@ -1,19 +1,17 @@
 // Request lines that a desk answers.
-ghost use Rattle.std.specs.Prelude.{◌≡◌, ◌++◌, ◌∷◌, [], OnOk, OnErr, List, ℕ};
-ghost use Rattle.tracker_calls.specs.Reply.{reply_text};
-ghost use Rattle.tracker_machine.specs.Run.{is_blank, is_blank_byte, reply_line};
+ghost use Rattle.std.specs.Prelude.{◌≡◌};
+ghost use Rattle.tracker_machine.specs.Run.{is_blank, is_blank_byte};
 ghost use Rattle.tracker_machine.specs.Kept.{rows_of};
 ghost use Rattle.tracker_cli.specs.Answering.{AnswersKept, IsReplied};
 
-use fields::{Memory, Steps};
+use fields::Steps;
 use request_lines::Responder;
 use std::alloc::{AllocError, Global};
 use std::marker::Model;
 use std::sync::ledger::Ledger;
-use tracker_calls::{
-    Call, KEEPER_TEXT, MEMORY_TEXT, Refusal, Reply, UserName, read_line, reply_text,
-};
+use tracker_calls::{Call, Reply, UserName, read_line};
 use tracker_core::Desk;
+use tracker_import::put_reply_line;
 use tracker_keeper::Keeper;
 use tracker_server::Maker;
 
@@ -54,8 +52,10 @@ impl<L: Ledger, P: Keeper + Drop> RequestLines<L, P> {
 
     // Makes a line's call.
     fn reply_to(&mut self, line: &[u8]) -> Reply
-        ensures reply { IsReplied self.old.machine line.now result self.new.machine (P.faults self.old.keeper) (P.faults self.new.keeper) }
-        ensures rows { P.keeps self.old.keeper (rows_of self.old.machine) → P.keeps self.new.keeper (rows_of self.new.machine) }
+        ensures reply { IsReplied self.old.machine line.now result self.new.machine
+            (P.faults self.old.keeper) (P.faults self.new.keeper) }
+        ensures rows { P.keeps self.old.keeper (rows_of self.old.machine) →
+            P.keeps self.new.keeper (rows_of self.new.machine) }
         ensures told { P.tells self.new.keeper → P.tells self.old.keeper }
     {
         match read_line(self.alloc, line) {
@@ -74,7 +74,7 @@ impl<L: Ledger, P: Keeper + Drop> Responder for RequestLines<L, P> {
             return Ok(());
         }
         let reply = self.reply_to(line);
-        put_reply(self.alloc, &reply, answer)
+        put_reply_line(self.alloc, &reply, answer)
     }
 }
 
@@ -91,33 +91,6 @@ impl<L: Ledger, P: Keeper + Drop> Maker for RequestLines<L, P> {
     fn call(&mut self, caller: &UserName, call: &Call) -> Reply {
         self.desk.call(caller, call, &mut self.steps)
     }
-}
-
-// Puts a reply's text and a line feed into the empty answer. The refusals for want of memory and of a keeper that failed are
-// copied from their constants, so that they find room where the answer had some before.
-fn put_reply(alloc: Global, reply: &Reply, answer: &mut Vec<u8>) -> Result<(), AllocError>
-    requires { answer.old.items ≡ [] }
-    ensures { OnOk result (answer.new.items ≡ reply_line reply.now) }
-{
-    if let Reply::Refused(Refusal::Memory) = reply {
-        return put_line(MEMORY_TEXT, answer);
-    }
-    if let Reply::Refused(Refusal::Keeper) = reply {
-        return put_line(KEEPER_TEXT, answer);
-    }
-    match reply_text(alloc, reply) {
-        Ok(text) => put_line(text.as_str(), answer),
-        Err(Memory) => Err(AllocError),
-    }
-}
-
-fn put_line(text: &str, answer: &mut Vec<u8>) -> Result<(), AllocError>
-    requires { answer.old.items ≡ [] }
-    ensures { OnOk result (answer.new.items ≡ text.now ++ 10 ∷ []) }
-{
-    answer.extend_from_slice(text.as_bytes())?;
-    answer.push(b'\n')?;
-    Ok(())
 }
 
 fn is_blank(line: &[u8]) -> bool

@@ -31,29 +31,42 @@ pub(crate) fn import<S: Source, T: Sink, P: Keeper + Drop>(
     out: &mut T,
     keeper: P,
 ) -> (u8, P)
-    ensures done { result.0 ≡ 0 → IfSome (S.left input.old) (λ bytes. IsAtEnd (S.left input.new) × (length bytes ≤ import_limit)
+    ensures done { result.0 ≡ 0 → IfSome (S.left input.old) (λ bytes. IsAtEnd (S.left input.new)
+        × (length bytes ≤ import_limit)
         × IsWholeImport (AreImported P.keeps P.tells P.faults BUILT_IN.now keeper result.1 user.now)
         (T.taken out.old) (T.taken out.new) bytes) }
-    ensures read { result.0 ≡ 2 → (T.taken out.new ≡ T.taken out.old) × Stands P.keeps P.tells P.faults BUILT_IN.now keeper result.1 }
+    ensures read { result.0 ≡ 2 → (T.taken out.new ≡ T.taken out.old)
+        × Stands P.keeps P.tells P.faults BUILT_IN.now keeper result.1 }
     ensures written { result.0 ≡ 3 →
-        IfSome (S.left input.old) (IsUnwritten (AreImported P.keeps P.tells P.faults BUILT_IN.now keeper result.1 user.now)
-        (AreCutImported P.keeps P.tells P.faults BUILT_IN.now keeper result.1 user.now) (T.taken out.old) (T.taken out.new))
-        ⊎ (GrewByFront (T.taken out.old) (T.taken out.new) (λ due. due ≡ limit_input) × IsTooLong (S.left input.old)
+        IfSome (S.left input.old)
+        (IsUnwritten (AreImported P.keeps P.tells P.faults BUILT_IN.now keeper result.1 user.now)
+        (AreCutImported P.keeps P.tells P.faults BUILT_IN.now keeper result.1 user.now)
+        (T.taken out.old) (T.taken out.new))
+        ⊎ (GrewByFront (T.taken out.old) (T.taken out.new) (λ due. due ≡ limit_input)
+        × IsTooLong (S.left input.old)
         × Stands P.keeps P.tells P.faults BUILT_IN.now keeper result.1)
-        ⊎ (GrewByFront (T.taken out.old) (T.taken out.new) (IsKeptText (HasBadRow P.keeps P.tells keeper result.1))
+        ⊎ (GrewByFront (T.taken out.old) (T.taken out.new)
+        (IsKeptText (HasBadRow P.keeps P.tells keeper result.1))
         × HasItsRows P.keeps keeper result.1) }
-    ensures unopened { result.0 ≡ 4 → (T.taken out.new ≡ T.taken out.old) × HasItsRows P.keeps keeper result.1 }
-    ensures bad { result.0 ≡ 5 → GrewBy (T.taken out.old) (T.taken out.new) (IsKeptText (HasBadRow P.keeps P.tells keeper result.1))
+    ensures unopened { result.0 ≡ 4 → (T.taken out.new ≡ T.taken out.old)
+        × HasItsRows P.keeps keeper result.1 }
+    ensures bad { result.0 ≡ 5 → GrewBy (T.taken out.old) (T.taken out.new)
+        (IsKeptText (HasBadRow P.keeps P.tells keeper result.1))
         × HasItsRows P.keeps keeper result.1 }
     ensures memory { result.0 ≡ 6 →
         IfSome (S.left input.old) (λ bytes. GrewBy (T.taken out.old) (T.taken out.new)
-        (AreCutImported P.keeps P.tells P.faults BUILT_IN.now keeper result.1 user.now (batch_in bytes).calls))
-        ⊎ ((T.taken out.new ≡ T.taken out.old) × Stands P.keeps P.tells P.faults BUILT_IN.now keeper result.1)
+        (AreCutImported P.keeps P.tells P.faults BUILT_IN.now keeper result.1 user.now
+        (batch_in bytes).calls))
+        ⊎ ((T.taken out.new ≡ T.taken out.old)
+        × Stands P.keeps P.tells P.faults BUILT_IN.now keeper result.1)
         ⊎ ((T.taken out.new ≡ T.taken out.old) × HasItsRows P.keeps keeper result.1) }
-    ensures limit { result.0 ≡ 7 → Appends (T.taken out.old) (T.taken out.new) limit_input × IsTooLong (S.left input.old)
+    ensures limit { result.0 ≡ 7 → Appends (T.taken out.old) (T.taken out.new) limit_input
+        × IsTooLong (S.left input.old)
         × Stands P.keeps P.tells P.faults BUILT_IN.now keeper result.1 }
-    ensures record { result.0 ≡ 8 → IfSome (S.left input.old) (λ bytes. GrewBy (T.taken out.old) (T.taken out.new)
-        (IsRecordText (AreImported P.keeps P.tells P.faults BUILT_IN.now keeper result.1 user.now) bytes)) }
+    ensures record { result.0 ≡ 8 →
+        IfSome (S.left input.old) (λ bytes. GrewBy (T.taken out.old) (T.taken out.new)
+        (IsRecordText (AreImported P.keeps P.tells P.faults BUILT_IN.now keeper result.1 user.now)
+        bytes)) }
     ensures read_cause { result.0 ≡ 2 → Rose (S.faults input.old) (S.faults input.new) }
     ensures write_cause { result.0 ≡ 3 → Rose (T.faults out.old) (T.faults out.new) }
     ensures keeper_cause { result.0 ≡ 4 → Rose (P.faults keeper) (P.faults result.1) }
@@ -64,53 +77,8 @@ pub(crate) fn import<S: Source, T: Sink, P: Keeper + Drop>(
     let Ok(user) = UserName::copy_of(alloc, user) else {
         return (6, keeper);
     };
-    import_over::<Brand, S, T, P>(alloc, &user, input, out, keeper, Blank::new(1))
-}
-
-// The same, with steps that are counted.
-fn import_over<L: Ledger, S: Source, T: Sink, P: Keeper + Drop>(
-    alloc: Global,
-    user: &UserName,
-    input: &mut S,
-    out: &mut T,
-    keeper: P,
-    blank: Blank,
-) -> (u8, P)
-    requires name { blank.name ≡ L.name }
-    requires parts { blank.parts ≡ L.parts }
-    requires some { 0 < L.parts }
-    ensures done { result.0 ≡ 0 → IfSome (S.left input.old) (λ bytes. IsAtEnd (S.left input.new) × (length bytes ≤ import_limit)
-        × IsWholeImport (AreImported P.keeps P.tells P.faults BUILT_IN.now keeper result.1 user.now)
-        (T.taken out.old) (T.taken out.new) bytes) }
-    ensures read { result.0 ≡ 2 → (T.taken out.new ≡ T.taken out.old) × Stands P.keeps P.tells P.faults BUILT_IN.now keeper result.1 }
-    ensures written { result.0 ≡ 3 →
-        IfSome (S.left input.old) (IsUnwritten (AreImported P.keeps P.tells P.faults BUILT_IN.now keeper result.1 user.now)
-        (AreCutImported P.keeps P.tells P.faults BUILT_IN.now keeper result.1 user.now) (T.taken out.old) (T.taken out.new))
-        ⊎ (GrewByFront (T.taken out.old) (T.taken out.new) (λ due. due ≡ limit_input) × IsTooLong (S.left input.old)
-        × Stands P.keeps P.tells P.faults BUILT_IN.now keeper result.1)
-        ⊎ (GrewByFront (T.taken out.old) (T.taken out.new) (IsKeptText (HasBadRow P.keeps P.tells keeper result.1))
-        × HasItsRows P.keeps keeper result.1) }
-    ensures unopened { result.0 ≡ 4 → (T.taken out.new ≡ T.taken out.old) × HasItsRows P.keeps keeper result.1 }
-    ensures bad { result.0 ≡ 5 → GrewBy (T.taken out.old) (T.taken out.new) (IsKeptText (HasBadRow P.keeps P.tells keeper result.1))
-        × HasItsRows P.keeps keeper result.1 }
-    ensures memory { result.0 ≡ 6 →
-        IfSome (S.left input.old) (λ bytes. GrewBy (T.taken out.old) (T.taken out.new)
-        (AreCutImported P.keeps P.tells P.faults BUILT_IN.now keeper result.1 user.now (batch_in bytes).calls))
-        ⊎ ((T.taken out.new ≡ T.taken out.old) × Stands P.keeps P.tells P.faults BUILT_IN.now keeper result.1)
-        ⊎ ((T.taken out.new ≡ T.taken out.old) × HasItsRows P.keeps keeper result.1) }
-    ensures limit { result.0 ≡ 7 → Appends (T.taken out.old) (T.taken out.new) limit_input × IsTooLong (S.left input.old)
-        × Stands P.keeps P.tells P.faults BUILT_IN.now keeper result.1 }
-    ensures record { result.0 ≡ 8 → IfSome (S.left input.old) (λ bytes. GrewBy (T.taken out.old) (T.taken out.new)
-        (IsRecordText (AreImported P.keeps P.tells P.faults BUILT_IN.now keeper result.1 user.now) bytes)) }
-    ensures read_cause { result.0 ≡ 2 → Rose (S.faults input.old) (S.faults input.new) }
-    ensures write_cause { result.0 ≡ 3 → Rose (T.faults out.old) (T.faults out.new) }
-    ensures keeper_cause { result.0 ≡ 4 → Rose (P.faults keeper) (P.faults result.1) }
-    ensures read_later { S.faults input.old ≤ S.faults input.new }
-    ensures write_later { T.faults out.old ≤ T.faults out.new }
-    ensures statuses { (result.0 ≤ 8) × (result.0 ≢ 1) }
-{
     match Desk::open(alloc, keeper) {
-        Ok(desk) => import_input::<L, S, T, P>(alloc, user, input, out, desk, blank),
+        Ok(desk) => import_input::<Brand, S, T, P>(alloc, &user, input, out, desk, Blank::new(1)),
         Err((OpenFault::Keeper, keeper)) => (4, keeper),
         Err((OpenFault::BadRow { kind, no }, keeper)) => (tell_row(alloc, out, kind, no), keeper),
         Err((OpenFault::Memory, keeper)) => (6, keeper),
@@ -130,21 +98,28 @@ fn import_input<L: Ledger, S: Source, T: Sink, P: Keeper + Drop>(
     requires name { blank.name ≡ L.name }
     requires parts { blank.parts ≡ L.parts }
     requires some { 0 < L.parts }
-    ensures done { result.0 ≡ 0 → IfSome (S.left input.old) (λ bytes. IsAtEnd (S.left input.new) × (length bytes ≤ import_limit)
-        × IsWholeImport (AreMadeFrom P.keeps P.tells P.faults desk result.1 user.now) (T.taken out.old) (T.taken out.new) bytes) }
+    ensures done { result.0 ≡ 0 → IfSome (S.left input.old) (λ bytes. IsAtEnd (S.left input.new)
+        × (length bytes ≤ import_limit)
+        × IsWholeImport (AreMadeFrom P.keeps P.tells P.faults desk result.1 user.now)
+        (T.taken out.old) (T.taken out.new) bytes) }
     ensures read { result.0 ≡ 2 → (T.taken out.new ≡ T.taken out.old) × (result.1 ≡ desk.keeper) }
     ensures written { result.0 ≡ 3 →
-        IfSome (S.left input.old) (IsUnwritten (AreMadeFrom P.keeps P.tells P.faults desk result.1 user.now)
-        (AreCutFrom P.keeps P.tells P.faults desk result.1 user.now) (T.taken out.old) (T.taken out.new))
-        ⊎ (GrewByFront (T.taken out.old) (T.taken out.new) (λ due. due ≡ limit_input) × IsTooLong (S.left input.old)
+        IfSome (S.left input.old)
+        (IsUnwritten (AreMadeFrom P.keeps P.tells P.faults desk result.1 user.now)
+        (AreCutFrom P.keeps P.tells P.faults desk result.1 user.now)
+        (T.taken out.old) (T.taken out.new))
+        ⊎ (GrewByFront (T.taken out.old) (T.taken out.new) (λ due. due ≡ limit_input)
+        × IsTooLong (S.left input.old)
         × (result.1 ≡ desk.keeper)) }
     ensures memory { result.0 ≡ 6 →
         IfSome (S.left input.old) (λ bytes. GrewBy (T.taken out.old) (T.taken out.new)
         (AreCutFrom P.keeps P.tells P.faults desk result.1 user.now (batch_in bytes).calls))
         ⊎ ((T.taken out.new ≡ T.taken out.old) × (result.1 ≡ desk.keeper)) }
-    ensures limit { result.0 ≡ 7 → Appends (T.taken out.old) (T.taken out.new) limit_input × IsTooLong (S.left input.old)
+    ensures limit { result.0 ≡ 7 → Appends (T.taken out.old) (T.taken out.new) limit_input
+        × IsTooLong (S.left input.old)
         × (result.1 ≡ desk.keeper) }
-    ensures record { result.0 ≡ 8 → IfSome (S.left input.old) (λ bytes. GrewBy (T.taken out.old) (T.taken out.new)
+    ensures record { result.0 ≡ 8 →
+        IfSome (S.left input.old) (λ bytes. GrewBy (T.taken out.old) (T.taken out.new)
         (IsRecordText (AreMadeFrom P.keeps P.tells P.faults desk result.1 user.now) bytes)) }
     ensures read_cause { result.0 ≡ 2 → Rose (S.faults input.old) (S.faults input.new) }
     ensures write_cause { result.0 ≡ 3 → Rose (T.faults out.old) (T.faults out.new) }
@@ -175,10 +150,13 @@ fn import_bytes<L: Ledger, T: Sink, P: Keeper + Drop>(
     requires name { blank.name ≡ L.name }
     requires parts { blank.parts ≡ L.parts }
     requires some { 0 < L.parts }
-    ensures done { result.0 ≡ 0 → IsWholeImport (AreMadeFrom P.keeps P.tells P.faults desk result.1 user.now)
+    ensures done { result.0 ≡ 0 →
+        IsWholeImport (AreMadeFrom P.keeps P.tells P.faults desk result.1 user.now)
         (T.taken out.old) (T.taken out.new) bytes.now }
-    ensures written { result.0 ≡ 3 → IsUnwritten (AreMadeFrom P.keeps P.tells P.faults desk result.1 user.now)
-        (AreCutFrom P.keeps P.tells P.faults desk result.1 user.now) (T.taken out.old) (T.taken out.new) bytes.now }
+    ensures written { result.0 ≡ 3 →
+        IsUnwritten (AreMadeFrom P.keeps P.tells P.faults desk result.1 user.now)
+        (AreCutFrom P.keeps P.tells P.faults desk result.1 user.now)
+        (T.taken out.old) (T.taken out.new) bytes.now }
     ensures memory { result.0 ≡ 6 → GrewBy (T.taken out.old) (T.taken out.new)
         (AreCutFrom P.keeps P.tells P.faults desk result.1 user.now (batch_in bytes.now).calls) }
     ensures record { result.0 ≡ 8 → GrewBy (T.taken out.old) (T.taken out.new)
@@ -203,7 +181,8 @@ fn import_bytes<L: Ledger, T: Sink, P: Keeper + Drop>(
 // Writes which record is bad: 8, or 3 where the sink failed on it, or 6 where there was no memory for it and nothing was written.
 fn tell_record<T: Sink>(alloc: Global, out: &mut T, number: u64) -> u8
     ensures told { result ≡ 8 → Appends (T.taken out.old) (T.taken out.new) (csv_line number) }
-    ensures written { result ≡ 3 → GrewByFront (T.taken out.old) (T.taken out.new) (λ due. due ≡ csv_line number) }
+    ensures written { result ≡ 3 → GrewByFront (T.taken out.old) (T.taken out.new)
+        (λ due. due ≡ csv_line number) }
     ensures memory { result ≡ 6 → T.taken out.new ≡ T.taken out.old }
     ensures write_cause { result ≡ 3 → Rose (T.faults out.old) (T.faults out.new) }
     ensures later { T.faults out.old ≤ T.faults out.new }
