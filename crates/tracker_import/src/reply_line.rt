@@ -2,9 +2,9 @@
 ghost use Rattle.std.specs.Prelude.{◌≡◌, ◌++◌, ◌∷◌, [], OnOk};
 ghost use Rattle.tracker_machine.specs.Run.{reply_line};
 
-use field_values::Memory;
 use std::alloc::{AllocError, Global};
-use tracker_calls::{KEEPER_TEXT, MEMORY_TEXT, Refusal, Reply, reply_text};
+use std::mem;
+use tracker_calls::{KEEPER_TEXT, MEMORY_TEXT, Refusal, Reply, reply_bytes};
 
 /// Puts a reply's text and a line feed in place of what `answer` held. The refusals for want of memory
 /// and of a keeper that failed are copied from their constants, so that they find room where the
@@ -18,10 +18,20 @@ pub fn put_reply_line(alloc: Global, reply: &Reply, answer: &mut Vec<u8>) -> Res
     if let Reply::Refused(Refusal::Keeper) = reply {
         return put_line(KEEPER_TEXT, answer);
     }
-    match reply_text(alloc, reply) {
-        Ok(text) => put_line(text.as_str(), answer),
-        Err(Memory) => Err(AllocError),
-    }
+    put_text(alloc, reply, answer)
+}
+
+// Writes a reply's text and a line feed into the answer's room, in place of what it held.
+fn put_text(alloc: Global, reply: &Reply, answer: &mut Vec<u8>) -> Result<(), AllocError>
+    ensures { OnOk result (answer.new.items ≡ reply_line reply.now) }
+{
+    let room = mem::replace(answer, Vec::new(alloc));
+    let Ok(bytes) = reply_bytes(alloc, reply, room) else {
+        return Err(AllocError);
+    };
+    *answer = bytes;
+    answer.push(b'\n')?;
+    Ok(())
 }
 
 fn put_line(text: &str, answer: &mut Vec<u8>) -> Result<(), AllocError>
