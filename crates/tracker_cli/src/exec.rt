@@ -5,13 +5,14 @@ ghost use Rattle.tracker_machine.specs.Run.{is_blank, is_blank_byte, reply_line}
 ghost use Rattle.tracker_machine.specs.Kept.{rows_of};
 ghost use Rattle.tracker_cli.specs.Answering.{AnswersKept, IsReplied};
 
-use fields::{Memory, Steps};
+use fields::Steps;
 use request_lines::Responder;
 use std::alloc::{AllocError, Global};
 use std::marker::Model;
+use std::mem;
 use std::sync::ledger::Ledger;
 use tracker_calls::{
-    Call, KEEPER_TEXT, MEMORY_TEXT, Refusal, Reply, UserName, read_line, reply_text,
+    Call, KEEPER_TEXT, MEMORY_TEXT, Refusal, Reply, UserName, read_line, reply_bytes,
 };
 use tracker_core::Desk;
 use tracker_keeper::Keeper;
@@ -105,10 +106,20 @@ fn put_reply(alloc: Global, reply: &Reply, answer: &mut Vec<u8>) -> Result<(), A
     if let Reply::Refused(Refusal::Keeper) = reply {
         return put_line(KEEPER_TEXT, answer);
     }
-    match reply_text(alloc, reply) {
-        Ok(text) => put_line(text.as_str(), answer),
-        Err(Memory) => Err(AllocError),
-    }
+    put_text(alloc, reply, answer)
+}
+
+// Writes a reply's text and a line feed into the answer's room, in place of what it held.
+fn put_text(alloc: Global, reply: &Reply, answer: &mut Vec<u8>) -> Result<(), AllocError>
+    ensures { OnOk result (answer.new.items ≡ reply_line reply.now) }
+{
+    let room = mem::replace(answer, Vec::new(alloc));
+    let Ok(bytes) = reply_bytes(alloc, reply, room) else {
+        return Err(AllocError);
+    };
+    *answer = bytes;
+    answer.push(b'\n')?;
+    Ok(())
 }
 
 fn put_line(text: &str, answer: &mut Vec<u8>) -> Result<(), AllocError>
