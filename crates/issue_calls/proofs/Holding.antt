@@ -1,20 +1,11 @@
 -- What fields hold, and what entries do.
 use Rattle.std.proofs.Common.{◌≡◌, ℕ, zero, suc, List, [], ◌∷◌, take, drop, true, inl, inr, refl, sym, subst}
-use Rattle.field_values.specs.declared.numbers.FieldNo.{FieldNo}
-use Rattle.field_values.specs.declared.numbers.Day.{Day}
 use Rattle.field_values.specs.declared.value.Value.{Value}
 use Rattle.field_values.specs.declared.value.Value.TheVariants as value
 use Rattle.field_forms.specs.Known.{Names, fits, form_of, choices_of}
 use Rattle.field_values.specs.declared.numbers.TheConstants.FieldNo.{REPORTER as reporter}
-use Rattle.field_forms.proofs.Fitting.{fits_says}
-use Rattle.civil_dates.specs.Days.{is_day}
 use Rattle.change_history.specs.declared.entry.Entry.{Entry}
 use Rattle.tracker_machine.specs.Tracker.{Holds, AllEntriesHold}
-
--- a day that a field holds is one of the years 1970 to 2099
-pub day_inside : (names : Names) (f : FieldNo) (day : Day) → Holds names f (value.Date day) → is_day day.0 ≡ true
-day_inside names f day (inl empty) = absurd (cc)
-day_inside names f day (inr fit) = fits_says names f.0 (value.Date day) fit
 
 held_behind : (names : Names) (from : ℕ) (es : List Entry) → AllEntriesHold names es → AllEntriesHold names (drop from es)
 held_behind names zero es all = all

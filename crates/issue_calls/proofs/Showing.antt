@@ -1,6 +1,5 @@
 -- Some fields that are shown and then others are all of them.
 use Rattle.std.proofs.Common.{◌≡◌, ◌++◌, ℕ, List, [], ◌∷◌, map, Option, Some, None, refl, ap, ◌∙◌, sym}
-use Rattle.field_values.specs.declared.field.Field.{Field}
 use Rattle.field_forms.specs.Known.{Names}
 use Rattle.fields.specs.Naming.{built_in_numbers, field_numbers, field_name}
 use Rattle.change_history.specs.History.{History, present}

@@ -1,7 +1,5 @@
 // Values as answers tell them.
-ghost use Rattle.std.specs.Prelude.{◌≡◌, true, map, IfOk, IfSome};
-ghost use Rattle.civil_dates.specs.Days.{is_day};
-ghost use Rattle.civil_dates.specs.DateText.{date_text};
+ghost use Rattle.std.specs.Prelude.{◌≡◌, map, IfOk, IfSome};
 ghost use Rattle.field_forms.specs.Known.{choices_of};
 ghost use Rattle.fields.specs.Naming.{name_at};
 ghost use Rattle.fields.specs.SetupParts.{parts, names_in};
@@ -9,17 +7,9 @@ ghost use Rattle.tracker_machine.specs.Show.{shown_value};
 ghost use Rattle.tracker_machine.specs.Tracker.{Holds};
 
 use field_forms::value_text::chosen_names;
-use fields::{ChoiceNo, Day, FieldNo, Memory, Setup, Status, Text, UserNo, Value};
+use fields::{ChoiceNo, FieldNo, Memory, Setup, Status, Text, UserNo, Value};
 use std::alloc::Global;
 use tracker_calls::{Shown, ToldText};
-
-fn day_text(alloc: Global, day: Day) -> Result<ToldText, Memory>
-    requires { is_day day.0 ≡ true }
-    ensures { IfOk result (λ text. text ≡ date_text day.0) }
-{
-    let text = civil_dates::date_text(alloc, day.0)?;
-    Ok(ToldText::of(Text::of(text)))
-}
 
 // The name at a place; an empty text where there is none.
 fn name_at(names: &[Text], place: u16) -> &str
@@ -80,7 +70,6 @@ fn choice_name(
 }
 
 /// A value as it is told; nothing where it is empty.
-#[tactic(auto, using(crate::proofs::Holding::day_inside))]
 pub fn shown_value(
     alloc: Global,
     setup: &Setup,
@@ -98,7 +87,7 @@ pub fn shown_value(
         )?)))),
         Value::Choice(choice) => Ok(Some(Shown::Text(choice_name(alloc, setup, field, *choice)?))),
         Value::User(user) => Ok(Some(Shown::Text(user_name(alloc, setup, *user)?))),
-        Value::Date(day) => Ok(Some(Shown::Text(day_text(alloc, *day)?))),
+        Value::Date(_) => Ok(Some(Shown::Text(ToldText::of(setup.text_of(alloc, field, value)?)))),
         Value::Set(choices) => Ok(Some(Shown::List(chosen_names(
             alloc,
             setup.versions.as_slice(),

@@ -9,8 +9,7 @@ use Rattle.tracker_calls.specs.declared.reply.Reply.{Reply}
 use Rattle.tracker_calls.specs.declared.reply.Reply.TheVariants as reply
 use Rattle.tracker_http.specs.Calls.{asked_of}
 use Rattle.tracker_http.specs.declared.request.Request.{Request}
-use Rattle.tracker_server.specs.Events.{Grew}
-use Rattle.tracker_server.specs.Exchanges.{Exchange, IsAnswered, Answers, response_to, IsExchanged, HasMade}
+use Rattle.tracker_server.specs.Exchanges.{IsAnswered, Answers, response_to, IsExchanged, HasMade}
 use Rattle.tracker_server.specs.declared.event.Event.{Event}
 
 -- a refusal is answered, and nothing else is done

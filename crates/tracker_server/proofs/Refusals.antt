@@ -1,5 +1,5 @@
 -- The status of a refused request is one of a response.
-use Rattle.std.proofs.Common.{◌≡◌, ℕ, List, Bool, true, false, Option, Some, None, if◌then◌else◌, ◌⊎◌, inl, inr, refl, ap, ◌∙◌, sym, subst}
+use Rattle.std.proofs.Common.{◌≡◌, ℕ, List, Bool, true, false, Option, Some, None, if◌then◌else◌, inl, inr, refl, ap, ◌∙◌}
 use Rattle.std.specs.Str.{bytes_eq}
 use Rattle.tracker_http.specs.HeadFaults.{Head, field_fault, verb_fault, fault_after, fault_of, refused}
 use Rattle.tracker_http.specs.Requests.{IsRequest, IsRefused}

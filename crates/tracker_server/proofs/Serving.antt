@@ -1,17 +1,16 @@
 -- The requests of a connection, put one before another.
-use Rattle.std.proofs.Common.{◌≡◌, ◌-◌, ℕ, List, [], ◌∷◌, ◌++◌, Bool, true, false, Option, Some, None, ◌⊎◌, inl, inr, refl, ap, sym, ◌∙◌, subst, append_assoc, append-nil}
+use Rattle.std.proofs.Common.{◌≡◌, ◌-◌, ℕ, List, [], ◌∷◌, ◌++◌, Bool, true, false, Option, Some, None, inl, inr, refl, ap, sym, ◌∙◌, subst, append_assoc, append-nil}
 use Rattle.std.specs.Prelude.{IfSome}
 use Rattle.std.specs.Io.KnownBytes.{Appends, Consumes, IsAtEnd}
 use Rattle.request_lines.proofs.Known.{Appends-trans}
-use Rattle.tracker_http.specs.HeadFaults.{refused}
 use Rattle.tracker_http.specs.Requests.{IsRequest, IsCut, IsRefused, TakesNext}
 use Rattle.tracker_http.specs.Streams.{Ending, at_end, inside, refuses}
 use Rattle.tracker_http.specs.declared.head_fault.HeadFault.{HeadFault}
 use Rattle.tracker_http.specs.declared.request.Next.TheVariants as next
 use Rattle.tracker_http.specs.declared.request.Request.{Request}
-use Rattle.tracker_server.specs.Connections.{Refused, closes, ClosesBy, BeginWith, refusal_response, responses, joined, IsFront, Writes, refusal_behind, EndsAs, Serves}
+use Rattle.tracker_server.specs.Connections.{Refused, closes, ClosesBy, BeginWith, refusal_response, responses, joined, IsFront, Writes, Serves}
 use Rattle.tracker_server.specs.Events.{Lead, Grew}
-use Rattle.tracker_server.specs.Exchanges.{Exchange, AreAnswered, events_of, requests_of, response_to, IsExchanged}
+use Rattle.tracker_server.specs.Exchanges.{AreAnswered, events_of, requests_of, response_to, IsExchanged}
 use Rattle.tracker_server.specs.Sending.{IsSent}
 use Rattle.tracker_server.specs.Steps.{ServesFirst}
 use Rattle.tracker_server.specs.declared.event.Event.{Event}

@@ -1,8 +1,8 @@
 -- An event behind others, and its reply.
-use Rattle.std.proofs.Common.{◌≡◌, ◌-◌, ◌+◌, ℕ, List, [], ◌∷◌, ◌++◌, length, Option, Some, None, true, false, inl, inr, refl, ap, sym, ◌∙◌, append-nil, arith, length-append}
+use Rattle.std.proofs.Common.{◌≡◌, ◌-◌, ◌+◌, ℕ, List, [], ◌∷◌, ◌++◌, length, Some, true, inl, inr, refl, ap, sym, ◌∙◌, append-nil, arith, length-append}
 use Rattle.std.specs.Prelude.{slice_get}
 use Rattle.tracker_server.specs.Direct.{reply_in, last_of}
-use Rattle.tracker_server.specs.Events.{event, lacks_memory, Lead, Grew, IsTold}
+use Rattle.tracker_server.specs.Events.{event, lacks_memory, IsTold}
 use Rattle.tracker_calls.specs.declared.call.Call.{Call}
 use Rattle.tracker_calls.specs.declared.reply.Reply.{Reply}
 use Rattle.tracker_server.specs.declared.event.Event.{Event}

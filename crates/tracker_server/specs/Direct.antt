@@ -1,5 +1,5 @@
 -- The reply to the last call of a teller that keeps its events.
-use Rattle.std.specs.Prelude.{ℕ, ◌-◌, List, length, slice_get, Bool, true, false, Option, Some, None}
+use Rattle.std.specs.Prelude.{◌-◌, List, length, slice_get, Bool, true, false, Option, Some, None}
 use Rattle.tracker_calls.specs.declared.reply.Reply.{Reply}
 use Rattle.tracker_server.specs.Events.{lacks_memory}
 use Rattle.tracker_server.specs.declared.event.Event.{Event}

@@ -1,5 +1,5 @@
 -- An exchange: a request, the events that it made, and the reply to it.
-use Rattle.std.specs.Prelude.{◌≡◌, ◌⊎◌, ℕ, List, [], ◌∷◌, ◌++◌, Bool, true, false, Option, Some, None, Result, Ok, Err}
+use Rattle.std.specs.Prelude.{◌≡◌, ◌⊎◌, ℕ, List, [], ◌∷◌, ◌++◌, Bool, true, false, Option, Some, None, Ok, Err}
 use Rattle.request_lines.specs.Readings.{Reads}
 use Rattle.tracker_calls.specs.Asked.{Asked}
 use Rattle.tracker_calls.specs.Reply.{reply_text}

@@ -1,4 +1,4 @@
-use Rattle.std.proofs.Common.{◌≡◌, ◌++◌, ℕ, List, map, ap, ap₂, ◌∙◌}
+use Rattle.std.proofs.Common.{◌++◌, ℕ, List, map, ap, ap₂, ◌∙◌}
 use Rattle.field_values.specs.declared.field.Field.{Field}
 use Rattle.fields.specs.SetupParts.{parts, names_in}
 use Rattle.tracker_calls.specs.declared.reply.ShownField.{ShownField}

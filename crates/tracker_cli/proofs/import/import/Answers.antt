@@ -1,4 +1,4 @@
-use Rattle.std.proofs.Common.{◌≤◌, ℕ, List, inr, refl, length, subst}
+use Rattle.std.proofs.Common.{◌≤◌, inr, refl, length, subst}
 use Rattle.std.specs.Prelude.{◌⊎◌, ◌≡◌, IfSome}
 use Rattle.std.specs.Io.KnownBytes.{IsAtEnd}
 use Rattle.setup_reading.specs.declared.built_in_text.TheConstants.{BUILT_IN}
