@@ -1,5 +1,5 @@
 #!/usr/bin/env python3
-"""Times searches: 10,000 issues, or so many, with three changes each, and then 200 searches of ten kinds.
+"""Times searches: 10,000 issues, or so many, with three changes each, and then 200 searches of each of ten kinds.
 
 usage: python3 bench/search.py PROGRAM [ISSUES]
 
@@ -13,7 +13,7 @@ import sys
 import tempfile
 
 ISSUES = int(sys.argv[2]) if len(sys.argv) > 2 else 10_000
-EACH = 20
+EACH = 200
 START = 1_709_251_200
 
 KINDS = [
