@@ -1,4 +1,4 @@
-ghost use Rattle.std.specs.Prelude.{◌≡◌, [], ◌∷◌, ◌++◌, OnOk, OnErr};
+ghost use Rattle.std.specs.Prelude.{◌≡◌, [], ◌∷◌, ◌++◌, IfOk, OnOk, OnErr};
 
 use field_values::{FieldNo, Memory, Value};
 use std::alloc::Global;
@@ -34,6 +34,15 @@ impl Changes {
         Changes {
             list: Vec::new(alloc),
         }
+    }
+
+    /// No change, and room for n of them.
+    pub fn with_capacity(alloc: Global, n: usize) -> Result<Self, Memory>
+        ensures { IfOk result (λ changes. changes ≡ []) }
+    {
+        Ok(Changes {
+            list: Vec::with_capacity(alloc, n)?,
+        })
     }
 
     /// Puts one more at the end, or leaves the changes as they are.

@@ -1,4 +1,4 @@
-ghost use Rattle.std.specs.Prelude.{◌≡◌, [], ◌∷◌, ◌++◌, OnOk, OnErr};
+ghost use Rattle.std.specs.Prelude.{◌≡◌, [], ◌∷◌, ◌++◌, IfOk, OnOk, OnErr};
 
 use field_values::{FieldNo, Memory, Moment, UserNo, Value};
 use std::alloc::Global;
@@ -60,6 +60,15 @@ impl Entries {
         Entries {
             list: Vec::new(alloc),
         }
+    }
+
+    /// No entry, and room for n of them.
+    pub fn with_capacity(alloc: Global, n: usize) -> Result<Self, Memory>
+        ensures { IfOk result (λ entries. entries ≡ []) }
+    {
+        Ok(Entries {
+            list: Vec::with_capacity(alloc, n)?,
+        })
     }
 
     /// Puts one more at the end, or leaves the entries as they are.
