@@ -1,5 +1,5 @@
 -- A group that may be added keeps a history a history.
-use Rattle.std.proofs.Common.{◌≡◌, ◌==◌, ℕ, ◌+◌, ◌<◌, ◌≤◌, List, [], ◌∷◌, ◌++◌, length, Bool, true, false, refl, sym, ◌∙◌, arith, inl, inr}
+use Rattle.std.proofs.Common.{◌≡◌, ◌==◌, ℕ, ◌+◌, ◌<◌, ◌≤◌, List, [], ◌∷◌, ◌++◌, length, Bool, true, false, refl, sym, ◌∙◌, subst, arith, inl, inr}
 use Rattle.std.proofs.lemmas.Bool.{eqb-true}
 use Rattle.field_values.specs.declared.numbers.UserNo.{UserNo}
 use Rattle.field_values.specs.declared.numbers.FieldNo.{FieldNo}
@@ -53,6 +53,13 @@ AreInOrder-append start began [] [] values change at author one greater later gr
 AreInOrder-append start began [] (y ∷ ys) values change at author one greater later group =
     (omega (arith, group.1), omega (arith, group.2), follow_group values (y.field.0 + 1) change at author y ys group.1 group.2 group.3 (omega arith) group.6)
 AreInOrder-append start began (x ∷ xs) ys values change at author one greater later group = (one.0, one.1, follow-append x xs ys values change at author one.2 greater later group)
+
+-- a history without entries
+pub IsHistory-new : (h : History) → h.entries ≡ [] → IsHistory h
+IsHistory-new h none = record {
+  changes = subst (λ (es : List Entry). AreChanges (opening_value h.opening) es) (sym none) tt;
+  order = subst (λ (es : List Entry). AreInOrder h.change h.at es) (sym none) tt;
+}
 
 -- the history with a group more
 pub IsHistory-add : (h : History) (change at : ℕ) (author : UserNo) (entries : List Entry) → IsHistory h → MayAdd h change at author entries → IsHistory (record h { entries = h.entries ++ entries })

@@ -1,13 +1,12 @@
 -- Where the entries of a field stand, as a history grows.
-use Rattle.std.proofs.Common.{◌≡◌, ◌==◌, ℕ, zero, suc, ◌+◌, ◌<◌, List, [], ◌∷◌, ◌++◌, length, take, Bool, true, false, nat_lt, Option, Some, None, refl, sym, ap, ◌∙◌, subst, arith, append_assoc, append-nil, length-append}
+use Rattle.std.proofs.Common.{◌≡◌, ◌==◌, ℕ, zero, suc, ◌+◌, List, [], ◌∷◌, ◌++◌, length, take, Bool, true, false, Option, Some, None, refl, sym, ap, ◌∙◌, subst, arith, append_assoc, append-nil, length-append}
 use Rattle.std.specs.Prelude.{slice_get, option_map, unwrap_or, if◌then◌else◌}
-use Rattle.std.proofs.lemmas.Bool.Decides.{nat_tests}
 use Rattle.field_values.specs.declared.numbers.FieldNo.{FieldNo}
 use Rattle.change_history.specs.declared.entry.Entry.{Entry}
 use Rattle.change_history.specs.declared.places.Place.{Place}
-use Rattle.change_history.specs.Before.{last_from, last_of, before_of, befores_from, entry_place}
-use Rattle.change_history.specs.Places.{place_of, set_place, places_after, befores_by, AreWithin}
-use Rattle.change_history.proofs.Placing.{place_of-set, place_of-within}
+use Rattle.change_history.specs.Before.{last_from, last_of, before_of, befores_from}
+use Rattle.change_history.specs.Places.{place_of, set_place, places_after, befores_by, ArePlaces}
+use Rattle.change_history.proofs.Placing.{place_of-set}
 
 -- ---- the last entry of a field
 
@@ -20,49 +19,41 @@ last_from-append found place (x ∷ xs) e f =
 last_of-more : (es : List Entry) (e : Entry) (f : FieldNo) → last_of (es ++ e ∷ []) f ≡ (if e.field.0 == f.0 then Some (length es) else last_of es f)
 last_of-more es e f = last_from-append None 0 es e f ∙ ap (λ k. if e.field.0 == f.0 then Some k else last_of es f) (omega arith)
 
-entry_place-here : (n m at : ℕ) → at ≡ n + m → entry_place n (Some at) ≡ Some m
-entry_place-here n m at is =
-    let behind : nat_lt at n ≡ false = grind (arith, nat_tests) in
-    rw behind (ap Some (omega arith))
+last_then : (n : ℕ) (es : List Entry) (ps : List Place) (f : FieldNo) (b : Bool) → n ≡ length es → ArePlaces es ps
+    → (if b then Some n else place_of ps f) ≡ (if b then Some (length es) else last_of es f)
+last_then n es ps f true is are = ap (λ k. Some k) is
+last_then n es ps f false is are = are.is f
 
-entry_place-opening : (n at : ℕ) → at < n → entry_place n (Some at) ≡ None
-entry_place-opening n at less =
-    let before : nat_lt at n ≡ true = grind (arith, nat_tests) in
-    rw before refl
-
--- the places show where the last entries of the fields stand
-pub record ShowLast (n : ℕ) (es : List Entry) (ps : List Place) : Type 0 where
-  pub is : (f : FieldNo) → entry_place n (place_of ps f) ≡ last_of es f
-
-last_then : (n first : ℕ) (es : List Entry) (ps : List Place) (f : FieldNo) (b : Bool) → first ≡ n + length es → ShowLast n es ps
-    → entry_place n (if b then Some first else place_of ps f) ≡ (if b then Some (length es) else last_of es f)
-last_then n first es ps f true is show = entry_place-here n (length es) first is
-last_then n first es ps f false is show = show.is f
-
-ShowLast-entry : (n first : ℕ) (es : List Entry) (ps : List Place) (e : Entry) → first ≡ n + length es → ShowLast n es ps → ShowLast n (es ++ e ∷ []) (set_place ps e.field first)
-ShowLast-entry n first es ps e is show = record {
-  is = λ f. ap (entry_place n) (place_of-set ps e.field f first) ∙ last_then n first es ps f (e.field.0 == f.0) is show ∙ sym (last_of-more es e f);
+places-entry : (n : ℕ) (es : List Entry) (ps : List Place) (e : Entry) → n ≡ length es → ArePlaces es ps
+    → ArePlaces (es ++ e ∷ []) (set_place ps e.field n)
+places-entry n es ps e is are = record {
+  is = λ f. place_of-set ps e.field f n ∙ last_then n es ps f (e.field.0 == f.0) is are ∙ sym (last_of-more es e f);
 }
 
-pub ShowLast-entries : (n first : ℕ) (es more : List Entry) (ps : List Place) → first ≡ n + length es → ShowLast n es ps → ShowLast n (es ++ more) (places_after ps first more)
-ShowLast-entries n first es [] ps is show = subst (λ (l : List Entry). ShowLast n l ps) (sym (append-nil es)) show
-ShowLast-entries n first es (e ∷ more) ps is show =
-    subst (λ (l : List Entry). ShowLast n l (places_after (set_place ps e.field first) (first + 1) more)) (append_assoc es (e ∷ []) more)
-    (ShowLast-entries n (first + 1) (es ++ e ∷ []) more (set_place ps e.field first) (omega (arith, length-append es (e ∷ []))) (ShowLast-entry n first es ps e is show))
+places-entries : (n : ℕ) (es more : List Entry) (ps : List Place) → n ≡ length es → ArePlaces es ps
+    → ArePlaces (es ++ more) (places_after ps n more)
+places-entries n es [] ps is are = subst (λ (l : List Entry). ArePlaces l ps) (sym (append-nil es)) are
+places-entries n es (e ∷ more) ps is are =
+    subst (λ (l : List Entry). ArePlaces l (places_after (set_place ps e.field n) (n + 1) more)) (append_assoc es (e ∷ []) more)
+    (places-entries (n + 1) (es ++ e ∷ []) more (set_place ps e.field n) (omega (arith, length-append es (e ∷ []))) (places-entry n es ps e is are))
+
+-- the places where there is no entry yet
+pub places-new : (es : List Entry) (ps : List Place) → es ≡ [] → ps ≡ [] → ArePlaces es ps
+places-new es ps no_entry no_place = record {
+  is = λ f. ap (λ (l : List Place). place_of l f) no_place ∙ ap (λ (l : List Entry). last_of l f) (sym no_entry);
+}
+
+-- the places after a group's entries
+pub places-add : (n : ℕ) (es more all : List Entry) (ps new : List Place) → n ≡ length es → all ≡ es ++ more → new ≡ places_after ps n more
+    → ArePlaces es ps → ArePlaces all new
+places-add n es more all ps new is all_are new_are are =
+    subst (λ (l : List Entry). ArePlaces l new) (sym all_are) (subst (λ (l : List Place). ArePlaces (es ++ more) l) (sym new_are) (places-entries n es more ps is are))
 
 -- and so, for each new entry, where the one before it stands
-pub befores_by-is : (n first : ℕ) (es more : List Entry) (ps : List Place) → first ≡ n + length es → ShowLast n es ps → befores_by ps n first more ≡ befores_from es more
-befores_by-is n first es [] ps is show = refl
-befores_by-is n first es (e ∷ more) ps is show =
-    λ i. show.is e.field i ∷ befores_by-is n (first + 1) (es ++ e ∷ []) more (set_place ps e.field first) (omega (arith, length-append es (e ∷ []))) (ShowLast-entry n first es ps e is show) i
-
-opened_last : (n : ℕ) (ps : List Place) (f : FieldNo) (o : Option ℕ) → AreWithin n ps → place_of ps f ≡ o → entry_place n o ≡ None
-opened_last n ps f None within is = refl
-opened_last n ps f (Some at) within is = entry_place-opening n at (place_of-within n ps f at within is)
-
--- no place of an opening value is an entry's
-pub ShowLast-open : (n : ℕ) (ps : List Place) → AreWithin n ps → ShowLast n [] ps
-ShowLast-open n ps within = record { is = λ f. opened_last n ps f (place_of ps f) within refl }
+befores_by-is : (n : ℕ) (es more : List Entry) (ps : List Place) → n ≡ length es → ArePlaces es ps → befores_by ps n more ≡ befores_from es more
+befores_by-is n es [] ps is are = refl
+befores_by-is n es (e ∷ more) ps is are =
+    λ i. are.is e.field i ∷ befores_by-is (n + 1) (es ++ e ∷ []) more (set_place ps e.field n) (omega (arith, length-append es (e ∷ []))) (places-entry n es ps e is are) i
 
 -- ---- the notes of all entries
 
@@ -73,10 +64,13 @@ befores_from-append es (x ∷ xs) ys =
     ∙ ap (λ l. befores_from (es ++ x ∷ []) xs ++ befores_from l ys) (append_assoc es (x ∷ []) xs))
 
 -- the notes after a group's entries
-pub befores-add : (n first : ℕ) (entries more : List Entry) (ps : List Place) (befores : List (Option ℕ)) → first ≡ n + length entries → ShowLast n entries ps → befores ≡ befores_from [] entries
-    → befores ++ befores_by ps n first more ≡ befores_from [] (entries ++ more)
-befores-add n first entries more ps befores is show are =
-    (λ i. are i ++ befores_by-is n first entries more ps is show i) ∙ sym (befores_from-append [] entries more)
+pub befores-add : (n : ℕ) (es more all : List Entry) (ps : List Place) (befores new : List (Option ℕ)) → n ≡ length es → all ≡ es ++ more
+    → new ≡ befores ++ befores_by ps n more → ArePlaces es ps → befores ≡ befores_from [] es → new ≡ befores_from [] all
+befores-add n es more all ps befores new is all_are new_are places are =
+    new_are
+    ∙ (λ i. are i ++ befores_by-is n es more ps is places i)
+    ∙ sym (befores_from-append [] es more)
+    ∙ ap (befores_from []) (sym all_are)
 
 get-befores : (es xs : List Entry) (k : ℕ) → slice_get (befores_from es xs) k ≡ option_map (λ (e : Entry). last_of (es ++ take k xs) e.field) (slice_get xs k)
 get-befores es [] k = refl

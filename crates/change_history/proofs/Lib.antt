@@ -1,4 +1,4 @@
 pub mod Adding
 pub mod Placing
 pub mod Befores
-pub mod Keeping
+pub mod Present

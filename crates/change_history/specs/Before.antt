@@ -1,5 +1,5 @@
 -- The entries of a field, from the last to the first.
-use Rattle.std.specs.Prelude.{ℕ, ◌+◌, ◌-◌, ◌==◌, nat_lt, List, [], ◌∷◌, ◌++◌, take, Option, Some, None, if◌then◌else◌}
+use Rattle.std.specs.Prelude.{ℕ, ◌+◌, ◌==◌, List, [], ◌∷◌, ◌++◌, take, Option, Some, None, if◌then◌else◌}
 use Rattle.field_values.specs.declared.numbers.FieldNo.{FieldNo}
 use Rattle.change_history.specs.declared.entry.Entry.{Entry}
 
@@ -21,8 +21,3 @@ before_of entries (Some e) k = last_of (take k entries) e.field
 abbrev pub befores_from : List Entry → List Entry → List (Option ℕ)
 befores_from entries [] = []
 befores_from entries (e ∷ es) = last_of entries e.field ∷ befores_from (entries ++ e ∷ []) es
-
--- the entry's place, where a value's place is one among those of so many opening values and of the entries behind them
-abbrev pub entry_place : ℕ → Option ℕ → Option ℕ
-entry_place opening None = None
-entry_place opening (Some at) = if nat_lt at opening then None else Some (at - opening)

@@ -2,3 +2,4 @@ pub mod History
 pub mod Places
 pub mod Span
 pub mod Before
+pub mod Kept

@@ -1,13 +1,13 @@
 ghost use Rattle.std.specs.Prelude.{◌≡◌, ◌≤◌, ◌+◌, ◌-◌, ◌^◌, ◌<◌, ◌++◌, ◌∷◌, length, vec_len, vec_capacity, IfOk, OnOk, OnErr, option_copied, option_map, unwrap_or, slice_get, [], take, drop, None};
 ghost use Rattle.change_history.specs.History.{History, present, opening_value, updated, MayAdd};
 ghost use Rattle.change_history.specs.Span.{entries_of, span_of};
-ghost use Rattle.change_history.specs.Places.{place_of, set_place, places_after, befores_by, value_at};
-ghost use Rattle.change_history.specs.Before.{last_of, before_of, entry_place};
+ghost use Rattle.change_history.specs.Places.{places_after, befores_by, value_at};
+ghost use Rattle.change_history.specs.Before.{last_of, before_of};
 
 use crate::change::{Change, Changes};
 use crate::entry::{Entry, Group};
 use crate::key::Key;
-use crate::places::{Place, entry_place, opening_places, place_of, set_place};
+use crate::places::{Place, place_of, set_place};
 use crate::span::Span;
 use field_values::{FieldNo, IssueNo, Memory, Moment, UserNo, Value};
 use std::alloc::Global;
@@ -23,6 +23,7 @@ pub struct Issue {
     updated: Moment,
     opening: Vec<Change>,
     entries: Vec<Entry>,
+    // Of each field that entries changed, where its last entry stands.
     places: Vec<Place>,
     // For each entry, where the last entry of its field before it stands.
     befores: Vec<Option<usize>>,
@@ -52,15 +53,15 @@ impl Drop for Issue {
 }
 
 impl Model for Issue {
-    ghost use Rattle.std.specs.Prelude.{◌+◌, vec_len, vec_capacity};
     ghost use Rattle.change_history.specs.History.{RoomyHistory};
-    ghost use Rattle.change_history.specs.Places.{IsKept};
 
     ghost Value = { RoomyHistory };
 
-    ghost view = { λ i. record { history = record { no = i.no; key = i.key; change = i.change; at = i.at; author = i.author; opening = i.opening.items; entries = i.entries.items }; room = i.room } };
+    ghost use Rattle.change_history.specs.Kept.{roomy_history, IsKept};
 
-    ghost invariant = { λ i. IsKept i.opening.items i.entries.items i.places.items i.befores.items i.empty i.updated (vec_len i.entries + i.room) (vec_capacity i.entries) (vec_len i.places + i.room) (vec_capacity i.places) (vec_len i.befores + i.room) (vec_capacity i.befores) (record { no = i.no; key = i.key; change = i.change; at = i.at; author = i.author; opening = i.opening.items; entries = i.entries.items }) };
+    ghost view = { roomy_history };
+
+    ghost invariant = { IsKept };
 }
 
 impl Issue {
@@ -75,10 +76,17 @@ impl Issue {
         author: UserNo,
         values: Changes,
     ) -> Result<Issue, Memory>
-        ensures history { IfOk result (λ issue. issue.history ≡ record { no = no; key = key; change = change; at = at; author = author; opening = values; entries = [] }) }
+        ensures history { IfOk result (λ issue. issue.history ≡ record {
+          no = no;
+          key = key;
+          change = change;
+          at = at;
+          author = author;
+          opening = values;
+          entries = [];
+        }) }
         ensures room { IfOk result (λ issue. issue.room ≡ 0) }
     {
-        let places = opening_places(alloc, values.as_slice())?;
         Ok(Issue {
             no,
             key,
@@ -88,7 +96,7 @@ impl Issue {
             updated: at,
             opening: values.list,
             entries: Vec::new(alloc),
-            places,
+            places: Vec::new(alloc),
             befores: Vec::new(alloc),
             room: 0,
             empty: Value::Empty,
@@ -141,9 +149,9 @@ impl Issue {
     pub fn value(&self, field: FieldNo) -> &Value
         ensures { result.now ≡ present self.now.history field }
     {
-        match place_of(&self.places, field) {
-            Some(at) => value_at(&self.opening, &self.entries, at).unwrap_or(&self.empty),
-            None => &self.empty,
+        match self.last_entry(field) {
+            Some(at) => value_at(&self.entries, at),
+            None => self.opening(field),
         }
     }
 
@@ -158,13 +166,14 @@ impl Issue {
     pub fn last_entry(&self, field: FieldNo) -> Option<usize>
         ensures { result ≡ last_of self.now.history.entries field }
     {
-        entry_place(self.opening.len(), place_of(&self.places, field))
+        place_of(&self.places, field)
     }
 
     /// Where the last entry before entry k stands that changes the same field; `None` exactly where none does, or where there is
     /// no entry k. No entry of another field is looked at.
     pub fn entry_before(&self, k: usize) -> Option<usize>
-        ensures { result ≡ before_of self.now.history.entries (slice_get self.now.history.entries k) k }
+        ensures { result
+            ≡ before_of self.now.history.entries (slice_get self.now.history.entries k) k }
     {
         note_at(&self.befores, k)
     }
@@ -193,7 +202,12 @@ impl Issue {
     /// Span k of a field: span 0 begins at the creation, and span k at the field's k-th entry. `None` exactly where the
     /// field has fewer than k entries.
     pub fn span(&self, field: FieldNo, k: usize) -> Option<Span<'_>>
-        ensures { option_map (λ s. record { begin = s.begin; end = s.end; author = s.author; value = s.value.now }) result ≡ span_of self.now.history field k }
+        ensures { option_map (λ s. record {
+          begin = s.begin;
+          end = s.end;
+          author = s.author;
+          value = s.value.now;
+        }) result ≡ span_of self.now.history field k }
     {
         let end = entry_of(&self.entries, field, k).map(|entry| entry.at);
         if k == 0 {
@@ -230,21 +244,15 @@ impl Issue {
     pub fn add(&mut self, group: Group)
         requires room { length group.entries ≤ self.old.room }
         requires group { MayAdd self.old.history group.change group.at group.author group.entries }
-        ensures history { self.new.history ≡ record self.old.history { entries = self.old.history.entries ++ group.entries } }
+        ensures history { self.new.history
+            ≡ record self.old.history { entries = self.old.history.entries ++ group.entries } }
         ensures room { self.new.room ≡ self.old.room - length group.entries }
     {
         let entries = group.entries.list;
         self.room -= entries.len();
         self.updated = group.at;
-        let opening = self.opening.len();
-        let first = opening + self.entries.len();
-        put_befores(
-            &mut self.befores,
-            &mut self.places,
-            opening,
-            first,
-            &entries,
-        );
+        let first = self.entries.len();
+        put_befores(&mut self.befores, &mut self.places, first, &entries);
         append_all(&mut self.entries, entries);
     }
 }
@@ -271,20 +279,15 @@ fn front(entries: &[Entry], count: usize) -> &[Entry]
     first
 }
 
-// The value at a place.
-fn value_at<'a>(opening: &'a [Change], entries: &'a [Entry], at: usize) -> Option<&'a Value>
-    ensures { option_copied result ≡ value_at opening.now entries.now at }
+// What the entry at a place had its field hold.
+fn value_at(entries: &[Entry], at: usize) -> &Value
+    requires { at < length entries.now }
+    ensures { result.now ≡ value_at entries.now at }
 {
-    match opening.get(at) {
-        Some(change) => Some(&change.to),
-        None => match entries.get(at - opening.len()) {
-            Some(entry) => Some(&entry.to),
-            None => None,
-        },
-    }
+    &entries[at].to
 }
 
-fn opening_value<'a>(opening: &'a [Change], field: FieldNo) -> Option<&'a Value>
+fn opening_value(opening: &[Change], field: FieldNo) -> Option<&Value>
     ensures { unwrap_or (option_copied result) Value.Empty ≡ opening_value opening.now field }
 {
     for change in opening {
@@ -326,7 +329,6 @@ fn note_at(befores: &[Option<usize>], k: usize) -> Option<usize>
 fn put_befores(
     befores: &mut Vec<Option<usize>>,
     places: &mut Vec<Place>,
-    opening: usize,
     first: usize,
     entries: &[Entry],
 )
@@ -336,25 +338,15 @@ fn put_befores(
     ensures items { places.new.items ≡ places_after places.old.items first entries.now }
     ensures len { vec_len places.new ≤ vec_len places.old + length entries.now }
     ensures capacity { vec_capacity places.old ≤ vec_capacity places.new }
-    ensures befores_items { befores.new.items ≡ befores.old.items ++ befores_by places.old.items opening first entries.now }
+    ensures befores_items { befores.new.items
+        ≡ befores.old.items ++ befores_by places.old.items first entries.now }
     ensures befores_len { vec_len befores.new ≡ vec_len befores.old + length entries.now }
     ensures befores_capacity { vec_capacity befores.old ≤ vec_capacity befores.new }
 {
     for (index, entry) in entries.iter().enumerate() {
-        put_before(befores, entry_place(opening, place_of(places, entry.field)));
+        befores.push_reserved(place_of(places, entry.field));
         set_place(places, entry.field, first + index);
     }
-}
-
-fn put_before(befores: &mut Vec<Option<usize>>, before: Option<usize>)
-    requires { vec_len befores.old + 1 ≤ vec_capacity befores.old }
-    ensures items { befores.new.items ≡ befores.old.items ++ before ∷ [] }
-    ensures len { vec_len befores.new ≡ vec_len befores.old + 1 }
-    ensures capacity { vec_capacity befores.old ≤ vec_capacity befores.new }
-{
-    let Ok(()) = befores.push(before) else {
-        unreachable!()
-    };
 }
 
 // Puts the entries at the end, where there is room.

@@ -6,4 +6,4 @@ pub returns-in-Some-clause-items : goal.returns-in-Some-clause-items
 returns-in-Some-clause-items c = set_place-found _ _ _ _ (rw c.deref.ensures.value at (sym c.in-Some.ensures.index))
 
 pub returns-in-None-clause-items : goal.returns-in-None-clause-items
-returns-in-None-clause-items c = c.put_place.ensures.items ∙ set_place-new _ _ _ (rw c.deref.ensures.value at (sym c.in-None.ensures.index))
+returns-in-None-clause-items c = c.push_reserved.ensures.items ∙ set_place-new _ _ _ (rw c.deref.ensures.value at (sym c.in-None.ensures.index))
