@@ -45,6 +45,13 @@ impl Changes {
         })
     }
 
+    /// The changes of a list.
+    pub fn of(list: Vec<Change>) -> Self
+        ensures { result ≡ list.items }
+    {
+        Changes { list }
+    }
+
     /// Puts one more at the end, or leaves the changes as they are.
     pub fn push(&mut self, change: Change) -> Result<(), Memory>
         ensures ok { OnOk result (self.new ≡ self.old ++ change ∷ []) }

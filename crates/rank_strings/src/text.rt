@@ -33,4 +33,11 @@ impl Text {
     {
         self.text.as_str()
     }
+
+    /// The text as a `String`, given away.
+    pub fn into_string(self) -> String
+        ensures { string_bytes result ≡ self }
+    {
+        self.text
+    }
 }

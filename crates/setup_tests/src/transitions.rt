@@ -238,7 +238,7 @@ fn comes_to_net(alloc: Global, setup: &Setup) -> Option<bool> {
     let issue = issue(alloc, setup, "OPS", OPENING)?;
     let inputs = changes(alloc, setup, EDIT)?;
     let fits = refused_input(setup, inputs.as_slice()).is_none();
-    let net = net_changes(alloc, &issue, inputs).ok()?;
+    let net = net_changes(&issue, inputs);
     Some(fits && are_changes(alloc, setup, net.as_slice(), NET))
 }
 

@@ -68,7 +68,8 @@ fn first_failing(
     conditions: &[Condition],
 ) -> Option<usize>
     ensures place { result
-        ≡ position (λ condition. not (condition_holds (parts setup.now) issue.now.history caller condition)) conditions.now }
+        ≡ position (λ condition. not
+        (condition_holds (parts setup.now) issue.now.history caller condition)) conditions.now }
     ensures within { IfSome result (λ place. place < length conditions.now) }
 {
     conditions.iter().position(|condition| !condition_holds(setup, issue, caller, condition))

@@ -36,7 +36,8 @@ fn least_refused(setup: &Setup, inputs: &[Change]) -> Option<u16>
 
 /// The first field, by number, whose input is of the status or doesn't fit; `None` exactly where there is none.
 pub fn refused_input(setup: &Setup, inputs: &[Change]) -> Option<FieldNo>
-    ensures { option_map (λ no. no.0) result ≡ refused_input (names_in (parts setup.now)) inputs.now }
+    ensures { option_map (λ no. no.0) result
+        ≡ refused_input (names_in (parts setup.now)) inputs.now }
 {
     match least_refused(setup, inputs) {
         Some(no) => Some(FieldNo(no)),

@@ -18,4 +18,5 @@ pub use inputs::refused_input;
 pub use net::net_changes;
 pub use planning::{plan, planned};
 pub use project::project_number;
+pub use same::{is_empty, is_same};
 pub use validators::failing_validator;

@@ -80,7 +80,8 @@ fn first_fault(
     inputs: &[Change],
     at: Moment,
 ) -> Option<PlanFault>
-    ensures { result ≡ first_fault (parts setup.now) issue.now.history caller transition.now inputs.now at }
+    ensures { result
+        ≡ first_fault (parts setup.now) issue.now.history caller transition.now inputs.now at }
 {
     if let Some(place) = failing_condition(setup, issue, caller, transition) {
         return Some(PlanFault::Condition(place));
@@ -104,7 +105,8 @@ fn plan_of(
     inputs: Vec<Change>,
     at: Moment,
 ) -> Result<Vec<Change>, PlanFault>
-    ensures { Answers (first_fault (parts setup.now) issue.now.history caller transition.now inputs.items at)
+    ensures { Answers
+        (first_fault (parts setup.now) issue.now.history caller transition.now inputs.items at)
         (planned (parts setup.now) issue.now.history caller transition.now inputs.items) result }
 {
     if let Some(fault) = first_fault(setup, issue, caller, transition, inputs.as_slice(), at) {
@@ -128,5 +130,5 @@ pub fn planned(
         ≡ planned (parts setup.now) issue.now.history caller transition.now inputs.items) }
 {
     let changes = all_changes(alloc, setup, issue, caller, transition, inputs)?;
-    net_changes(alloc, issue, changes)
+    Ok(net_changes(issue, changes))
 }

@@ -5,13 +5,14 @@ ghost use Rattle.workflow.specs.Same.{same_value, is_empty};
 use fields::Value;
 
 /// Whether both are the same value.
-pub(crate) fn is_same(one: &Value, other: &Value) -> bool
+pub fn is_same(one: &Value, other: &Value) -> bool
     ensures { result ≡ same_value one.now other.now }
 {
     one.is_same(other)
 }
 
-pub(crate) fn is_empty(value: &Value) -> bool
+/// Whether a field that holds this holds nothing.
+pub fn is_empty(value: &Value) -> bool
     ensures { result ≡ is_empty value.now }
 {
     match value {

@@ -29,7 +29,8 @@ fn validator_holds(
     at: Moment,
     validator: Validator,
 ) -> bool
-    ensures { result ≡ validator_holds (parts setup.now) issue.now.history caller inputs.now at validator }
+    ensures { result
+        ≡ validator_holds (parts setup.now) issue.now.history caller inputs.now at validator }
 {
     match validator {
         Validator::Required(field) => !is_empty(value_after(issue, inputs, field)),
@@ -52,7 +53,8 @@ fn first_failing(
     validators: &[Validator],
 ) -> Option<usize>
     ensures place { result ≡ position (λ validator. not
-        (validator_holds (parts setup.now) issue.now.history caller inputs.now at validator)) validators.now }
+        (validator_holds (parts setup.now) issue.now.history caller inputs.now at validator))
+        validators.now }
     ensures within { IfSome result (λ place. place < length validators.now) }
 {
     validators.iter().position(|validator| !validator_holds(
@@ -70,7 +72,8 @@ pub fn failing_validator(
     inputs: &[Change],
     at: Moment,
 ) -> Option<usize>
-    ensures { result ≡ failing_validator (parts setup.now) issue.now.history caller transition.now inputs.now at }
+    ensures { result ≡ failing_validator (parts setup.now) issue.now.history caller transition.now
+        inputs.now at }
 {
     let validators = transition.validators.as_slice();
     match first_failing(setup, issue, caller, inputs, at, validators) {

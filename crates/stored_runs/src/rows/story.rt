@@ -123,7 +123,7 @@ fn add(
 ) -> Result<(), Fault>
     requires { updated issue.old.history ≤ at }
 {
-    let net = news_of(alloc, issue, changes)?;
+    let net = news_of(issue, changes);
     if net.as_slice().is_empty() {
         return Ok(());
     }
@@ -133,10 +133,10 @@ fn add(
     Ok(())
 }
 
-fn news_of(alloc: Global, issue: &Issue, changes: Vec<Change>) -> Result<Vec<Change>, Memory>
-    ensures { IfOk result (λ net. AreNews (present issue.now.history) 0 net.items) }
+fn news_of(issue: &Issue, changes: Vec<Change>) -> Vec<Change>
+    ensures { AreNews (present issue.now.history) 0 result.items }
 {
-    net_changes(alloc, issue, changes)
+    net_changes(issue, changes)
 }
 
 // The change group of what differs, which the issue may add.
