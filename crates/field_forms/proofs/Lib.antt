@@ -3,6 +3,7 @@ pub mod Finding
 pub mod Fitting
 pub mod Floats
 pub mod Labels
+pub mod JsonTexts
 pub mod Sizes
 pub mod Fits
 pub mod SoundRules

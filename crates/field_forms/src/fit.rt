@@ -1,5 +1,5 @@
 // Whether a value may stand in a field.
-ghost use Rattle.std.specs.Prelude.{◌≡◌, length};
+ghost use Rattle.std.specs.Prelude.{◌≡◌};
 ghost use Rattle.field_forms.specs.Known.{names_of, AreFew, may_be_empty, fits};
 ghost use Rattle.field_forms.specs.Numbers.{is_number};
 ghost use Rattle.field_forms.specs.Values.{is_set, is_label_list, is_of_form};

@@ -1,9 +1,14 @@
 // What a field may hold, and the values that texts stand for.
-ghost use Rattle.std.specs.Prelude.{◌≡◌, ◌≤◌, ◌<◌, ◌||◌, ◌==◌, [], length, IfOk, OnOk, IfSome, position, nat_le, not, option_map, option_and_then, Some};
+ghost use Rattle.std.specs.Prelude.{◌≡◌, ◌≤◌, ◌<◌, ◌||◌, ◌==◌, [], length, IfOk, OnOk, IfSome};
+ghost use Rattle.std.specs.Prelude.{position, nat_le, not, Some};
 ghost use Rattle.std.specs.List.{list_all, list_any};
 ghost use Rattle.std.specs.Str.{bytes_eq};
 ghost use Rattle.field_forms.specs.Names.{is_among};
-ghost use Rattle.field_forms.specs.Values.{is_line, is_prose, is_label, is_before, place_for, with_label, with_labels, are_labels, labels_value, chosen, set_value, sprint_of, points_of, set_in, label_list_of, value_in, listed_set, listed_labels, listed_in};
+ghost use Rattle.field_forms.specs.Values.{is_line, is_prose, is_label, is_before, place_for};
+ghost use Rattle.field_forms.specs.Values.{with_label, with_labels, are_labels, labels_value};
+ghost use Rattle.field_forms.specs.Values.{chosen, set_value, sprint_of, points_of, set_in};
+ghost use Rattle.field_forms.specs.Values.{label_list_of, value_in, listed_set, listed_labels};
+ghost use Rattle.field_forms.specs.Values.{listed_in};
 
 use crate::name_form::{has_controls, is_among, place_of};
 use crate::number_text::{is_numeral, number_of};

@@ -1,9 +1,11 @@
 // The names that a text of the setup, or a value, may name.
-ghost use Rattle.std.specs.Prelude.{◌≡◌, ◌≢◌, ◌≤◌, ◌==◌, true, length, IfOk, IfSome, option_map, Some};
+ghost use Rattle.std.specs.Prelude.{◌≡◌, ◌≢◌, ◌≤◌, ◌==◌, true, length, IfOk, IfSome, option_map};
+ghost use Rattle.std.specs.Prelude.{Some};
 ghost use Rattle.std.specs.List.{find, list_all};
-ghost use Rattle.std.specs.Str.{str_eq_ignore_ascii_case};
 ghost use Rattle.field_forms.specs.Known.{has_few_options};
-ghost use Rattle.field_forms.specs.Known.{names_of, AreFew, own_field, own_field_named, field_named, form_of, form_by, own_choices, choices_of, value_of, fits, listed_value_of};
+ghost use Rattle.field_forms.specs.Known.{names_of, AreFew, own_field, own_field_named};
+ghost use Rattle.field_forms.specs.Known.{field_named, form_of, form_by, own_choices, choices_of};
+ghost use Rattle.field_forms.specs.Known.{value_of, fits, listed_value_of};
 ghost use Rattle.field_forms.specs.Names.{AreDistinct};
 ghost use Rattle.field_forms.specs.ValueTexts.{IsTextOf, IsReadBack};
 
@@ -167,7 +169,8 @@ pub fn value_of(
 ) -> Result<Option<Value>, Memory>
     requires { AreFew (names_of known.now) }
     ensures value { IfOk result (λ value. value ≡ value_of (names_of known.now) field.0 text.now) }
-    ensures fits { IfOk result (λ value. IfSome value (λ v. fits (names_of known.now) field.0 v ≡ true)) }
+    ensures fits { IfOk result (λ value. IfSome value (λ v.
+        fits (names_of known.now) field.0 v ≡ true)) }
 {
     read_value(alloc, known, field, text)
 }
@@ -199,7 +202,8 @@ fn read_list(
     texts: &[Text],
 ) -> Result<Option<Value>, Memory>
     requires { AreFew (names_of known.now) }
-    ensures { IfOk result (λ value. value ≡ listed_value_of (names_of known.now) field.0 texts.now) }
+    ensures { IfOk result (λ value. value
+        ≡ listed_value_of (names_of known.now) field.0 texts.now) }
 {
     match form_of(known.fields, field) {
         Some(form) => listed_in(alloc, form, choices_of(known, field), texts),
@@ -215,8 +219,10 @@ pub fn listed_value_of(
     texts: &[Text],
 ) -> Result<Option<Value>, Memory>
     requires { AreFew (names_of known.now) }
-    ensures value { IfOk result (λ value. value ≡ listed_value_of (names_of known.now) field.0 texts.now) }
-    ensures fits { IfOk result (λ value. IfSome value (λ v. fits (names_of known.now) field.0 v ≡ true)) }
+    ensures value { IfOk result (λ value. value
+        ≡ listed_value_of (names_of known.now) field.0 texts.now) }
+    ensures fits { IfOk result (λ value. IfSome value (λ v.
+        fits (names_of known.now) field.0 v ≡ true)) }
 {
     read_list(alloc, known, field, texts)
 }

@@ -1,6 +1,8 @@
 //! What is proved of all texts and values. These functions do nothing: each clause is a law.
-ghost use Rattle.field_forms.specs.SoundRules.{ConditionsAreSound, ValidatorsAreSound, PostFunctionsAreSound};
-ghost use Rattle.field_forms.specs.ReadBack.{SetsAreReadBack, LabelsAreReadBack, ListedValuesAreReadBack};
+ghost use Rattle.field_forms.specs.SoundRules.{ConditionsAreSound, ValidatorsAreSound};
+ghost use Rattle.field_forms.specs.SoundRules.{PostFunctionsAreSound};
+ghost use Rattle.field_forms.specs.ReadBack.{SetsAreReadBack, LabelsAreReadBack};
+ghost use Rattle.field_forms.specs.ReadBack.{ListedValuesAreReadBack};
 
 /// A rule that a text states names groups and fields that are there, and sets a field only to a value that fits it.
 pub fn rules_are_sound()

@@ -5,6 +5,7 @@ pub mod built_in;
 pub mod cut;
 pub mod fit;
 pub mod form;
+pub mod json_text;
 pub mod known;
 pub mod laws;
 pub mod name_form;

@@ -1,11 +1,12 @@
 // The forms of names.
-ghost use Rattle.std.specs.Prelude.{◌≡◌, not, codes};
-ghost use Rattle.std.specs.List.{list_all, list_any};
+ghost use Rattle.std.specs.Prelude.{◌≡◌, codes};
+ghost use Rattle.std.specs.List.{list_all};
 ghost use Rattle.std.specs.Char.{is_control};
 ghost use Rattle.std.specs.Int.{is_in_range};
 ghost use Rattle.std.specs.Str.{chars, str_eq_ignore_ascii_case};
 ghost use Rattle.field_forms.specs.NameForms.{is_numbered_field, has_form};
-ghost use Rattle.field_forms.specs.Names.{has_controls, is_name, is_title, is_user_name, is_user_byte, is_project_key, place_named, is_among};
+ghost use Rattle.field_forms.specs.Names.{has_controls, is_name, is_title, is_user_name};
+ghost use Rattle.field_forms.specs.Names.{is_user_byte, is_project_key, place_named, is_among};
 
 use crate::built_in::is_field_word;
 use field_values::digits::are_digits;

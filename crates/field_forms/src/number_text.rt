@@ -1,6 +1,8 @@
 // Numbers in thousandths, and their texts.
-ghost use Rattle.std.specs.Prelude.{◌≡◌, ◌≤◌, ◌<◌, length, string_bytes, IfOk, ◌==◌, ◌++◌, position, IfSome, OnOk};
-ghost use Rattle.field_forms.specs.Numbers.{is_numeral, whole_of, fraction_of, sum_of, size_of, number_of, number_text, fraction_text, sign_of};
+ghost use Rattle.std.specs.Prelude.{◌≡◌, ◌≤◌, ◌<◌, length, string_bytes, IfOk, ◌==◌, ◌++◌};
+ghost use Rattle.std.specs.Prelude.{position, IfSome, OnOk};
+ghost use Rattle.field_forms.specs.Numbers.{is_numeral, whole_of, fraction_of, sum_of, size_of};
+ghost use Rattle.field_forms.specs.Numbers.{number_of, number_text, fraction_text};
 
 use field_values::digits::{are_digits, value_of_digits};
 use field_values::memory::Memory;
@@ -96,7 +98,8 @@ pub(crate) fn number_of(text: &str) -> Option<i64>
 /// Writes thousandths after the point, without zeros at their end, behind a text.
 fn push_fraction(text: &mut String, thousandths: u64) -> Result<(), AllocError>
     requires { thousandths < 1000 }
-    ensures { OnOk result (string_bytes text.new ≡ string_bytes text.old ++ fraction_text thousandths) }
+    ensures { OnOk result (string_bytes text.new
+        ≡ string_bytes text.old ++ fraction_text thousandths) }
 {
     let tenths = thousandths / 100;
     let hundredths = thousandths / 10 % 10;

@@ -1,7 +1,10 @@
 // The texts of conditions, validators and post functions.
-ghost use Rattle.std.specs.Prelude.{◌≡◌, ◌≤◌, ◌∷◌, [], length, IfOk, option_map};
+ghost use Rattle.std.specs.Prelude.{◌≡◌, ◌∷◌, [], IfOk, option_map};
 ghost use Rattle.field_forms.specs.Known.{names_of, AreFew};
-ghost use Rattle.field_forms.specs.Rules.{permission_of, named_test, test_of, all_tests, any_of, tests_of, condition_of, named_validator, validator_of, is_settable, settable_named, setting_of, assignee_of, named_post, post_of};
+ghost use Rattle.field_forms.specs.Rules.{permission_of, named_test, test_of, all_tests, any_of};
+ghost use Rattle.field_forms.specs.Rules.{tests_of, condition_of, named_validator, validator_of};
+ghost use Rattle.field_forms.specs.Rules.{is_settable, settable_named, setting_of, assignee_of};
+ghost use Rattle.field_forms.specs.Rules.{named_post, post_of};
 
 use crate::cut::{cut_at, pieces_at};
 use crate::known::{Known, field_named, value_of};

@@ -9,8 +9,8 @@ use field_values::text::Text;
 use serde_json::Value;
 use std::alloc::Global;
 
-/// The texts of an array of texts.
-fn texts_of(alloc: Global, value: &Value) -> Result<Option<Names>, Memory>
+/// The texts of an array of texts; `None` where the value is none.
+pub fn texts_of(alloc: Global, value: &Value) -> Result<Option<Names>, Memory>
     ensures { IfOk result (λ texts. texts ≡ texts_of (view value.now)) }
 {
     let Some(items) = value.as_array() else {

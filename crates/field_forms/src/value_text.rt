@@ -1,5 +1,6 @@
 // The texts of values.
-ghost use Rattle.std.specs.Prelude.{◌≡◌, ◌≢◌, ◌<◌, ◌∷◌, ◌++◌, [], true, length, IfOk, OnOk, decimal, slice_get, option_map};
+ghost use Rattle.std.specs.Prelude.{◌≡◌, ◌≢◌, ◌<◌, ◌∷◌, ◌++◌, [], true, length, IfOk, OnOk};
+ghost use Rattle.std.specs.Prelude.{decimal, slice_get, option_map};
 ghost use Rattle.serde_json.specs.View.{view};
 ghost use Rattle.civil_dates.specs.DateText.{date_text};
 ghost use Rattle.civil_dates.specs.Days.{is_day};
