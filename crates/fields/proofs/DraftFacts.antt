@@ -1,5 +1,5 @@
 -- What a draft without faults keeps of its keys.
-use Rattle.std.proofs.Common.{◌≡◌, ◌≢◌, ℕ, ◌≤◌, ◌==◌, List, [], ◌∷◌, ◌++◌, length, map, get_or, true, false, Bool, ◌&&◌, nat_lt, nat_le, Option, Some, None, refl, arith, ℤ, pos, int_le, unsigned_abs, decimal, codes}
+use Rattle.std.proofs.Common.{◌≡◌, ◌≢◌, ℕ, ◌==◌, List, [], ◌∷◌, ◌++◌, length, map, get_or, true, false, Bool, ◌&&◌, nat_lt, nat_le, Option, Some, None, refl, arith, ℤ, pos, int_le, unsigned_abs, decimal, codes}
 use Rattle.std.specs.List.{list_all, list_any, AllPairs, All}
 use Rattle.std.proofs.lemmas.Int.{ints}
 use Rattle.std.proofs.lemmas.List.{append_assoc, append-nil, map-append}
@@ -27,7 +27,7 @@ use Rattle.setup_drafts.specs.Statuses.{status_fault, status_of}
 use Rattle.setup_drafts.specs.Transitions.{transition_fault, transition_draft}
 use Rattle.setup_drafts.specs.Drafts.{draft_fault, head_fault, lists_fault, lists_of, rights_fault, tables_fault, groups_fault, groups_of, projects_fault, projects_of, statuses_fault, statuses_of, transitions_fault, transitions_of, fields_fault, fields_of}
 use Rattle.fields.specs.Sound.{IsNameList, has_own_number, HasOptions}
-use Rattle.fields.proofs.Facts.{none_first, none_second, not_faulty, IsNewName, new_name, IsCounted, names_right, optional_right, names_enough, rules_few, tables_right, entries_right, each_entry, each_entry_is, map_map, all_mapped}
+use Rattle.fields.proofs.Facts.{none_first, none_second, not_faulty, IsNewName, new_name, names_right, optional_right, names_enough, rules_few, tables_right, entries_right, each_entry, each_entry_is, map_map, all_mapped}
 
 -- the name of an entry without a fault
 group_name : (earlier : List (List ℕ)) (e : Members) → group_fault earlier e ≡ None → IsNewName Plain earlier ((group_draft e).name)

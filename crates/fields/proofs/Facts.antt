@@ -1,6 +1,6 @@
 -- What a setup without faults keeps: names are distinct, and entries are of their form.
-use Rattle.std.proofs.Common.{◌≡◌, ℕ, zero, suc, ◌+◌, ◌<◌, ◌≤◌, List, [], ◌∷◌, ◌++◌, length, map, get_or, Bool, true, false, not, nat_lt, is_some, Option, Some, None, option_map, refl, ap, inl, inr, arith, subst}
-use Rattle.std.specs.List.{list_all, list_any, All}
+use Rattle.std.proofs.Common.{◌≡◌, ℕ, zero, suc, ◌+◌, ◌≤◌, List, [], ◌∷◌, ◌++◌, length, map, Bool, true, false, not, nat_lt, is_some, Option, Some, None, option_map, refl, ap, inl, inr, arith, subst}
+use Rattle.std.specs.List.{list_all, All}
 use Rattle.std.specs.Option.{option_or, option_map_or}
 use Rattle.std.specs.Str.{str_eq_ignore_ascii_case}
 use Rattle.std.proofs.lemmas.Bool.{cases_Bool}

@@ -1,5 +1,5 @@
 -- What stands at a place is found there by its name.
-use Rattle.std.proofs.Common.{◌≡◌, ℕ, List, map, Bool, true, Option, Some, option_map, slice_get, ◌∙◌, sym, ap}
+use Rattle.std.proofs.Common.{◌≡◌, ℕ, List, map, Bool, true, Some, option_map, slice_get, ◌∙◌, sym, ap}
 use Rattle.std.specs.List.{list_all}
 use Rattle.std.proofs.lemmas.List.Sums.{AllPass-from_list_all}
 use Rattle.std.proofs.lemmas.Option.{slice_get-map, slice_get_within, get_or_from_slice_get}

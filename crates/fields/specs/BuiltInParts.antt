@@ -3,6 +3,7 @@ use Rattle.std.specs.Prelude.{ℕ, List, [], ◌∷◌, map, pos, codes}
 use Rattle.field_values.specs.declared.numbers.UserNo.{UserNo}
 use Rattle.field_values.specs.declared.numbers.GroupNo.{GroupNo}
 use Rattle.field_values.specs.declared.numbers.ChoiceNo.{ChoiceNo}
+use Rattle.field_values.specs.declared.numbers.TheConstants.FieldNo as number
 use Rattle.field_values.specs.declared.words.Weekday.TheVariants.{Monday}
 use Rattle.field_values.specs.declared.words.Category.TheVariants as category
 use Rattle.field_values.specs.declared.rules.Permission.TheVariants as permission
@@ -61,7 +62,7 @@ finish = record {
   from = choice_no 1 ∷ choice_no 2 ∷ [];
   to = choice_no 3;
   conditions = record { any_of = IsAssignee ∷ InGroup (group_no 2) ∷ [] } ∷ [];
-  validators = Required (record { 0 = 12 }) ∷ [];
+  validators = Required number.POINTS ∷ [];
   post = Resolution (choice_no 0) ∷ [];
 }
 
@@ -73,7 +74,7 @@ reopen = record {
   to = choice_no 0;
   conditions = record { any_of = HasPermission permission.Edit ∷ [] } ∷ [];
   validators = [];
-  post = Clear (record { 0 = 8 }) ∷ [];
+  post = Clear number.RESOLUTION ∷ [];
 }
 
 abbrev built_in_transitions : List Transition

@@ -1,14 +1,12 @@
 -- The parts of a setup that is held.
-use Rattle.std.specs.Prelude.{ℕ, ◌-◌, ◌==◌, Bool, false, List, [], Option, Some, None, option_and_then}
+use Rattle.std.specs.Prelude.{ℕ, Bool, List, [], Option, Some, None, option_and_then}
 use Rattle.std.specs.List.{list_any, slice_get}
-use Rattle.std.specs.Option.{option_map_or}
 use Rattle.fields.specs.declared.setup.Setup.{Setup}
 use Rattle.field_forms.specs.declared.form.Form.{Form}
 use Rattle.field_forms.specs.declared.form.Form.TheVariants.{Choice, Set}
 use Rattle.field_values.specs.declared.numbers.GroupNo.{GroupNo}
 use Rattle.field_values.specs.declared.rules.Permission.{Permission}
 use Rattle.field_values.specs.declared.rules.Permission.TheVariants.{Browse, Create, Edit, Transition, Rank, Plan, Administer}
-use Rattle.field_values.specs.declared.parts.Group.{Group}
 use Rattle.field_values.specs.declared.parts.Project.{Project}
 use Rattle.field_forms.specs.Names.{place_named}
 use Rattle.fields.specs.Sound.{part_names}

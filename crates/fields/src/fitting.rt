@@ -22,13 +22,14 @@ impl Setup {
     }
 
     /// The text of a value that the field may hold and that isn't empty: what a choice or a user is called, a day as
-    /// yyyy-MM-dd, the shortest spelling of a number, and a JSON array without spaces for a set or labels. Of a text, a number, a choice,
-    /// a user or a date, it is read as the value.
+    /// yyyy-MM-dd, the shortest spelling of a number, and a JSON array without spaces for a set or labels. Of a text, a
+    /// number, a choice, a user or a date, it is read as the value.
     pub fn text_of(&self, alloc: Global, field: FieldNo, value: &Value) -> Result<Text, Memory>
         requires fits { fits (names self.now) field.0 value.now ≡ true }
         requires some { value.now ≢ Value.Empty }
         ensures text { IfOk result (IsTextOf (choices_of (names self.now) field.0) value.now) }
-        ensures read { IsReadBack value.now → IfOk result (λ text. value_of (names self.now) field.0 text ≡ Some value.now) }
+        ensures read { IsReadBack value.now →
+            IfOk result (λ text. value_of (names self.now) field.0 text ≡ Some value.now) }
     {
         text_of(alloc, &self.known(), field, value)
     }

@@ -20,7 +20,7 @@ pub use field_values::{
     ProjectNo, Sequence, SprintNo, Status, Steps, Text, Transition, UserNo, Validator, Value,
     Weekday,
 };
-pub use naming::name_at;
+pub use naming::{built_in_fields, name_at};
 pub use setup::Setup;
 pub use setup_drafts::SetupFault;
 pub use setup_reading::BUILT_IN;

@@ -29,14 +29,18 @@ impl Setup {
 
     /// The calendar of local time, lent.
     pub fn calendar(&self) -> &Calendar
-        ensures { result.now ≡ record { zone = zone_of self.now.utc_offset_minutes self.now.offset; first_day = day_number self.now.week_starts } }
+        ensures { result.now ≡ record {
+          zone = zone_of self.now.utc_offset_minutes self.now.offset;
+          first_day = day_number self.now.week_starts;
+        } }
     {
         &self.calendar
     }
 
     /// The local day of a moment.
     pub fn day_of(&self, at: Moment) -> Day
-        ensures { result.0 ≡ local_day (zone_of self.now.utc_offset_minutes self.now.offset) (pos at) }
+        ensures { result.0
+            ≡ local_day (zone_of self.now.utc_offset_minutes self.now.offset) (pos at) }
     {
         Day(self.calendar.day_of(at.seconds() as i64) as i32)
     }

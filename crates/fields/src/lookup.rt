@@ -44,7 +44,8 @@ impl Setup {
 
     /// The project of that key, ASCII case ignored; `None` exactly where there is none.
     pub fn project_named(&self, name: &str) -> Option<ProjectNo>
-        ensures { option_map (λ no. no.0) result ≡ place_named name.now (map (λ p. p.key) self.now.project) }
+        ensures { option_map (λ no. no.0) result
+            ≡ place_named name.now (map (λ p. p.key) self.now.project) }
     {
         let place = self.table_names.projects.place_of(name)?;
         Some(ProjectNo(place as u16))
@@ -60,7 +61,8 @@ impl Setup {
     /// The group of that name, ASCII case ignored; `None` exactly where there is none. Groups count from 1.
     pub fn group_named(&self, name: &str) -> Option<GroupNo>
         ensures { option_map (λ no. no.0) result
-            ≡ option_map (λ place. place + 1) (place_named name.now (map (λ g. g.name) self.now.group)) }
+            ≡ option_map (λ place. place + 1)
+            (place_named name.now (map (λ g. g.name) self.now.group)) }
     {
         let place = self.table_names.groups.place_of(name)?;
         Some(GroupNo(place as u16 + 1))

@@ -21,23 +21,23 @@ pub fn name_at(alloc: Global, names: &[Text], place: u16) -> Result<Text, Memory
     }
 }
 
-fn built_in_name(no: u16) -> Option<&'static str>
-    ensures { option_map (λ name. name.now) result ≡ slice_get field_names (no - 1) }
+fn built_in_name(field: FieldNo) -> Option<&'static str>
+    ensures { option_map (λ name. name.now) result ≡ slice_get field_names (field.0 - 1) }
 {
-    match no {
-        0 | 1 => Some("type"),
-        2 => Some("summary"),
-        3 => Some("description"),
-        4 => Some("status"),
-        5 => Some("assignee"),
-        6 => Some("reporter"),
-        7 => Some("priority"),
-        8 => Some("resolution"),
-        9 => Some("fixVersion"),
-        10 => Some("labels"),
-        11 => Some("due"),
-        12 => Some("points"),
-        13 => Some("sprint"),
+    match field {
+        FieldNo(0) | FieldNo::TYPE => Some("type"),
+        FieldNo::SUMMARY => Some("summary"),
+        FieldNo::DESCRIPTION => Some("description"),
+        FieldNo::STATUS => Some("status"),
+        FieldNo::ASSIGNEE => Some("assignee"),
+        FieldNo::REPORTER => Some("reporter"),
+        FieldNo::PRIORITY => Some("priority"),
+        FieldNo::RESOLUTION => Some("resolution"),
+        FieldNo::FIX_VERSION => Some("fixVersion"),
+        FieldNo::LABELS => Some("labels"),
+        FieldNo::DUE => Some("due"),
+        FieldNo::POINTS => Some("points"),
+        FieldNo::SPRINT => Some("sprint"),
         _ => None,
     }
 }
@@ -48,23 +48,40 @@ fn own_field(fields: &[Field], no: u16) -> Option<&Field>
     fields.iter().find(|field| field.number.0 == no)
 }
 
-fn built_in_numbers() -> &'static [u16]
-    ensures { result.now ≡ built_in_numbers }
+/// The fields that every tracker has, by number.
+pub fn built_in_fields() -> &'static [FieldNo]
+    ensures { map (λ f. f.0) result.now ≡ built_in_numbers }
 {
-    &[1, 2, 3, 4, 5, 6, 7, 8, 9, 10, 11, 12, 13]
+    &[
+        FieldNo::TYPE,
+        FieldNo::SUMMARY,
+        FieldNo::DESCRIPTION,
+        FieldNo::STATUS,
+        FieldNo::ASSIGNEE,
+        FieldNo::REPORTER,
+        FieldNo::PRIORITY,
+        FieldNo::RESOLUTION,
+        FieldNo::FIX_VERSION,
+        FieldNo::LABELS,
+        FieldNo::DUE,
+        FieldNo::POINTS,
+        FieldNo::SPRINT,
+    ]
 }
 
 fn put_built_in(numbers: &mut Vec<FieldNo>) -> Result<(), Memory>
-    ensures { OnOk result (map (λ f. f.0) numbers.new.items ≡ map (λ f. f.0) numbers.old.items ++ built_in_numbers) }
+    ensures { OnOk result (map (λ f. f.0) numbers.new.items
+        ≡ map (λ f. f.0) numbers.old.items ++ built_in_numbers) }
 {
-    for number in built_in_numbers() {
-        numbers.push(FieldNo(*number))?;
+    for number in built_in_fields() {
+        numbers.push(*number)?;
     }
     Ok(())
 }
 
 fn put_own(numbers: &mut Vec<FieldNo>, fields: &[Field]) -> Result<(), Memory>
-    ensures { OnOk result (map (λ f. f.0) numbers.new.items ≡ map (λ f. f.0) numbers.old.items ++ map (λ f. f.number.0) fields.now) }
+    ensures { OnOk result (map (λ f. f.0) numbers.new.items
+        ≡ map (λ f. f.0) numbers.old.items ++ map (λ f. f.number.0) fields.now) }
 {
     for field in fields {
         numbers.push(field.number)?;
@@ -78,7 +95,7 @@ impl Setup {
     pub fn field_name(&self, field: FieldNo) -> &str
         ensures { result.now ≡ field_name self.now.field field.0 }
     {
-        match built_in_name(field.0) {
+        match built_in_name(field) {
             Some(name) => name,
             None => match own_field(self.field.as_slice(), field.0) {
                 Some(own) => own.name.as_str(),
@@ -89,7 +106,8 @@ impl Setup {
 
     /// The fields of every tracker, and then the setup's own in its order.
     pub fn field_numbers(&self, alloc: Global) -> Result<Vec<FieldNo>, Memory>
-        ensures { IfOk result (λ numbers. map (λ f. f.0) numbers.items ≡ field_numbers self.now.field) }
+        ensures { IfOk result
+            (λ numbers. map (λ f. f.0) numbers.items ≡ field_numbers self.now.field) }
     {
         let mut numbers = Vec::new(alloc);
         put_built_in(&mut numbers)?;

@@ -37,7 +37,8 @@ impl Setup {
     /// Whether one of the groups that have the permission has the user. The permissions of a project are asked of it; those
     /// of the whole tracker need none.
     pub fn may(&self, user: UserNo, permission: Permission, project: Option<ProjectNo>) -> bool
-        ensures { result ≡ may (parts self.now) user.0 permission (option_map (λ no. no.0) project) }
+        ensures { result
+            ≡ may (parts self.now) user.0 permission (option_map (λ no. no.0) project) }
     {
         has_member_in(
             self.group.as_slice(),
@@ -48,7 +49,8 @@ impl Setup {
 
     /// The groups that have a permission: of the whole tracker, or in the project.
     fn groups_with(&self, permission: Permission, project: Option<ProjectNo>) -> &[GroupNo]
-        ensures { result.now ≡ groups_with (parts self.now) permission (option_map (λ no. no.0) project) }
+        ensures { result.now
+            ≡ groups_with (parts self.now) permission (option_map (λ no. no.0) project) }
     {
         match permission {
             Permission::Plan => self.plan.as_slice(),
@@ -70,7 +72,9 @@ impl Setup {
         requires there { group.0 ≤ length self.old.group }
         requires in_order { is_user_list (length self.old.users) members ≡ true }
         ensures parts { parts self.new
-            ≡ record (parts self.old) { group = with_members self.old.group (group.0 - 1) members } }
+            ≡ record (parts self.old) {
+              group = with_members self.old.group (group.0 - 1) members;
+            } }
         ensures text { self.new.text ≡ self.old.text }
     {
         self.group.set_members(usize::from(group.0) - 1, members);

@@ -54,7 +54,8 @@ impl Setup {
     /// The same of a field of the setup's own.
     #[tactic(auto, using(crate::proofs::Found::own_at))]
     fn place_among_own(&self, field: FieldNo, name: &str) -> Option<usize>
-        ensures place { result ≡ place_named name.now (option_map_or (own_choices (names self.now)) (own_field self.now.field field.0) []) }
+        ensures place { result ≡ place_named name.now
+            (option_map_or (own_choices (names self.now)) (own_field self.now.field field.0) []) }
         ensures few { IfSome result (λ place. place < 500) }
     {
         match own_place(self.field.as_slice(), field) {
@@ -66,7 +67,8 @@ impl Setup {
     /// The same of the field at a place among the setup's own.
     #[tactic(auto, using(crate::proofs::Found::options_at, crate::proofs::Found::few_at))]
     fn place_at(&self, place: usize, name: &str) -> Option<usize>
-        ensures place { result ≡ place_named name.now (option_map_or (own_choices (names self.now)) (slice_get self.now.field place) []) }
+        ensures place { result ≡ place_named name.now
+            (option_map_or (own_choices (names self.now)) (slice_get self.now.field place) []) }
         ensures few { IfSome result (λ place. place < 500) }
     {
         let own = self.field.as_slice().get(place)?;

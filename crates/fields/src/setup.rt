@@ -75,9 +75,47 @@ pub struct Setup {
     ghost named_transitions: { table_names.transitions ≡ map (λ t. t.name) transition },
     ghost named_fields: { table_names.fields ≡ map (λ f. f.name) field },
     ghost listed_options: { table_names.options ≡ map (λ f. f.options) field },
-    ghost clock: { calendar ≡ record { zone = zone_of utc_offset_minutes offset; first_day = day_number week_starts } },
-    pub ghost reads: { kept_in text ≡ Ok (memberless (record { utc_offset_minutes = utc_offset_minutes; week_starts = week_starts; rebalancer = rebalancer; users = users; types = types; priorities = priorities; resolutions = resolutions; versions = versions; first_status = first_status; plan = plan; administer = administer; group = group; project = project; status = status; transition = transition; field = field; offset = offset })) },
-    pub ghost sound: { IsSound (record { utc_offset_minutes = utc_offset_minutes; week_starts = week_starts; rebalancer = rebalancer; users = users; types = types; priorities = priorities; resolutions = resolutions; versions = versions; first_status = first_status; plan = plan; administer = administer; group = group; project = project; status = status; transition = transition; field = field; offset = offset }) },
+    ghost clock: { calendar
+        ≡ record { zone = zone_of utc_offset_minutes offset; first_day = day_number week_starts } },
+    pub ghost reads: { kept_in text
+        ≡ Ok (memberless (record {
+          utc_offset_minutes = utc_offset_minutes;
+          week_starts = week_starts;
+          rebalancer = rebalancer;
+          users = users;
+          types = types;
+          priorities = priorities;
+          resolutions = resolutions;
+          versions = versions;
+          first_status = first_status;
+          plan = plan;
+          administer = administer;
+          group = group;
+          project = project;
+          status = status;
+          transition = transition;
+          field = field;
+          offset = offset;
+        })) },
+    pub ghost sound: { IsSound (record {
+      utc_offset_minutes = utc_offset_minutes;
+      week_starts = week_starts;
+      rebalancer = rebalancer;
+      users = users;
+      types = types;
+      priorities = priorities;
+      resolutions = resolutions;
+      versions = versions;
+      first_status = first_status;
+      plan = plan;
+      administer = administer;
+      group = group;
+      project = project;
+      status = status;
+      transition = transition;
+      field = field;
+      offset = offset;
+    }) },
 }
 
 // Written by hand, so that whoever lets one go makes one call, and its proof takes one step there.
@@ -119,7 +157,8 @@ impl Setup {
     /// Reads a setup from the bytes of a TOML text. The first fault is told, in the order of the setup's keys: first of
     /// what the keys hold, then of the names and rules in it, then of keys that aren't the setup's.
     pub fn read(alloc: Global, bytes: &[u8]) -> Result<Setup, SetupFault>
-        ensures ok { IfOk result (λ setup. IsUtf8 bytes.now × (setup_in bytes.now ≡ Ok (parts setup))) }
+        ensures ok { IfOk result
+            (λ setup. IsUtf8 bytes.now × (setup_in bytes.now ≡ Ok (parts setup))) }
         ensures text { IfOk result (λ setup. setup.text ≡ bytes.now) }
         ensures err { IfErr result (Explains bytes.now) }
     {
@@ -150,8 +189,10 @@ impl Setup {
         requires small { IsSmall reading.draft }
         requires clock { reading.draft.steps ≡ steps_of reading.draft.head.utc_offset_minutes
             (day_number reading.draft.head.week_starts) reading.draft.steps.offsets }
-        requires groups { length reading.numbers.tables.groups ≡ length reading.draft.tables.groups }
-        requires projects { length reading.numbers.tables.projects ≡ length reading.draft.tables.projects }
+        requires groups { length reading.numbers.tables.groups
+            ≡ length reading.draft.tables.groups }
+        requires projects { length reading.numbers.tables.projects
+            ≡ length reading.draft.tables.projects }
         ensures parts { IfOk result (λ setup. setup_in text.now ≡ Ok (parts setup)) }
         ensures text { IfOk result (λ setup. setup.text ≡ text.now) }
     {

@@ -46,8 +46,10 @@ impl TableNames {
     ) -> Result<TableNames, Memory>
         ensures statuses { IfOk result (λ names. names.statuses ≡ map (λ s. s.name) statuses.now) }
         ensures groups { IfOk result (λ names. names.groups ≡ map (λ g. g.name) tables.now.groups) }
-        ensures projects { IfOk result (λ names. names.projects ≡ map (λ p. p.key) tables.now.projects) }
-        ensures transitions { IfOk result (λ names. names.transitions ≡ map (λ t. t.name) tables.now.transitions) }
+        ensures projects { IfOk result
+            (λ names. names.projects ≡ map (λ p. p.key) tables.now.projects) }
+        ensures transitions { IfOk result
+            (λ names. names.transitions ≡ map (λ t. t.name) tables.now.transitions) }
         ensures fields { IfOk result (λ names. names.fields ≡ map (λ f. f.name) fields.now) }
         ensures options { IfOk result (λ names. names.options ≡ map (λ f. f.options) fields.now) }
     {

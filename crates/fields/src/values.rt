@@ -28,7 +28,8 @@ impl Setup {
         text: &str,
     ) -> Result<Option<Value>, Memory>
         ensures value { IfOk result (λ value. value ≡ value_of (names self.now) field.0 text.now) }
-        ensures fits { IfOk result (λ value. IfSome value (λ v. fits (names self.now) field.0 v ≡ true)) }
+        ensures fits { IfOk result
+            (λ value. IfSome value (λ v. fits (names self.now) field.0 v ≡ true)) }
     {
         self.read_value(alloc, field, text)
     }
@@ -52,8 +53,10 @@ impl Setup {
         field: FieldNo,
         texts: &[Text],
     ) -> Result<Option<Value>, Memory>
-        ensures value { IfOk result (λ value. value ≡ listed_value_of (names self.now) field.0 texts.now) }
-        ensures fits { IfOk result (λ value. IfSome value (λ v. fits (names self.now) field.0 v ≡ true)) }
+        ensures value { IfOk result
+            (λ value. value ≡ listed_value_of (names self.now) field.0 texts.now) }
+        ensures fits { IfOk result
+            (λ value. IfSome value (λ v. fits (names self.now) field.0 v ≡ true)) }
     {
         self.read_list(alloc, field, texts)
     }
@@ -65,7 +68,8 @@ impl Setup {
         field: FieldNo,
         texts: &[Text],
     ) -> Result<Option<Value>, Memory>
-        ensures { IfOk result (λ value. value ≡ listed_value_of (names self.now) field.0 texts.now) }
+        ensures { IfOk result
+            (λ value. value ≡ listed_value_of (names self.now) field.0 texts.now) }
     {
         match form_of(self.field.as_slice(), field) {
             Some(Form::Set) => self.listed_set(alloc, field, texts),
@@ -74,14 +78,16 @@ impl Setup {
     }
 
     fn choice_of(&self, field: FieldNo, text: &str) -> Option<Value>
-        ensures { result ≡ option_map (λ k. Value.Choice (record { 0 = k })) (place_named text.now (choices_of (names self.now) field.0)) }
+        ensures { result ≡ option_map (λ k. Value.Choice (record { 0 = k }))
+            (place_named text.now (choices_of (names self.now) field.0)) }
     {
         let place = self.place_among(field, text)?;
         Some(Value::Choice(ChoiceNo(place as u16)))
     }
 
     fn user_of(&self, field: FieldNo, text: &str) -> Option<Value>
-        ensures { result ≡ option_map (λ k. Value.User (record { 0 = k })) (place_named text.now (choices_of (names self.now) field.0)) }
+        ensures { result ≡ option_map (λ k. Value.User (record { 0 = k }))
+            (place_named text.now (choices_of (names self.now) field.0)) }
     {
         let place = self.place_among(field, text)?;
         Some(Value::User(UserNo(place as u16)))
@@ -89,7 +95,8 @@ impl Setup {
 
     // The set that a JSON array of texts names.
     fn set_in(&self, alloc: Global, field: FieldNo, text: &str) -> Result<Option<Value>, Memory>
-        ensures { IfOk result (λ value. value ≡ set_in (choices_of (names self.now) field.0) text.now) }
+        ensures { IfOk result
+            (λ value. value ≡ set_in (choices_of (names self.now) field.0) text.now) }
     {
         let Some(texts) = texts_in(alloc, text)? else {
             return Ok(None);
@@ -104,7 +111,8 @@ impl Setup {
         field: FieldNo,
         texts: &[Text],
     ) -> Result<Option<Value>, Memory>
-        ensures { IfOk result (λ value. value ≡ listed_set (choices_of (names self.now) field.0) texts.now) }
+        ensures { IfOk result
+            (λ value. value ≡ listed_set (choices_of (names self.now) field.0) texts.now) }
     {
         if !self.are_known(field, texts) {
             return Ok(None);

@@ -10,6 +10,7 @@ use Rattle.jiff_core.specs.Calendar.{IsWithin}
 use Rattle.jiff_core.proofs.SignedLemmas.{signed_arith}
 use Rattle.field_values.specs.declared.numbers.UserNo.{UserNo}
 use Rattle.field_values.specs.declared.numbers.FieldNo.{FieldNo}
+use Rattle.field_values.specs.declared.numbers.TheConstants.FieldNo as number
 use Rattle.field_values.specs.declared.numbers.Day.{Day}
 use Rattle.field_values.specs.declared.value.Value.{Value}
 use Rattle.change_history.specs.declared.entry.Entry.{Entry}
@@ -33,7 +34,7 @@ abbrev anna : UserNo
 anna = record { 0 = 0 }
 
 abbrev status : FieldNo
-status = record { 0 = 4 }
+status = number.STATUS
 
 abbrev open_now : Value
 open_now = Value.Choice (record { 0 = 0 })

@@ -3,6 +3,7 @@ use Rattle.std.specs.Prelude.{◌≡◌, ℕ, true, false, List, [], ◌∷◌, 
 use Rattle.std.specs.declared.cmp.Ordering.TheVariants.{Less, Greater}
 use Rattle.field_values.specs.declared.numbers.UserNo.{UserNo}
 use Rattle.field_values.specs.declared.numbers.FieldNo.{FieldNo}
+use Rattle.field_values.specs.declared.numbers.TheConstants.FieldNo as number
 use Rattle.field_values.specs.declared.value.Value.{Value}
 use Rattle.change_history.specs.declared.change.Change.{Change}
 use Rattle.change_history.specs.declared.entry.Entry.{Entry}
@@ -35,13 +36,13 @@ abbrev bo : UserNo
 bo = record { 0 = 1 }
 
 abbrev status : FieldNo
-status = record { 0 = 4 }
+status = number.STATUS
 
 abbrev assignee : FieldNo
-assignee = record { 0 = 5 }
+assignee = number.ASSIGNEE
 
 abbrev versions : FieldNo
-versions = record { 0 = 9 }
+versions = number.FIX_VERSION
 
 abbrev choice : ℕ → Value
 choice n = Value.Choice (record { 0 = n })
@@ -61,7 +62,7 @@ entry change at author field from to = record { change = change; at = at; author
 
 -- an open issue that nobody works on
 abbrev login : History
-login = opened_with 0 (record { field = status; to = choice 0 } ∷ record { field = record { 0 = 2 }; to = Value.Text (codes "Fix login") } ∷ []) []
+login = opened_with 0 (record { field = status; to = choice 0 } ∷ record { field = number.SUMMARY; to = Value.Text (codes "Fix login") } ∷ []) []
 
 abbrev asks : FieldNo → Operator → Condition
 asks field operator = now (record { subject = Subject.Field field; operator = operator })
@@ -87,9 +88,9 @@ among_empty_and_bo = refl
 -- ---- an order: the first priority is the highest, and nothing stands last
 
 abbrev urgent : History
-urgent = opened_with 0 (record { field = record { 0 = 7 }; to = choice 0 } ∷ []) []
+urgent = opened_with 0 (record { field = number.PRIORITY; to = choice 0 } ∷ []) []
 
-pub high_above_low : holds around urgent 0 (asks (record { 0 = 7 }) (Operator.Compares Inequality.Greater (one_of 2))) ≡ true
+pub high_above_low : holds around urgent 0 (asks number.PRIORITY (Operator.Compares Inequality.Greater (one_of 2))) ≡ true
 unfolding holds holds_now
 high_above_low = refl
 

@@ -1,9 +1,8 @@
 // Which values an operand names.
 ghost use Rattle.std.specs.Prelude.{◌≡◌, ◌==◌};
 ghost use Rattle.std.specs.List.{list_any};
-ghost use Rattle.field_values.specs.GroupMembers.{AreRising};
 ghost use Rattle.jql_meaning.specs.Surroundings.{surroundings_of, members_of};
-ghost use Rattle.jql_meaning.specs.Naming.{names, names_nothing, names_text, names_number, names_choice, names_user, names_sprint, some_value};
+ghost use Rattle.jql_meaning.specs.Naming.{names, names_text, names_number, names_choice, names_user, names_sprint, some_value};
 
 use field_values::membership::is_member;
 use field_values::{ChoiceNo, GroupNo, SprintNo, Text, UserNo, Value};

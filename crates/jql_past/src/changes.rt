@@ -15,8 +15,8 @@ use field_values::{FieldNo, Moment, UserNo};
 use jql_bound::{Context, Endpoint, Operand, PastPredicate};
 use jql_operands::names_user;
 
-/// Whether one of the field's changes lies in every window, is by an author who is asked for, and goes from and to the values that
-/// are asked for.
+/// Whether one of the field's changes lies in every window, is by an author who is asked for, and goes from and to the values
+/// that are asked for.
 pub fn changed(
     context: &Context,
     issue: &Issue,
@@ -25,7 +25,9 @@ pub fn changed(
     endpoints: &[Endpoint],
     predicates: &[PastPredicate],
 ) -> bool
-    ensures { result ≡ changed (surroundings_of context.now) issue.now.history at field endpoints.now predicates.now }
+    ensures { result
+        ≡ changed (surroundings_of context.now) issue.now.history at field endpoints.now
+        predicates.now }
 {
     let interval = common_interval(context, at, predicates);
     let mut place = issue.last_entry(field);
@@ -51,7 +53,8 @@ fn entry_answers(
     entry: &Entry,
 ) -> bool
     requires { IsOfWindows (surroundings_of context.now) at predicates.now interval }
-    ensures { result ≡ entry_answers (surroundings_of context.now) at endpoints.now predicates.now entry.now }
+    ensures { result
+        ≡ entry_answers (surroundings_of context.now) at endpoints.now predicates.now entry.now }
 {
     is_in_time(context, at, interval, predicates, entry) && has_endpoints(context, endpoints, entry)
 }
@@ -65,13 +68,15 @@ fn is_in_time(
     entry: &Entry,
 ) -> bool
     requires { IsOfWindows (surroundings_of context.now) at predicates.now interval }
-    ensures { result ≡ (is_in_windows (surroundings_of context.now) at predicates.now entry.now.at && is_by_each (surroundings_of context.now) predicates.now entry.now.author) }
+    ensures { result ≡ (is_in_windows (surroundings_of context.now) at predicates.now entry.now.at
+        && is_by_each (surroundings_of context.now) predicates.now entry.now.author) }
 {
     has_moment(interval, entry.at) && is_by_each(context, predicates, entry.author)
 }
 
 fn has_endpoints(context: &Context, endpoints: &[Endpoint], entry: &Entry) -> bool
-    ensures { result ≡ list_all (λ endpoint. endpoint_answers (surroundings_of context.now) entry.now endpoint) endpoints.now }
+    ensures { result ≡ list_all (λ endpoint.
+        endpoint_answers (surroundings_of context.now) entry.now endpoint) endpoints.now }
 {
     endpoints
         .iter()
@@ -106,7 +111,8 @@ fn is_by(context: &Context, predicate: &PastPredicate, author: UserNo) -> bool
 }
 
 fn is_one_of(context: &Context, users: &[Operand], author: UserNo) -> bool
-    ensures { result ≡ list_any (λ operand. names (surroundings_of context.now) operand (Value.User author)) users.now }
+    ensures { result ≡ list_any
+        (λ operand. names (surroundings_of context.now) operand (Value.User author)) users.now }
 {
     users.iter().any(|user| names_user(context, user, author))
 }

@@ -36,7 +36,8 @@ fn disturbs_window(
     context: &Context,
     at: Moment,
 ) -> Option<Moment>
-    ensures { IsNext (ToOne (IsDisturbed (surroundings_of context.now) predicates.now at) (window_edges predicate.now)) at result }
+    ensures { IsNext (ToOne (IsDisturbed (surroundings_of context.now) predicates.now at)
+        (window_edges predicate.now)) at result }
 {
     match predicate {
         PastPredicate::After(date) | PastPredicate::Before(date) => {
@@ -58,7 +59,8 @@ fn disturbs_date(
     context: &Context,
     at: Moment,
 ) -> Option<Moment>
-    ensures { IsNext (IsDisturbed (surroundings_of context.now) predicates.now at (date term.now)) at result }
+    ensures { IsNext
+        (IsDisturbed (surroundings_of context.now) predicates.now at (date term.now)) at result }
 {
     if term.moves() {
         return None;
@@ -77,7 +79,8 @@ fn disturbs_day(
     context: &Context,
     at: Moment,
 ) -> Option<Moment>
-    ensures { IsNext (ToOne (IsDisturbed (surroundings_of context.now) predicates.now at) (day term.now ∷ day_after term.now ∷ [])) at result }
+    ensures { IsNext (ToOne (IsDisturbed (surroundings_of context.now) predicates.now at)
+        (day term.now ∷ day_after term.now ∷ [])) at result }
 {
     // The date never falls, and neither do local days: what these two promise, and nothing else, is needed.
     term.never_falls(&context.calendar);
@@ -105,7 +108,8 @@ fn near_edge(predicates: &[PastPredicate], at: Moment, second: i64) -> Option<Mo
 
 // The next moment at which the date compares otherwise with a second.
 fn next_change(term: &Term, context: &Context, at: Moment, second: i64) -> Option<Moment>
-    ensures { IsNext (λ t. compared (surroundings_of context.now).calendar term.now second t ≢ compared (surroundings_of context.now).calendar term.now second at) at result }
+    ensures { IsNext (λ t. compared (surroundings_of context.now).calendar term.now second t
+        ≢ compared (surroundings_of context.now).calendar term.now second at) at result }
 {
     match term.next(&context.calendar, at.seconds(), second) {
         Some(next) => Moment::new(next),

@@ -1,7 +1,6 @@
 // Until when the truth of a comparison with the past stays.
 ghost use Rattle.std.specs.Prelude.{pos};
 ghost use Rattle.jql_meaning.specs.Surroundings.{surroundings_of};
-ghost use Rattle.change_history.specs.History.{present};
 ghost use Rattle.change_history.specs.Span.{entries_of};
 ghost use Rattle.jql_meaning.specs.Past.{holds_past};
 ghost use Rattle.jql_meaning.specs.Critical.{IsCriticalPast};
@@ -19,7 +18,8 @@ use jql_present::earlier;
 
 /// A later moment before which the truth of the comparison stays, and at which it may change. `None` where it stays for good.
 pub fn next_past(leaf: &PastLeaf, issue: &Issue, context: &Context, at: Moment) -> Option<Moment>
-    ensures { Stays (holds_past (surroundings_of context.now) leaf.now issue.now.history) (IsCriticalPast (surroundings_of context.now) issue.now.history leaf.now) at result }
+    ensures { Stays (holds_past (surroundings_of context.now) leaf.now issue.now.history)
+        (IsCriticalPast (surroundings_of context.now) issue.now.history leaf.now) at result }
 {
     // For its promise alone: the calendar's days never fall.
     let _ = context.calendar.first_day();
@@ -28,7 +28,8 @@ pub fn next_past(leaf: &PastLeaf, issue: &Issue, context: &Context, at: Moment) 
 
 // The next moment at which the truth may change.
 fn next_change(leaf: &PastLeaf, issue: &Issue, context: &Context, at: Moment) -> Option<Moment>
-    ensures { IsNext (MayChange (surroundings_of context.now) issue.now.history leaf.now at) at result }
+    ensures { IsNext
+        (MayChange (surroundings_of context.now) issue.now.history leaf.now at) at result }
 {
     let predicates = leaf.predicates.as_slice();
     let marks = earlier(
@@ -63,7 +64,8 @@ fn near_date(
     at: Moment,
     value: &Value,
 ) -> Option<Moment>
-    ensures { IsNext (IsNearMark predicates.now (value_mark (surroundings_of context.now) value.now)) at result }
+    ensures { IsNext
+        (IsNearMark predicates.now (value_mark (surroundings_of context.now) value.now)) at result }
 {
     match value {
         Value::Date(day) => next_near(predicates, at, start_of(context, i64::from(day.0)), 1),
@@ -78,7 +80,8 @@ fn near_changes(
     field: FieldNo,
     at: Moment,
 ) -> Option<Moment>
-    ensures { IsNext (ToOne (IsNearChange predicates.now) (entries_of issue.now.history.entries field)) at result }
+    ensures { IsNext (ToOne (IsNearChange predicates.now)
+        (entries_of issue.now.history.entries field)) at result }
 {
     let mut first = None;
     let mut place = issue.last_entry(field);

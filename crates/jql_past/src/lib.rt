@@ -1,4 +1,5 @@
-//! Comparisons with the past: whether one holds of an issue's history, and when that may change although nothing happens to the issue.
+//! Comparisons with the past: whether one holds of an issue's history, and when that may change although nothing happens to
+//! the issue.
 #![tactic(auto)]
 
 mod changes;

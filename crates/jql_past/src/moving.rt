@@ -11,8 +11,8 @@ use jql_bound::PastPredicate;
 use jql_present::earlier;
 use relative_dates::Term;
 
-/// The next moment at which the present moment, or a date of the windows that goes on with it, is near a second: at most the reach
-/// before it, or one second more behind it.
+/// The next moment at which the present moment, or a date of the windows that goes on with it, is near a second: at most the
+/// reach before it, or one second more behind it.
 pub fn next_near(
     predicates: &[PastPredicate],
     at: Moment,
@@ -33,7 +33,9 @@ pub fn next_near(
 fn near_windows(predicates: &[PastPredicate], at: Moment, second: i64, reach: i64) -> Option<Moment>
     requires second { IsWithin 1_000_000_000_000_000 second }
     requires reach { IsBetween (pos 0) (pos 2) reach }
-    ensures { IsNext (ToOne (λ predicate. ToOne (λ edge. IsNear second reach (ahead edge)) (window_edges predicate)) predicates.now) at result }
+    ensures { IsNext
+        (ToOne (λ predicate. ToOne (λ edge. IsNear second reach (ahead edge))
+        (window_edges predicate)) predicates.now) at result }
 {
     let mut first = None;
     for predicate in predicates {
@@ -46,7 +48,8 @@ fn near_windows(predicates: &[PastPredicate], at: Moment, second: i64, reach: i6
 fn near_window(predicate: &PastPredicate, at: Moment, second: i64, reach: i64) -> Option<Moment>
     requires second { IsWithin 1_000_000_000_000_000 second }
     requires reach { IsBetween (pos 0) (pos 2) reach }
-    ensures { IsNext (ToOne (λ edge. IsNear second reach (ahead edge)) (window_edges predicate.now)) at result }
+    ensures { IsNext
+        (ToOne (λ edge. IsNear second reach (ahead edge)) (window_edges predicate.now)) at result }
 {
     match predicate {
         PastPredicate::After(date) | PastPredicate::Before(date) => {

@@ -31,7 +31,8 @@ pub fn loses(context: &Context, operands: &[Operand], from: &Value, to: &Value) 
 
 // The same of one operand.
 fn loses_one(context: &Context, operand: &Operand, from: &Value, to: &Value) -> bool
-    ensures { result ≡ some_value (λ v. names (surroundings_of context.now) operand.now v && not (some_value (is_same v) to.now)) from.now }
+    ensures { result ≡ some_value (λ v. names (surroundings_of context.now) operand.now v
+        && not (some_value (is_same v) to.now)) from.now }
 {
     match from {
         Value::Set(choices) => loses_choice(operand, choices.as_slice(), to),
@@ -41,14 +42,16 @@ fn loses_one(context: &Context, operand: &Operand, from: &Value, to: &Value) -> 
 }
 
 fn loses_choice(operand: &Operand, choices: &[ChoiceNo], to: &Value) -> bool
-    ensures { result ≡ list_any (λ choice. names_choice operand.now choice && not (some_value (is_same (Value.Choice choice)) to.now)) choices.now }
+    ensures { result ≡ list_any (λ choice. names_choice operand.now choice
+        && not (some_value (is_same (Value.Choice choice)) to.now)) choices.now }
 {
     choices.iter().any(|choice| names_choice(operand, *choice)
         && !has_one(to, &Value::Choice(*choice)))
 }
 
 fn loses_text(operand: &Operand, texts: &[Text], to: &Value) -> bool
-    ensures { result ≡ list_any (λ text. names_text operand.now text && not (some_value (is_same (Value.Text text)) to.now)) texts.now }
+    ensures { result ≡ list_any (λ text. names_text operand.now text
+        && not (some_value (is_same (Value.Text text)) to.now)) texts.now }
 {
     texts
         .iter()

@@ -22,7 +22,8 @@ pub fn was(
     operands: &[Operand],
     predicates: &[PastPredicate],
 ) -> bool
-    ensures { result ≡ was (surroundings_of context.now) issue.now.history at field operands.now predicates.now }
+    ensures { result
+        ≡ was (surroundings_of context.now) issue.now.history at field operands.now predicates.now }
 {
     let interval = common_interval(context, at, predicates);
     let mut end = None;
@@ -62,7 +63,14 @@ fn span_answers(
     span: &Span<'_>,
 ) -> bool
     requires { IsOfWindows (surroundings_of context.now) at predicates.now interval }
-    ensures { result ≡ span_answers (surroundings_of context.now) at operands.now predicates.now (record { begin = span.now.begin; end = span.now.end; author = span.now.author; value = span.now.value.now }) }
+    ensures { result
+        ≡ span_answers (surroundings_of context.now) at operands.now predicates.now
+        (record {
+          begin = span.now.begin;
+          end = span.now.end;
+          author = span.now.author;
+          value = span.now.value.now;
+        }) }
 {
     is_wanted(context, operands, predicates, span) && meets(interval, span.begin, span.end, at)
 }
@@ -74,7 +82,8 @@ fn is_wanted(
     predicates: &[PastPredicate],
     span: &Span<'_>,
 ) -> bool
-    ensures { result ≡ (has_named (surroundings_of context.now) operands.now span.now.value.now && is_by_each (surroundings_of context.now) predicates.now span.now.author) }
+    ensures { result ≡ (has_named (surroundings_of context.now) operands.now span.now.value.now
+        && is_by_each (surroundings_of context.now) predicates.now span.now.author) }
 {
     has_named(context, operands, span.value) && is_by_each(context, predicates, span.author)
 }

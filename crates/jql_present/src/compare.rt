@@ -22,7 +22,8 @@ pub fn equals(
     subject: Subject,
     operand: &Operand,
 ) -> bool
-    ensures { result ≡ equals (surroundings_of context.now) issue.now.history at subject operand.now }
+    ensures { result
+        ≡ equals (surroundings_of context.now) issue.now.history at subject operand.now }
 {
     match subject {
         Subject::Field(field) => equals_value(context, at, issue.value(field), operand),
@@ -41,7 +42,8 @@ pub fn order(
     subject: Subject,
     operand: &Operand,
 ) -> Option<Ordering>
-    ensures { result ≡ order (surroundings_of context.now) issue.now.history at subject operand.now }
+    ensures { result
+        ≡ order (surroundings_of context.now) issue.now.history at subject operand.now }
 {
     match subject {
         Subject::Field(field) => value_order(context, at, issue.value(field), operand),

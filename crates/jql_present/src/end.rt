@@ -15,7 +15,8 @@ use jql_bound::{Context, Leaf, Operand, Operator};
 /// A later moment before which the truth of the comparison stays, and at which it may change. `None` where it stays for good.
 #[tactic(auto, using(crate::proofs::Staying::stays, crate::proofs::Staying::stays_without_a_mark))]
 pub fn next_present(leaf: &Leaf, issue: &Issue, context: &Context, at: Moment) -> Option<Moment>
-    ensures { Stays (holds_now (surroundings_of context.now) leaf.now issue.now.history) (IsCriticalNow (surroundings_of context.now) issue.now.history leaf.now) at result }
+    ensures { Stays (holds_now (surroundings_of context.now) leaf.now issue.now.history)
+        (IsCriticalNow (surroundings_of context.now) issue.now.history leaf.now) at result }
 {
     match mark_of(context, issue, leaf.subject) {
         Some(mark) => next_at(&leaf.operator, context, at, mark),

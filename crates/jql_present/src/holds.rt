@@ -4,7 +4,7 @@ ghost use Rattle.std.specs.List.{list_any};
 ghost use Rattle.std.specs.Ordering.{is_some_and};
 ghost use Rattle.jql_meaning.specs.Surroundings.{surroundings_of};
 ghost use Rattle.jql_meaning.specs.Words.{has_words};
-ghost use Rattle.jql_meaning.specs.Present.{holds_now, operator_holds, lacks_value, has_text};
+ghost use Rattle.jql_meaning.specs.Present.{holds_now, lacks_value, has_text};
 ghost use Rattle.jql_meaning.specs.Comparison.{equals, order, stands};
 
 use crate::compare::{equals, order};
@@ -42,7 +42,8 @@ fn is_one_of(
     subject: Subject,
     operands: &[Operand],
 ) -> bool
-    ensures { result ≡ list_any (λ operand. equals (surroundings_of context.now) issue.now.history at subject operand) operands.now }
+    ensures { result ≡ list_any (λ operand.
+        equals (surroundings_of context.now) issue.now.history at subject operand) operands.now }
 {
     operands
         .iter()
@@ -91,7 +92,8 @@ fn has_words(issue: &Issue, subject: Subject, wanted: &[Word]) -> bool
 }
 
 fn lacks_words(issue: &Issue, subject: Subject, wanted: &[Word]) -> bool
-    ensures { result ≡ has_text (λ text. not (has_words wanted.now text)) issue.now.history subject }
+    ensures { result
+        ≡ has_text (λ text. not (has_words wanted.now text)) issue.now.history subject }
 {
     match subject {
         Subject::Field(field) => match issue.value(field) {

@@ -45,7 +45,8 @@ fn is_word(word: &[u8], wanted: &Word) -> bool
 // What of a word is compared: where its beginning will do, no more than the length of the wanted one.
 #[tactic(auto, using(std::proofs::lemmas::List::take_all))]
 fn front_of<'a>(word: &'a [u8], wanted: &Word) -> &'a [u8]
-    ensures { result.now ≡ (if wanted.now.prefix then take (length wanted.now.text) word.now else word.now) }
+    ensures { result.now
+        ≡ (if wanted.now.prefix then take (length wanted.now.text) word.now else word.now) }
 {
     let most = wanted.text.as_str().len();
     if !wanted.prefix || word.len() <= most {
