@@ -165,11 +165,11 @@ impl Issues {
         let place = self.list.len();
         index_key(&mut self.by_key, key, place);
         count_one(&mut self.counts, project);
-        note_project(&mut self.projects, project);
+        self.projects.push_reserved(project);
         self.room -= 1;
         self.entries += issue.entries();
         self.bytes += bytes;
-        put_issue(&mut self.list, issue);
+        self.list.push_reserved(issue);
     }
 
     /// Makes room for n entries more of the issue at a place, or leaves all as it is.
@@ -235,28 +235,6 @@ fn index_key(by_key: &mut HashMap<String, usize>, key: String, place: usize)
         return;
     }
     let Ok(_) = by_key.insert(key, place) else {
-        unreachable!()
-    };
-}
-
-fn put_issue(list: &mut Vec<Issue>, issue: Issue)
-    requires { vec_len list.old + 1 ≤ vec_capacity list.old }
-    ensures items { list.new.items ≡ list.old.items ++ issue ∷ [] }
-    ensures len { vec_len list.new ≡ vec_len list.old + 1 }
-    ensures capacity { vec_capacity list.old ≤ vec_capacity list.new }
-{
-    let Ok(()) = list.push(issue) else {
-        unreachable!()
-    };
-}
-
-fn note_project(projects: &mut Vec<ProjectNo>, project: ProjectNo)
-    requires { vec_len projects.old + 1 ≤ vec_capacity projects.old }
-    ensures items { projects.new.items ≡ projects.old.items ++ project ∷ [] }
-    ensures len { vec_len projects.new ≡ vec_len projects.old + 1 }
-    ensures capacity { vec_capacity projects.old ≤ vec_capacity projects.new }
-{
-    let Ok(()) = projects.push(project) else {
         unreachable!()
     };
 }

@@ -18,7 +18,7 @@ invariant_of-self c =
     let key : string_bytes c.args.key ≡ h.key = c.requires.key in
     let len : c.len-place.result ≡ length kept = search rules in
     let place : c.len-place.result ≡ length hs = len ∙ sym (length-map kept (λ (i : RoomyHistory). i.history)) in
-    rw (c.put_issue.ensures.items, histories_push kept c.args.issue) (record {
+    rw (c.push_reserved-2.ensures.items, histories_push kept c.args.issue) (record {
       found = λ name.
           c.index_key.ensures.found name
           ∙ ap (λ o. option_or o (if bytes_eq (string_bytes c.args.key) name then Some c.len-place.result else None)) (c.self.invariant.found name)
@@ -26,7 +26,7 @@ invariant_of-self c =
           ∙ sym (place_of_issue-append name hs h);
       counted = ap₂ (λ a b. a + b) c.self.invariant.counted c.entries.ensures ∙ sym (entries_kept-push hs h);
       weighed = ap₂ (λ a b. a + b) c.self.invariant.weighed c.requires.bytes ∙ sym (bytes_kept-push hs h);
-      fits = omega (arith, c.put_issue.ensures.len, c.put_issue.ensures.capacity, c.self.invariant.fits, c.requires.room, ap (λ s. s.room) c.self.view_is);
-      noted_fits = omega (arith, c.note_project.ensures.len, c.note_project.ensures.capacity, c.self.invariant.noted_fits, c.requires.room, ap (λ s. s.room) c.self.view_is);
+      fits = omega (arith, c.push_reserved-2.ensures.len, c.push_reserved-2.ensures.capacity, c.self.invariant.fits, c.requires.room, ap (λ s. s.room) c.self.view_is);
+      noted_fits = omega (arith, c.push_reserved.ensures.len, c.push_reserved.ensures.capacity, c.self.invariant.noted_fits, c.requires.room, ap (λ s. s.room) c.self.view_is);
       indexed = omega (arith, c.index_key.ensures.spare, c.self.invariant.indexed);
     })
