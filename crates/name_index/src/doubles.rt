@@ -11,9 +11,12 @@ use std::collections::BTreeSet;
 
 /// Puts a name in small letters among those that were seen. Whether it wasn't there.
 fn put_seen(alloc: Global, seen: &mut BTreeSet<String>, name: &Text) -> Result<bool, Memory>
-    ensures new { IfOk result (λ new. new ≡ not (contains_text seen.old (str_to_ascii_lowercase name.now))) }
-    ensures seen { OnOk result ((other : List ℕ) → contains_text seen.new (str_to_ascii_lowercase other)
-        ≡ (str_eq_ignore_ascii_case name.now other || contains_text seen.old (str_to_ascii_lowercase other))) }
+    ensures new { IfOk result (λ new. new
+        ≡ not (contains_text seen.old (str_to_ascii_lowercase name.now))) }
+    ensures seen { OnOk result ((other : List ℕ)
+        → contains_text seen.new (str_to_ascii_lowercase other)
+        ≡ (str_eq_ignore_ascii_case name.now other
+        || contains_text seen.old (str_to_ascii_lowercase other))) }
 {
     Ok(seen.insert(name.as_str().to_ascii_lowercase(alloc)?)?)
 }

@@ -1,5 +1,5 @@
 // How names compare, ASCII case ignored.
-ghost use Rattle.std.specs.Prelude.{◌≡◌, map};
+ghost use Rattle.std.specs.Prelude.{◌≡◌};
 ghost use Rattle.std.specs.Cmp.Lexicographic.{slice_cmp};
 ghost use Rattle.std.specs.Ordering.{nat_cmp};
 ghost use Rattle.std.specs.Str.{str_to_ascii_lowercase};
@@ -9,7 +9,8 @@ use std::cmp::Ordering;
 
 /// How two texts compare by their bytes, with `A` to `Z` read as `a` to `z`.
 fn cmp_bytes(one: &[u8], other: &[u8]) -> Ordering
-    ensures { result ≡ slice_cmp nat_cmp (str_to_ascii_lowercase one.now) (str_to_ascii_lowercase other.now) }
+    ensures { result ≡ slice_cmp nat_cmp (str_to_ascii_lowercase one.now)
+        (str_to_ascii_lowercase other.now) }
 {
     let mut left = one;
     let mut right = other;
