@@ -4,6 +4,7 @@ use Rattle.std.specs.Prelude.{option_map}
 use Rattle.std.specs.Option.{option_map_or}
 use Rattle.std.proofs.lemmas.Bool.{cases_eq, ne_eqb, true≢false}
 use Rattle.field_values.specs.declared.numbers.FieldNo.{FieldNo}
+use Rattle.field_values.specs.declared.numbers.TheConstants.FieldNo as number
 use Rattle.field_values.specs.declared.numbers.SprintNo.{SprintNo}
 use Rattle.field_values.specs.declared.words.FieldKind.{FieldKind}
 use Rattle.field_values.specs.declared.words.FieldKind.TheVariants as kind
@@ -76,26 +77,26 @@ module _ (choices : List (List ℕ)) (n : ℕ) (sprint : SprintNo) where
   own None = refl
   own (Some f) = by_kind f.kind
 
-  elsewhere : (fields : List Field) → n == 13 ≡ false → holds_it (form_of fields n) ≡ false
+  elsewhere : (fields : List Field) → n == number.SPRINT.0 ≡ false → holds_it (form_of fields n) ≡ false
   unfolding form_of
   elsewhere fields other =
       neither _ _ _ choice_no (neither _ _ _ line_no (neither _ _ _ (prose_no 4096) (neither _ _ _ user_no (neither _ _ _ set_no
       (neither _ _ _ labels_no (neither _ _ _ date_no (neither _ _ _ points_no (unless _ _ _ other (own (own_field fields n))))))))))
 
-pub sprints_fit_one_field : (names : Names) (field : ℕ) (sprint : SprintNo) → fits names field (Value.Sprint sprint) ≡ true → field ≡ 13
+pub sprints_fit_one_field : (names : Names) (field : ℕ) (sprint : SprintNo) → fits names field (Value.Sprint sprint) ≡ true → field ≡ number.SPRINT.0
 unfolding fits holds_it
 sprints_fit_one_field names field sprint h =
-    elim (cases_eq field 13) [
+    elim (cases_eq field number.SPRINT.0) [
       | inl same ↦ same
-      | inr other ↦ absurd (true≢false (sym h ∙ elsewhere (choices_of names field) field sprint names.fields (ne_eqb field 13 other)))
+      | inr other ↦ absurd (true≢false (sym h ∙ elsewhere (choices_of names field) field sprint names.fields (ne_eqb field number.SPRINT.0 other)))
     ]
 
-pub one_sprint_is_held : (names : Names) (h : History) (sprint : SprintNo) → ((field : FieldNo) → (present h field ≡ Value.Empty) ⊎ (fits names field.0 (present h field) ≡ true)) → present h (record { 0 = 13 }) ≢ Value.Sprint sprint → IsNotIn h sprint
+pub one_sprint_is_held : (names : Names) (h : History) (sprint : SprintNo) → ((field : FieldNo) → (present h field ≡ Value.Empty) ⊎ (fits names field.0 (present h field) ≡ true)) → present h number.SPRINT ≢ Value.Sprint sprint → IsNotIn h sprint
 one_sprint_is_held names h sprint all other field is =
     elim (all field) [
       | inl empty ↦ let e : Value.Empty ≡ Value.Sprint sprint = sym empty ∙ is in absurd (cc)
       | inr fitting ↦
-          let n : field.0 ≡ 13 = sprints_fit_one_field names field.0 sprint (rw is at fitting) in
-          let f : record { 0 = 13 } ≡ field = sym (ap (λ (n : ℕ). let no : FieldNo = record { 0 = n } in no) n) in
+          let n : field.0 ≡ number.SPRINT.0 = sprints_fit_one_field names field.0 sprint (rw is at fitting) in
+          let f : number.SPRINT ≡ field = sym (ap (λ (n : ℕ). let no : FieldNo = record { 0 = n } in no) n) in
           other (ap (present h) f ∙ is)
     ]

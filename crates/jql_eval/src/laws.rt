@@ -7,8 +7,8 @@ pub fn right_verdicts()
     ensures elsewhere { IsRightElsewhere }
 {}
 
-/// A value that names a sprint stands in the field sprint alone, so an issue whose values fit is in the sprint that this field holds
-/// and in no other.
+/// A value that names a sprint stands in the field sprint alone, so an issue whose values fit is in the sprint that this
+/// field holds and in no other.
 pub fn sprints_of_issues()
     ensures field { SprintsFitOneField }
     ensures held { OneSprintIsHeld }

@@ -10,8 +10,8 @@ use fields::Setup;
 use jql_bound::{Direction, OrderBy, SortField};
 use std::cmp::Ordering;
 
-/// How two issues stand to each other: the first sort key that tells them apart decides, and after all of them the issues' numbers.
-/// `ranks` says how they stand in the order of ranks.
+/// How two issues stand to each other: the first sort key that tells them apart decides, and after all of them the issues'
+/// numbers. `ranks` says how they stand in the order of ranks.
 #[tactic(auto, unfolding(jql_meaning::specs::Order::issue_cmp))]
 pub fn compare(
     order: &OrderBy,
@@ -20,7 +20,8 @@ pub fn compare(
     ranks: Ordering,
     setup: &Setup,
 ) -> Ordering
-    ensures { result ≡ issue_cmp (parts setup.now) order.now.keys ranks one.now.history other.now.history }
+    ensures { result
+        ≡ issue_cmp (parts setup.now) order.now.keys ranks one.now.history other.now.history }
 {
     for key in order.keys.as_slice() {
         let decided = directed(

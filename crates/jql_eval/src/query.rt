@@ -27,7 +27,8 @@ pub fn evaluate<L: Ledger>(
     at: Moment,
     steps: &mut Steps<L>,
 ) -> Verdict
-    ensures right { IsRight (surroundings_of context.now) issue.now.history (option_map view query.now.cond) at result.holds result.until }
+    ensures right { IsRight (surroundings_of context.now) issue.now.history
+        (option_map view query.now.cond) at result.holds result.until }
     ensures steps { steps.new ≡ steps.old + 1 }
 {
     steps.tick();
@@ -40,9 +41,12 @@ pub fn evaluate<L: Ledger>(
 // The verdict on a condition.
 #[cycle(conditions)]
 fn verdict_of(cond: &Cond, issue: &Issue, context: &Context, at: Moment) -> Verdict
-    ensures holds { result.holds ≡ holds (surroundings_of context.now) issue.now.history at (view cond.now) }
-    ensures until { Stays (λ t. holds (surroundings_of context.now) issue.now.history t (view cond.now))
-        (λ t. IsCritical (surroundings_of context.now) issue.now.history t (view cond.now)) at result.until }
+    ensures holds { result.holds
+        ≡ holds (surroundings_of context.now) issue.now.history at (view cond.now) }
+    ensures until { Stays
+        (λ t. holds (surroundings_of context.now) issue.now.history t (view cond.now))
+        (λ t. IsCritical (surroundings_of context.now) issue.now.history t (view cond.now))
+        at result.until }
 {
     match cond {
         Cond::All(conds) => joined_verdict(conds, false, issue, context, at),
@@ -62,9 +66,12 @@ fn joined_verdict(
     context: &Context,
     at: Moment,
 ) -> Verdict
-    ensures holds { result.holds ≡ joined deciding (surroundings_of context.now) issue.now.history at (views conds.now) }
-    ensures until { Stays (λ t. joined deciding (surroundings_of context.now) issue.now.history t (views conds.now))
-        (λ t. IsCriticalForOne (surroundings_of context.now) issue.now.history t (views conds.now)) at result.until }
+    ensures holds { result.holds
+        ≡ joined deciding (surroundings_of context.now) issue.now.history at (views conds.now) }
+    ensures until { Stays
+        (λ t. joined deciding (surroundings_of context.now) issue.now.history t (views conds.now))
+        (λ t. IsCriticalForOne (surroundings_of context.now) issue.now.history t (views conds.now))
+        at result.until }
 {
     let mut until = None;
     for cond in conds {
@@ -79,7 +86,8 @@ fn joined_verdict(
 
 // The verdict on a comparison with what is present.
 fn present_verdict(leaf: &Leaf, issue: &Issue, context: &Context, at: Moment) -> Verdict
-    ensures holds { result.holds ≡ holds_now (surroundings_of context.now) leaf.now issue.now.history at }
+    ensures holds { result.holds
+        ≡ holds_now (surroundings_of context.now) leaf.now issue.now.history at }
     ensures until { Stays (holds_now (surroundings_of context.now) leaf.now issue.now.history)
         (IsCriticalNow (surroundings_of context.now) issue.now.history leaf.now) at result.until }
 {
@@ -91,7 +99,8 @@ fn present_verdict(leaf: &Leaf, issue: &Issue, context: &Context, at: Moment) ->
 
 // The verdict on a comparison with the past.
 fn past_verdict(leaf: &PastLeaf, issue: &Issue, context: &Context, at: Moment) -> Verdict
-    ensures holds { result.holds ≡ holds_past (surroundings_of context.now) leaf.now issue.now.history at }
+    ensures holds { result.holds
+        ≡ holds_past (surroundings_of context.now) leaf.now issue.now.history at }
     ensures until { Stays (holds_past (surroundings_of context.now) leaf.now issue.now.history)
         (IsCriticalPast (surroundings_of context.now) issue.now.history leaf.now) at result.until }
 {

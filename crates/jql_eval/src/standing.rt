@@ -3,8 +3,8 @@ ghost use Rattle.std.specs.Prelude.{◌≡◌, ◌==◌, unwrap_or, slice_get, n
 ghost use Rattle.std.specs.List.{after_first};
 ghost use Rattle.fields.specs.SetupParts.{parts};
 ghost use Rattle.jql_meaning.specs.Comparison.{project_of};
-ghost use Rattle.jql_meaning.specs.Order.{standing, standing_cmp, value_standing, category_standing, category_place, text_cmp, kind_place, key, number_of};
-ghost use Rattle.jql_eval.specs.Standings.{seen};
+ghost use Rattle.jql_meaning.specs.Order.{standing, standing_cmp, value_standing, category_standing, category_place, text_cmp, kind_place, key};
+ghost use Rattle.jql_eval.specs.Standings.{key_standing, seen};
 
 use crate::number::{number_cmp, number_in};
 use change_history::Issue;
@@ -13,8 +13,8 @@ use fields::Setup;
 use jql_bound::Subject;
 use std::cmp::Ordering;
 
-/// What decides where an issue stands: a size, a text, the project and the number of its key, or nothing. It is small, so that lists
-/// are put in order by standings that are worked out once an issue.
+/// What decides where an issue stands: a size, a text, the project and the number of its key, or nothing. It is small, so
+/// that lists are put in order by standings that are worked out once an issue.
 #[derive(Clone, Copy)]
 pub enum Standing<'a> {
     Size(i64),
@@ -78,7 +78,8 @@ fn value_standing<'a>(setup: &'a Setup, field: FieldNo, value: &'a Value) -> Sta
 
 // Choices stand as in the setup, and priorities the other way round.
 fn choice_place(field: FieldNo, choice: ChoiceNo) -> i64
-    ensures { result ≡ if field.0 == FieldNo.PRIORITY.0 then neg_ℤ (pos choice.0) else pos choice.0 }
+    ensures { result
+        ≡ if field.0 == FieldNo.PRIORITY.0 then neg_ℤ (pos choice.0) else pos choice.0 }
 {
     let place = i64::from(choice.0);
     if field.0 == FieldNo::PRIORITY.0 {
@@ -100,7 +101,7 @@ fn user_name(setup: &Setup, user: UserNo) -> &[u8]
 
 // By the key: its project, and its number, which is read once.
 fn key_standing(name: &str) -> Standing<'_>
-    ensures { seen result ≡ key (project_of name.now) (number_of name.now) }
+    ensures { seen result ≡ key_standing name.now }
 {
     let (project, digits) = key_parts(name);
     match u32::try_from(number_in(digits)) {
@@ -121,7 +122,8 @@ fn key_parts(name: &str) -> (&[u8], &[u8])
     }
 }
 
-/// How two stand to each other: sizes by size, texts by their bytes, keys by the project and then by the number; nothing stands last.
+/// How two stand to each other: sizes by size, texts by their bytes, keys by the project and then by the number; nothing
+/// stands last.
 pub fn standing_cmp(one: &Standing<'_>, other: &Standing<'_>) -> Ordering
     ensures { result ≡ standing_cmp (seen one.now) (seen other.now) }
 {
@@ -148,7 +150,7 @@ fn text_cmp(one: &[u8], other: &[u8]) -> Ordering
 
 // How a key stands to one with a long number.
 fn to_long_cmp(project: &[u8], number: u32, long: &str) -> Ordering
-    ensures { result ≡ standing_cmp (key project.now number) (key (project_of long.now) (number_of long.now)) }
+    ensures { result ≡ standing_cmp (key project.now number) (key_standing long.now) }
 {
     let (other, digits) = key_parts(long);
     text_cmp(project, other).then(u64::from(number).cmp(&number_in(digits)))
@@ -156,7 +158,7 @@ fn to_long_cmp(project: &[u8], number: u32, long: &str) -> Ordering
 
 // How two keys with long numbers stand to each other.
 fn long_cmp(one: &str, other: &str) -> Ordering
-    ensures { result ≡ standing_cmp (key (project_of one.now) (number_of one.now)) (key (project_of other.now) (number_of other.now)) }
+    ensures { result ≡ standing_cmp (key_standing one.now) (key_standing other.now) }
 {
     let (project, digits) = key_parts(one);
     let (opposing, opposite) = key_parts(other);

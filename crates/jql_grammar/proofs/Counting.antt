@@ -1,5 +1,5 @@
 -- Comparisons and tests, counted.
-use Rattle.std.proofs.Common.{◌≡◌, ℕ, ◌+◌, Bool, true, false, List, Option, Some, None, Result, Ok, Err, IfOk, refl, ap, sym, ◌∙◌}
+use Rattle.std.proofs.Common.{◌≡◌, ℕ, ◌+◌, Bool, true, false, Option, Some, None, Result, Ok, Err, IfOk, refl, ◌∙◌}
 use Rattle.jql_syntax.specs.Tree.{Tree, single, negation, all_of, any_of, Trees, no_trees, tree}
 use Rattle.jql_syntax.specs.declared.query.Value.{Value}
 use Rattle.jql_syntax.specs.declared.query.Comparison.{Comparison}

@@ -1,10 +1,9 @@
 -- Conditions bound one after another.
-use Rattle.std.proofs.Common.{◌≡◌, ℕ, ◌+◌, ◌<◌, ◌≤◌, List, [], ◌∷◌, ◌++◌, length, map, get_or, drop, Bool, Result, Ok, Err, refl, ap, sym, ◌∙◌, arith}
+use Rattle.std.proofs.Common.{◌≡◌, ℕ, ◌+◌, ◌<◌, ◌≤◌, List, [], ◌∷◌, ◌++◌, length, get_or, drop, Bool, Result, Ok, Err, refl, ap, sym, ◌∙◌}
 use Rattle.std.proofs.lemmas.List.{at_drop_more, at_drop_all}
-use Rattle.jql_syntax.specs.Tree.{Tree, Trees, no_trees, tree}
 use Rattle.jql_syntax.specs.View.{view as tree_of, views as trees_of}
 use Rattle.jql_syntax.specs.declared.query.Expr.{Expr}
-use Rattle.jql_bound.specs.Condition.{Condition, Conditions, no_conditions, condition, conditions_of, view, views}
+use Rattle.jql_bound.specs.Condition.{Conditions, no_conditions, condition, view, views}
 use Rattle.jql_bound.specs.declared.cond.Cond.{Cond}
 use Rattle.jql_grammar.specs.declared.fault.BindFault.{BindFault}
 use Rattle.jql_grammar.specs.declared.fault.BindFault.TheVariants.{Bad, Memory}

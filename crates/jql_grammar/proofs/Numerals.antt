@@ -1,9 +1,7 @@
 -- Numbers that are too large.
-use Rattle.std.proofs.Common.{◌≡◌, ℕ, ◌+◌, ◌-◌, ◌*◌, ◌<◌, ◌≤◌, List, [], ◌∷◌, length, get_or, drop, true, Option, None, arith, add-one, drop-cons, refl}
-use Rattle.std.proofs.lemmas.List.Sums.{AllPass-from_list_all}
+use Rattle.std.proofs.Common.{◌≡◌, ℕ, ◌<◌, List, None, arith}
 use Rattle.std.proofs.lemmas.Bool.Decides.{nat_tests}
-use Rattle.std.specs.List.{list_all}
-use Rattle.field_values.specs.Digits.{read_on, is_digit}
+use Rattle.field_values.specs.Digits.{read_on}
 use Rattle.field_values.proofs.Numerals.{read_grows}
 use Rattle.jql_grammar.specs.Forms.{small}
 

@@ -1,12 +1,11 @@
 -- What functions stand for. Their names ignore the case of ASCII letters.
-use Rattle.std.specs.Prelude.{◌≡◌, ℕ, ◌+◌, List, map, Option, Some, None, option_map, if◌then◌else◌, Result, Ok, Err, codes}
+use Rattle.std.specs.Prelude.{ℕ, ◌+◌, List, Option, Some, None, option_map, if◌then◌else◌, Result, Ok, Err, codes}
 use Rattle.field_forms.specs.Names.{place_named}
 use Rattle.relative_dates.specs.declared.term.Term.{Term}
 use Rattle.relative_dates.specs.declared.call.TermCall.{TermCall}
 use Rattle.relative_dates.specs.declared.call.TermCall.TheVariants.{Is, NoSuchName, BadArgument}
 use Rattle.relative_dates.specs.Call.{call_of}
 use Rattle.jql_syntax.specs.declared.query.Call.{Call}
-use Rattle.jql_bound.specs.declared.context.Phase.{Phase}
 use Rattle.jql_bound.specs.declared.context.Phase.TheVariants.{Future, Active, Closed}
 use Rattle.jql_bound.specs.declared.operand.Operand.{Operand}
 use Rattle.jql_bound.specs.declared.operand.Operand.TheVariants as operand

@@ -1,12 +1,12 @@
 -- The fields that a query may name. Names ignore the case of ASCII letters.
-use Rattle.std.specs.Prelude.{ℕ, ◌==◌, Bool, ◌||◌, List, Option, Some, None, option_map, if◌then◌else◌, codes}
+use Rattle.std.specs.Prelude.{ℕ, Bool, ◌||◌, List, Option, Some, None, option_map, if◌then◌else◌, codes}
 use Rattle.std.specs.Option.{option_or}
 use Rattle.std.specs.Str.{str_eq_ignore_ascii_case}
+use Rattle.field_values.specs.declared.numbers.TheConstants.FieldNo as number
 use Rattle.field_values.specs.declared.field.Field.{Field as OwnField}
 use Rattle.field_forms.specs.Known.{field_named, own_field}
 use Rattle.jql_syntax.specs.declared.query.Field.{Field}
 use Rattle.jql_syntax.specs.declared.query.Field.TheVariants.{Named, Custom}
-use Rattle.jql_bound.specs.declared.leaf.Subject.{Subject}
 use Rattle.jql_bound.specs.declared.leaf.Subject.TheVariants.{Field as Held, Project, Key, Created, Updated}
 use Rattle.jql_bound.specs.declared.order.SortField.{SortField}
 use Rattle.jql_bound.specs.declared.order.SortField.TheVariants.{Subject as TheSubject, StatusCategory, Rank}
@@ -30,8 +30,8 @@ later_named name =
 -- second names of fields, and fields that follow from the rest of an issue
 unfoldable pub other_named : List ℕ → Option SortField
 other_named name =
-    if is_named name (codes "issuetype") then Some (held 1)
-    else (if is_named name (codes "duedate") then Some (held 11)
+    if is_named name (codes "issuetype") then Some (held number.TYPE.0)
+    else (if is_named name (codes "duedate") then Some (held number.DUE.0)
     else (if is_named name (codes "project") then Some (TheSubject Project)
     else (if is_named name (codes "key") || (is_named name (codes "issue") || is_named name (codes "issuekey")) then Some (TheSubject Key)
     else later_named name)))

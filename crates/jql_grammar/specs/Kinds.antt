@@ -1,5 +1,5 @@
 -- What a field is compared with, and by which operators.
-use Rattle.std.specs.Prelude.{◌≡◌, ℕ, ◌==◌, Bool, true, false, ◌||◌, List, Option, Some, None, option_map, if◌then◌else◌, Result, Ok, Err}
+use Rattle.std.specs.Prelude.{◌==◌, Bool, true, false, ◌||◌, List, Option, Some, None, option_map, if◌then◌else◌, Result, Ok, Err}
 use Rattle.field_values.specs.declared.numbers.TheConstants.FieldNo as number
 use Rattle.field_values.specs.declared.field.Field.{Field as OwnField}
 use Rattle.field_values.specs.declared.numbers.FieldNo.{FieldNo}
@@ -83,5 +83,5 @@ has_search _ = false
 -- WAS and CHANGED: status, assignee, reporter, priority, resolution and fixVersion, which are numbered from 4 to 9
 abbrev pub history_field : ValueKind → Subject → Option FieldNo
 history_field Category subject = None
-history_field kind (Held field) = if is_from_to 4 9 field.0 then Some field else None
+history_field kind (Held field) = if is_from_to number.STATUS.0 number.FIX_VERSION.0 field.0 then Some field else None
 history_field kind _ = None

@@ -1,5 +1,6 @@
 -- What issues are sorted by.
 use Rattle.std.specs.Prelude.{ℕ, ◌+◌, ◌==◌, Bool, true, not, ◌||◌, List, [], ◌∷◌, Result, Ok}
+use Rattle.field_values.specs.declared.numbers.TheConstants.FieldNo as number
 use Rattle.field_values.specs.declared.field.Field.{Field as OwnField}
 use Rattle.jql_syntax.specs.declared.query.SortKey.{SortKey}
 use Rattle.jql_syntax.specs.declared.query.Direction.{Direction as Way}
@@ -12,13 +13,13 @@ use Rattle.jql_bound.specs.declared.order.Direction.{Direction}
 use Rattle.jql_bound.specs.declared.order.Direction.TheVariants.{Ascending, Descending}
 use Rattle.jql_grammar.specs.declared.fault.FaultKind.{FaultKind}
 use Rattle.jql_grammar.specs.declared.fault.FaultKind.TheVariants.{UnknownField, OperatorNotForField}
-use Rattle.jql_grammar.specs.Steps.{made, made_of_both, if_some, if_allowed}
+use Rattle.jql_grammar.specs.Steps.{made_of_both, if_some, if_allowed}
 use Rattle.jql_grammar.specs.Fields.{field_in}
 use Rattle.jql_grammar.specs.Conditions.{PlacedFault, placed}
 
 -- fields that hold several values, fixVersion and labels, give no order
 abbrev pub is_sortable : SortField → Bool
-is_sortable (Subject (Field n)) = not ((n.0 == 9) || (n.0 == 10))
+is_sortable (Subject (Field n)) = not ((n.0 == number.FIX_VERSION.0) || (n.0 == number.LABELS.0))
 is_sortable _ = true
 
 abbrev pub direction_of : Way → Direction

@@ -1,5 +1,5 @@
 -- Steps that may be refused, one after the other: the first refusal is the answer.
-use Rattle.std.specs.Prelude.{◌≡◌, ℕ, List, [], ◌∷◌, ◌++◌, Bool, true, false, if◌then◌else◌, Option, Some, None, Result, Ok, Err}
+use Rattle.std.specs.Prelude.{◌≡◌, List, [], ◌∷◌, Bool, if◌then◌else◌, Option, Some, None, Result, Ok, Err}
 use Rattle.jql_grammar.specs.declared.fault.FaultKind.{FaultKind}
 use Rattle.jql_grammar.specs.declared.fault.Stop.{Stop}
 use Rattle.jql_grammar.specs.declared.fault.Stop.TheVariants.{At, Memory}

@@ -1,8 +1,8 @@
 -- What a text stands for where a field is compared with it.
-use Rattle.std.specs.Prelude.{◌≡◌, ℕ, ◌+◌, Bool, List, [], ◌∷◌, map, Option, Some, None, option_map, option_and_then, if◌then◌else◌, Result, Ok, Err, codes}
+use Rattle.std.specs.Prelude.{ℕ, ◌+◌, List, [], ◌∷◌, map, Option, Some, None, option_map, option_and_then, if◌then◌else◌, Result, Err, codes}
 use Rattle.std.specs.List.{slice_get}
 use Rattle.field_values.specs.declared.numbers.ChoiceNo.{ChoiceNo}
-use Rattle.field_values.specs.declared.numbers.FieldNo.{FieldNo}
+use Rattle.field_values.specs.declared.numbers.TheConstants.FieldNo as number
 use Rattle.field_values.specs.declared.parts.Project.{Project as AProject}
 use Rattle.field_values.specs.declared.status.Status.{Status}
 use Rattle.field_values.specs.declared.words.Category.{Category}
@@ -30,7 +30,7 @@ choice_in scope field text = option_map (λ place. operand.Choice (record { 0 = 
 
 -- Unresolved is what a resolution is called that isn't there
 abbrev pub resolution_in : Scope → List ℕ → Option Operand
-resolution_in scope text = if is_named text (codes "Unresolved") then Some operand.Empty else choice_in scope 8 text
+resolution_in scope text = if is_named text (codes "Unresolved") then Some operand.Empty else choice_in scope number.RESOLUTION.0 text
 
 abbrev pub user_in : Scope → List ℕ → Result Operand FaultKind
 user_in scope text = some_or UnknownUserOrGroup (option_map (λ place. operand.User (record { 0 = place })) (place_named text scope.names.users))
@@ -70,10 +70,10 @@ category_in scope text = option_map (λ category. operand.Statuses (statuses_of 
 unfoldable pub value_in : Scope → ValueKind → List ℕ → Result Operand FaultKind
 value_in scope Text text = Err UnknownValue
 value_in scope (Choice field) text = some_or UnknownValue (choice_in scope field.0 text)
-value_in scope Priority text = some_or UnknownValue (choice_in scope 7 text)
+value_in scope Priority text = some_or UnknownValue (choice_in scope number.PRIORITY.0 text)
 value_in scope Resolution text = some_or UnknownValue (resolution_in scope text)
 value_in scope User text = user_in scope text
-value_in scope Versions text = some_or UnknownValue (choice_in scope 9 text)
+value_in scope Versions text = some_or UnknownValue (choice_in scope number.FIX_VERSION.0 text)
 value_in scope Labels text = some_or UnknownValue (label_in text)
 value_in scope Date text = some_or UnknownValue (option_map operand.Date (read_term text))
 value_in scope (Number field) text = some_or UnknownValue (number_operand scope field.0 text)

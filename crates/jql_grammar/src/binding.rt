@@ -17,9 +17,12 @@ use std::alloc::Global;
 // The condition, where there is one, and how many tests it has.
 #[tactic(auto, using(crate::proofs::Denying::made_told))]
 fn bind_condition(binder: &Binder<'_>, query: &Query) -> Result<(Option<Cond>, usize), BindFault>
-    ensures ok { IfOk result (λ x. condition_or_none (scope_of binder.now) (option_map tree query.now.0) ≡ Ok (option_map view x.0)) }
+    ensures ok { IfOk result (λ x.
+        condition_or_none (scope_of binder.now) (option_map tree query.now.0)
+        ≡ Ok (option_map view x.0)) }
     ensures next { IfOk result (λ x. x.1 ≡ tests_or_none (option_map tree query.now.0)) }
-    ensures err { IfErr result (Tells (condition_or_none (scope_of binder.now) (option_map tree query.now.0))) }
+    ensures err { IfErr result
+        (Tells (condition_or_none (scope_of binder.now) (option_map tree query.now.0))) }
 {
     match query.condition() {
         None => Ok((None, 0)),
@@ -30,11 +33,15 @@ fn bind_condition(binder: &Binder<'_>, query: &Query) -> Result<(Option<Cond>, u
     }
 }
 
-/// Binds a query to a setup: names become numbers, `currentUser()` is the caller, and NOT of a condition is its negation. The first fault is told, of
-/// the tests from the left and then of the sort keys; within a test in the order field, operator, values, predicates.
+/// Binds a query to a setup: names become numbers, `currentUser()` is the caller, and NOT of a condition is its negation. The
+/// first fault is told, of the tests from the left and then of the sort keys; within a test in the order field, operator,
+/// values, predicates.
 pub fn bind(alloc: Global, query: &Query, setup: &Setup, caller: UserNo) -> Result<Bound, BindFault>
-    ensures bound { IfOk result (λ bound. bound_in (scope_in setup.now caller) (option_map tree query.now.0) query.now.1 ≡ Ok (option_map view bound.cond, bound.order.keys)) }
-    ensures fault { IfErr result (Tells (bound_in (scope_in setup.now caller) (option_map tree query.now.0) query.now.1)) }
+    ensures bound { IfOk result
+        (λ bound. bound_in (scope_in setup.now caller) (option_map tree query.now.0) query.now.1
+        ≡ Ok (option_map view bound.cond, bound.order.keys)) }
+    ensures fault { IfErr result
+        (Tells (bound_in (scope_in setup.now caller) (option_map tree query.now.0) query.now.1)) }
 {
     let binder = Binder {
         alloc,

@@ -1,5 +1,5 @@
 // Whole conditions.
-ghost use Rattle.std.specs.Prelude.{◌≡◌, ◌+◌, IfOk, IfErr, map};
+ghost use Rattle.std.specs.Prelude.{◌≡◌, ◌+◌, IfOk, IfErr};
 ghost use Rattle.jql_syntax.specs.View.{view as tree, views as trees};
 ghost use Rattle.jql_bound.specs.Condition.{view, views};
 ghost use Rattle.jql_grammar.specs.Scope.{scope_of};
@@ -34,9 +34,11 @@ fn bind_leaf(
     place: usize,
     leaf: &Leaf,
 ) -> Result<(Cond, usize), BindFault>
-    ensures ok { IfOk result (λ x. condition_asked (scope_of binder.now) denied place (single leaf.now) ≡ Ok (view x.0)) }
+    ensures ok { IfOk result (λ x.
+        condition_asked (scope_of binder.now) denied place (single leaf.now) ≡ Ok (view x.0)) }
     ensures next { IfOk result (λ x. x.1 ≡ place + 1) }
-    ensures err { IfErr result (Tells (condition_asked (scope_of binder.now) denied place (single leaf.now))) }
+    ensures err { IfErr result
+        (Tells (condition_asked (scope_of binder.now) denied place (single leaf.now))) }
 {
     let Some(next) = place.checked_add(1) else {
         return Err(BindFault::Memory);
@@ -67,9 +69,11 @@ pub(crate) fn bind_expr(
     place: usize,
     expr: &Expr,
 ) -> Result<(Cond, usize), BindFault>
-    ensures ok { IfOk result (λ x. condition_asked (scope_of binder.now) denied place (tree expr.now) ≡ Ok (view x.0)) }
+    ensures ok { IfOk result (λ x.
+        condition_asked (scope_of binder.now) denied place (tree expr.now) ≡ Ok (view x.0)) }
     ensures next { IfOk result (λ x. x.1 ≡ place + tests (tree expr.now)) }
-    ensures err { IfErr result (Tells (condition_asked (scope_of binder.now) denied place (tree expr.now))) }
+    ensures err { IfErr result
+        (Tells (condition_asked (scope_of binder.now) denied place (tree expr.now))) }
 {
     match expr {
         Expr::Leaf(leaf) => bind_leaf(binder, denied, place, leaf),
@@ -93,9 +97,12 @@ fn bind_exprs(
     place: usize,
     exprs: &[Expr],
 ) -> Result<(Vec<Cond>, usize), BindFault>
-    ensures ok { IfOk result (λ x. conditions_asked (scope_of binder.now) denied place (trees exprs.now) ≡ Ok (views x.0.items)) }
+    ensures ok { IfOk result (λ x.
+        conditions_asked (scope_of binder.now) denied place (trees exprs.now)
+        ≡ Ok (views x.0.items)) }
     ensures next { IfOk result (λ x. x.1 ≡ place + tests_in (trees exprs.now)) }
-    ensures err { IfErr result (Tells (conditions_asked (scope_of binder.now) denied place (trees exprs.now))) }
+    ensures err { IfErr result
+        (Tells (conditions_asked (scope_of binder.now) denied place (trees exprs.now))) }
 {
     let mut conds = Vec::new(binder.alloc);
     let mut next = place;

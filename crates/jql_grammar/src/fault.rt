@@ -66,9 +66,9 @@ impl<T: Drop> From<AllocFailed<T>> for Stop {
 /// Why a query can't be bound to a setup.
 #[derive(Clone, Copy, PartialEq, Eq)]
 pub enum BindFault {
-    /// The first test at fault, counted from 0 and from the left, or the first sort key at fault, counted on after all tests; and what is
-    /// wrong: 11 no such field, 12 no such value in the field, 13 an operator or an order that the field hasn't, 14 no such function, or one that
-    /// has no place here, 15 no such user or group.
+    /// The first test at fault, counted from 0 and from the left, or the first sort key at fault, counted on after all tests;
+    /// and what is wrong: 11 no such field, 12 no such value in the field, 13 an operator or an order that the field hasn't,
+    /// 14 no such function, or one that has no place here, 15 no such user or group.
     Bad { place: usize, kind: u8 },
     /// There was not enough memory.
     Memory,

@@ -21,7 +21,8 @@ fn held(no: u16) -> SortField
 }
 
 fn names_key(name: &str) -> bool
-    ensures { result ≡ (is_named name.now (codes "key") || (is_named name.now (codes "issue") || is_named name.now (codes "issuekey"))) }
+    ensures { result ≡ (is_named name.now (codes "key")
+        || (is_named name.now (codes "issue") || is_named name.now (codes "issuekey"))) }
 {
     is_named(name, "key") || is_named(name, "issue") || is_named(name, "issuekey")
 }
@@ -32,9 +33,9 @@ fn other_named(name: &str) -> Option<SortField>
     ensures { result ≡ other_named name.now }
 {
     if is_named(name, "issuetype") {
-        Some(held(1))
+        Some(held(FieldNo::TYPE.0))
     } else if is_named(name, "duedate") {
-        Some(held(11))
+        Some(held(FieldNo::DUE.0))
     } else if is_named(name, "project") {
         Some(SortField::Subject(Subject::Project))
     } else if names_key(name) {

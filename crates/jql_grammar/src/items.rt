@@ -1,6 +1,6 @@
 // What a field is compared with: values, EMPTY and lists.
 ghost use Rattle.std.specs.Prelude.{◌≡◌, IfOk, IfErr};
-ghost use Rattle.jql_grammar.specs.Steps.{Stops, made};
+ghost use Rattle.jql_grammar.specs.Steps.{Stops};
 ghost use Rattle.jql_grammar.specs.Scope.{scope_of};
 ghost use Rattle.jql_grammar.specs.Items.{alone, operand_in, item_in, listed_value, listed_item, items_in, members_in, choice_of, authors_in};
 

@@ -32,7 +32,8 @@ fn comparison_asked(denied: bool, comparison: Comparison) -> Comparison
 // A test, or where it is denied its opposite.
 #[tactic(auto, unfolding(crate::specs::Asked::test_asked))]
 fn test_asked(binder: &Binder<'_>, column: Column, denied: bool, test: &Test) -> Result<Cond, Stop>
-    ensures ok { IfOk result (λ x. test_asked (scope_of binder.now) column denied test.now ≡ Ok (view x)) }
+    ensures ok { IfOk result
+        (λ x. test_asked (scope_of binder.now) column denied test.now ≡ Ok (view x)) }
     ensures err { IfErr result (Stops (test_asked (scope_of binder.now) column denied test.now)) }
 {
     match test {

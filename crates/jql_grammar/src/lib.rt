@@ -1,5 +1,5 @@
-//! Queries read from texts and bound to a setup: names in them become numbers, NOT is pushed to the tests of fields, and the first fault
-//! is told.
+//! Queries read from texts and bound to a setup: names in them become numbers, NOT is pushed to the tests of fields, and the
+//! first fault is told.
 #![tactic(auto)]
 
 mod binding;

@@ -52,8 +52,10 @@ pub(crate) fn was_in(
     item: &Item,
     predicates: &[Predicate],
 ) -> Result<Cond, Stop>
-    ensures ok { IfOk result (λ x. was_in (scope_of binder.now) column holds item.now predicates.now ≡ Ok (view x)) }
-    ensures err { IfErr result (Stops (was_in (scope_of binder.now) column holds item.now predicates.now)) }
+    ensures ok { IfOk result
+        (λ x. was_in (scope_of binder.now) column holds item.now predicates.now ≡ Ok (view x)) }
+    ensures err { IfErr result
+        (Stops (was_in (scope_of binder.now) column holds item.now predicates.now)) }
 {
     let Some(field) = column.history_field() else {
         return Err(Stop::At(FaultKind::OperatorNotForField));
@@ -72,8 +74,10 @@ pub(crate) fn was_among(
     members: &Members,
     predicates: &[Predicate],
 ) -> Result<Cond, Stop>
-    ensures ok { IfOk result (λ x. was_among (scope_of binder.now) column holds members.now predicates.now ≡ Ok (view x)) }
-    ensures err { IfErr result (Stops (was_among (scope_of binder.now) column holds members.now predicates.now)) }
+    ensures ok { IfOk result (λ x.
+        was_among (scope_of binder.now) column holds members.now predicates.now ≡ Ok (view x)) }
+    ensures err { IfErr result
+        (Stops (was_among (scope_of binder.now) column holds members.now predicates.now)) }
 {
     let Some(field) = column.history_field() else {
         return Err(Stop::At(FaultKind::OperatorNotForField));
@@ -90,7 +94,8 @@ pub(crate) fn changed_in(
     holds: bool,
     aspects: &[Aspect],
 ) -> Result<Cond, Stop>
-    ensures ok { IfOk result (λ x. changed_in (scope_of binder.now) column holds aspects.now ≡ Ok (view x)) }
+    ensures ok { IfOk result
+        (λ x. changed_in (scope_of binder.now) column holds aspects.now ≡ Ok (view x)) }
     ensures err { IfErr result (Stops (changed_in (scope_of binder.now) column holds aspects.now)) }
 {
     let Some(field) = column.history_field() else {

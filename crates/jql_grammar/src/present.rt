@@ -75,7 +75,8 @@ pub(crate) fn equality_in(
     holds: bool,
     item: &Item,
 ) -> Result<Cond, Stop>
-    ensures ok { IfOk result (λ x. equality_in (scope_of binder.now) column holds item.now ≡ Ok (view x)) }
+    ensures ok { IfOk result
+        (λ x. equality_in (scope_of binder.now) column holds item.now ≡ Ok (view x)) }
     ensures err { IfErr result (Stops (equality_in (scope_of binder.now) column holds item.now)) }
 {
     if !column.has_equality() {
@@ -93,8 +94,10 @@ pub(crate) fn membership_in(
     holds: bool,
     members: &Members,
 ) -> Result<Cond, Stop>
-    ensures ok { IfOk result (λ x. membership_in (scope_of binder.now) column holds members.now ≡ Ok (view x)) }
-    ensures err { IfErr result (Stops (membership_in (scope_of binder.now) column holds members.now)) }
+    ensures ok { IfOk result
+        (λ x. membership_in (scope_of binder.now) column holds members.now ≡ Ok (view x)) }
+    ensures err { IfErr result
+        (Stops (membership_in (scope_of binder.now) column holds members.now)) }
 {
     if !column.has_equality() {
         return Err(Stop::At(FaultKind::OperatorNotForField));
@@ -110,7 +113,8 @@ fn order_in(
     sign: Inequality,
     value: &Value,
 ) -> Result<Cond, Stop>
-    ensures ok { IfOk result (λ x. order_in (scope_of binder.now) column sign value.now ≡ Ok (view x)) }
+    ensures ok { IfOk result
+        (λ x. order_in (scope_of binder.now) column sign value.now ≡ Ok (view x)) }
     ensures err { IfErr result (Stops (order_in (scope_of binder.now) column sign value.now)) }
 {
     if !column.has_order() {
@@ -152,8 +156,10 @@ pub(crate) fn comparison_in(
     comparison: Comparison,
     value: &Value,
 ) -> Result<Cond, Stop>
-    ensures ok { IfOk result (λ x. comparison_in (scope_of binder.now) column comparison value.now ≡ Ok (view x)) }
-    ensures err { IfErr result (Stops (comparison_in (scope_of binder.now) column comparison value.now)) }
+    ensures ok { IfOk result
+        (λ x. comparison_in (scope_of binder.now) column comparison value.now ≡ Ok (view x)) }
+    ensures err { IfErr result
+        (Stops (comparison_in (scope_of binder.now) column comparison value.now)) }
 {
     match comparison {
         Comparison::Less => order_in(binder, column, Inequality::Less, value),

@@ -1,7 +1,6 @@
 // What issues are sorted by.
 ghost use Rattle.std.specs.Prelude.{◌≡◌, IfOk, IfErr};
 ghost use Rattle.jql_grammar.specs.Steps.{Stops};
-ghost use Rattle.jql_grammar.specs.Scope.{scope_of};
 ghost use Rattle.jql_grammar.specs.Sorting.{is_sortable, direction_of, key_in, keys_in};
 ghost use Rattle.jql_grammar.specs.Binding.{Tells};
 
@@ -9,7 +8,7 @@ use crate::conditions::fault_at;
 use crate::fault::{BindFault, FaultKind, Stop};
 use crate::field_name::field_in;
 use crate::scope::Binder;
-use fields::{Sequence, Setup};
+use fields::{FieldNo, Sequence, Setup};
 use jql_bound::{Direction, OrderKey, SortField, Subject};
 use jql_syntax::{Direction as Way, SortKey};
 
@@ -17,7 +16,9 @@ fn is_sortable(field: SortField) -> bool
     ensures { result ≡ is_sortable field }
 {
     match field {
-        SortField::Subject(Subject::Field(no)) => no.0 != 9 && no.0 != 10,
+        SortField::Subject(Subject::Field(no)) => {
+            no.0 != FieldNo::FIX_VERSION.0 && no.0 != FieldNo::LABELS.0
+        }
         _ => true,
     }
 }

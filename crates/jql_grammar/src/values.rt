@@ -1,6 +1,5 @@
 // What a text stands for where a field is compared with it.
 ghost use Rattle.std.specs.Prelude.{◌≡◌, ◌≤◌, option_map, length, IfOk, IfErr};
-ghost use Rattle.fields.specs.SetupParts.{parts};
 ghost use Rattle.relative_dates.specs.Reading.{read_term};
 ghost use Rattle.jql_grammar.specs.Steps.{Stops, some_or};
 ghost use Rattle.jql_grammar.specs.Scope.{scope_of};
@@ -115,7 +114,8 @@ fn project_named<'a>(binder: &Binder<'a>, text: &str) -> Option<&'a Project>
 }
 
 fn project_in(binder: &Binder<'_>, text: &str) -> Result<Option<Operand>, Memory>
-    ensures { IfOk result (λ x. x ≡ option_map (λ p. Operand.Project p.key) (project_in (scope_of binder.now) text.now)) }
+    ensures { IfOk result (λ x. x
+        ≡ option_map (λ p. Operand.Project p.key) (project_in (scope_of binder.now) text.now)) }
 {
     match project_named(binder, text) {
         Some(project) => Ok(Some(Operand::Project(project.key.copy(binder.alloc)?))),

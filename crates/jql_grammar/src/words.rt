@@ -32,8 +32,8 @@ fn put_word(
     Ok(())
 }
 
-/// The words of a text: longest runs of ASCII letters, ASCII digits and characters past ASCII. One directly before an asterisk is marked as a
-/// prefix.
+/// The words of a text: longest runs of ASCII letters, ASCII digits and characters past ASCII. One directly before an
+/// asterisk is marked as a prefix.
 pub(crate) fn words_of(alloc: Global, text: &str) -> Result<Sequence<Word>, Memory>
     ensures { IfOk result (λ words. words ≡ words_of text.now) }
 {

@@ -9,8 +9,8 @@ use jql_bound::Context;
 use jql_present::second_now;
 use relative_dates::{LocalSecond, Term};
 
-/// The date that means the same second at the moment, and that is written out where it was the edge of a period. Where the local clock
-/// shows that second twice, no written date means it, and the edge stays.
+/// The date that means the same second at the moment, and that is written out where it was the edge of a period. Where the
+/// local clock shows that second twice, no written date means it, and the edge stays.
 pub(crate) fn settled(date: &Term, context: &Context, at: Moment) -> Term
     ensures { second_now (surroundings_of context.now) at result
         ≡ second_now (surroundings_of context.now) at date.now }

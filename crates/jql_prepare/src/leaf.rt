@@ -10,8 +10,8 @@ use crate::date::settled;
 use field_values::Moment;
 use jql_bound::{Context, Leaf, Operand, Operator};
 
-/// The comparison that holds of the same issues at the moment, with the date worked out that it compares by size. Of the others none
-/// is asked for an order.
+/// The comparison that holds of the same issues at the moment, with the date worked out that it compares by size. Of the
+/// others none is asked for an order.
 #[tactic(auto, unfolding(jql_meaning::specs::Present::holds_now))]
 pub(crate) fn settled_leaf(mut leaf: Leaf, context: &Context, at: Moment) -> Leaf
     ensures { (h : History) → holds_now (surroundings_of context.now) result h at

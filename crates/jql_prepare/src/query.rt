@@ -14,7 +14,8 @@ use std::mem;
 /// Has the query hold of the same issues at the moment, with the dates that it compares by size worked out. It takes no memory.
 #[tactic(auto, unfolding(jql_meaning::specs::Truth::query_holds))]
 pub fn settle(query: &mut Bound, context: &Context, at: Moment)
-    ensures holds { (h : History) → query_holds (surroundings_of context.now) h at (option_map view query.new.cond)
+    ensures holds { (h : History) →
+        query_holds (surroundings_of context.now) h at (option_map view query.new.cond)
         ≡ query_holds (surroundings_of context.now) h at (option_map view query.old.cond) }
     ensures order { query.new.order ≡ query.old.order }
 {

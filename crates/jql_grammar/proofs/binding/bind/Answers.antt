@@ -1,9 +1,7 @@
-use Rattle.std.proofs.Common.{option_map, subst}
+use Rattle.std.proofs.Common.{option_map}
 use Rattle.jql_syntax.specs.View.{view as tree}
 use Rattle.jql_bound.specs.Condition.{view}
 use Rattle.jql_grammar.specs.Scope.{scope_in}
-use Rattle.jql_grammar.specs.Sorting.{keys_in}
-use Rattle.jql_grammar.specs.Binding.{Tells}
 use Rattle.jql_grammar.proofs.Denying.{keys_told}
 use Rattle.jql_grammar.proofs.binding.bind.Goals as goal
 

@@ -4,9 +4,8 @@ use Rattle.jql_syntax.specs.View.{view as tree, views as trees}
 use Rattle.jql_syntax.proofs.Views.{view-Not, view-All, view-Any}
 use Rattle.jql_grammar.specs.Scope.{scope_of}
 use Rattle.jql_grammar.specs.Conditions.{tests, tests_in}
-use Rattle.jql_bound.specs.Condition.{view, views}
 use Rattle.jql_grammar.proofs.Denying.{not_is_asked, all_asked, any_asked}
-use Rattle.jql_grammar.proofs.Joining.{goes_on, ends, stops, rest_in, tests_turn, tests_end}
+use Rattle.jql_grammar.proofs.Joining.{goes_on, ends, stops, rest_in, tests_turn}
 use Rattle.jql_grammar.proofs.conditions.+conditions.Goals as goal
 
 pub bind_exprs-loop-expr-preserved : goal.bind_exprs-loop-expr-preserved
