@@ -1,10 +1,14 @@
 // What a table of the setup has at a key, and the first fault there.
-ghost use Rattle.std.specs.Prelude.{◌≡◌, ◌≤ℤ◌, ◌≤◌, ◌<◌, ℕ, List, [], length, map, option_map, IfOk, OnOk, ◌∷◌, ◌++◌};
+ghost use Rattle.std.specs.Prelude.{◌≡◌, ◌≤ℤ◌, ◌≤◌, ◌<◌, [], length, map, option_map, IfOk, OnOk};
+ghost use Rattle.std.specs.Prelude.{◌∷◌, ◌++◌};
 ghost use Rattle.toml.specs.Data.{get_member};
 ghost use Rattle.toml.specs.View.{view, table_view};
 ghost use Rattle.setup_drafts.specs.Faults.{Answers, AnswersBy, FaultOf};
 ghost use Rattle.setup_drafts.specs.Written.{texts_of, tables_of, has_fewer_than};
-ghost use Rattle.setup_drafts.specs.Cells.{IsWithin, whole_fault, whole_in, text_fault, text_in, new_name_fault, list_fault, names_fault, optional_names_fault, cell_names, rules_fault, tables_fault, tables_in, count_fault};
+ghost use Rattle.setup_drafts.specs.Cells.{IsWithin, whole_fault, whole_in, text_fault, text_in};
+ghost use Rattle.setup_drafts.specs.Cells.{new_name_fault, list_fault, names_fault};
+ghost use Rattle.setup_drafts.specs.Cells.{optional_names_fault, cell_names, rules_fault};
+ghost use Rattle.setup_drafts.specs.Cells.{tables_fault, tables_in, count_fault};
 
 use crate::fault::SetupFault;
 use field_forms::name_form::{NameForm, all_have_form, has_form, is_among};
@@ -30,7 +34,8 @@ pub(crate) fn whole_at(
     least: i64,
     most: i64,
 ) -> Result<i64, SetupFault>
-    ensures told { Answers (whole_fault key.now least most (get_member key.now (table_view table.now)))
+    ensures told { Answers (whole_fault key.now least most
+        (get_member key.now (table_view table.now)))
         (whole_in (get_member key.now (table_view table.now))) result }
     ensures within { IfOk result (λ z. (least ≤ℤ z) × (z ≤ℤ most)) }
 {

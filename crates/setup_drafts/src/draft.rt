@@ -66,7 +66,8 @@ impl Draft {
 /// What the keys of the top table say, or the first fault among them in their order.
 #[tactic(auto, unfolding(crate::specs::Drafts::draft_fault, crate::specs::Drafts::draft_of))]
 pub fn read_draft(alloc: Global, table: &Table) -> Result<Draft, SetupFault>
-    ensures told { Answers (draft_fault (table_view table.now)) (draft_of (table_view table.now)) result }
+    ensures told { Answers (draft_fault (table_view table.now))
+        (draft_of (table_view table.now)) result }
     ensures small { IfOk result IsSmall }
     ensures clock { IfOk result (λ draft. draft.steps ≡ steps_of draft.head.utc_offset_minutes
         (day_number draft.head.week_starts) draft.steps.offsets) }

@@ -6,7 +6,8 @@ ghost use Rattle.toml.specs.Data.{get_member};
 ghost use Rattle.toml.specs.View.{table_view};
 ghost use Rattle.setup_drafts.specs.Faults.{Tells};
 ghost use Rattle.setup_drafts.specs.Cells.{tables_in};
-ghost use Rattle.setup_drafts.specs.Keys.{keys_of, is_key, unknown_key, lesser, unknown_below, unknown_in_tables, key_fault};
+ghost use Rattle.setup_drafts.specs.Keys.{keys_of, is_key, unknown_key, lesser, unknown_below};
+ghost use Rattle.setup_drafts.specs.Keys.{unknown_in_tables, key_fault};
 
 use crate::cell::entries_at;
 use crate::fault::SetupFault;
@@ -157,7 +158,8 @@ fn lesser<'a>(one: Option<&'a str>, other: Option<&'a str>) -> Option<&'a str>
 /// The first unknown key of some tables, or the one that was found before.
 fn unknown_below<'a>(set: KeySet, found: Option<&'a str>, tables: &[&'a Table]) -> Option<&'a str>
     ensures { option_map (λ key. key.now) result
-        ≡ unknown_below set (option_map (λ key. key.now) found.entry) (map (λ t. table_view t.now) tables.now) }
+        ≡ unknown_below set (option_map (λ key. key.now) found.entry)
+        (map (λ t. table_view t.now) tables.now) }
 {
     let mut first = found;
     for table in tables {

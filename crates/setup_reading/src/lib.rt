@@ -7,5 +7,6 @@ pub mod reading;
 pub mod resolve;
 pub mod resolve_transition;
 pub mod resolved;
+mod rules;
 
 pub use built_in_text::BUILT_IN;

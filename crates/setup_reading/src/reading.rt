@@ -64,9 +64,12 @@ fn table_of(alloc: Global, text: &str) -> Result<Table, SetupFault>
 fn resolve_table(alloc: Global, table: &Table, draft: &Draft) -> Result<Resolved, SetupFault>
     requires draft { draft.now ≡ draft_of (table_view table.now) }
     requires small { IsSmall draft.now }
-    ensures told { Answers (resolve_fault (draft_of (table_view table.now))) (resolved (draft_of (table_view table.now))) result }
-    ensures groups { IfOk result (λ resolved. length resolved.tables.groups ≡ length draft.now.tables.groups) }
-    ensures projects { IfOk result (λ resolved. length resolved.tables.projects ≡ length draft.now.tables.projects) }
+    ensures told { Answers (resolve_fault (draft_of (table_view table.now)))
+        (resolved (draft_of (table_view table.now))) result }
+    ensures groups { IfOk result (λ resolved. length resolved.tables.groups
+        ≡ length draft.now.tables.groups) }
+    ensures projects { IfOk result (λ resolved. length resolved.tables.projects
+        ≡ length draft.now.tables.projects) }
 {
     let _table = table;
     resolve(alloc, draft)
@@ -77,10 +80,15 @@ fn with_numbers(alloc: Global, table: &Table, draft: Draft) -> Result<Reading, S
     requires draft { draft ≡ draft_of (table_view table.now) }
     requires small { IsSmall draft }
     ensures told { Answers (resolve_fault (draft_of (table_view table.now)))
-        (record { draft = draft_of (table_view table.now); numbers = resolved (draft_of (table_view table.now)) }) result }
+        (record {
+          draft = draft_of (table_view table.now);
+          numbers = resolved (draft_of (table_view table.now));
+        }) result }
     ensures draft { IfOk result (λ reading. reading.draft ≡ draft) }
-    ensures groups { IfOk result (λ reading. length reading.numbers.tables.groups ≡ length reading.draft.tables.groups) }
-    ensures projects { IfOk result (λ reading. length reading.numbers.tables.projects ≡ length reading.draft.tables.projects) }
+    ensures groups { IfOk result (λ reading. length reading.numbers.tables.groups
+        ≡ length reading.draft.tables.groups) }
+    ensures projects { IfOk result (λ reading. length reading.numbers.tables.projects
+        ≡ length reading.draft.tables.projects) }
 {
     match resolve_table(alloc, table, &draft) {
         Ok(numbers) => Ok(Reading { draft, numbers }),
@@ -103,12 +111,18 @@ fn unless(fault: Result<(), SetupFault>, reading: Reading) -> Result<Reading, Se
 #[tactic(auto, unfolding(crate::specs::Reading::first_fault))]
 fn read_table(alloc: Global, table: &Table) -> Result<Reading, SetupFault>
     ensures told { Answers (first_fault (table_view table.now))
-        (record { draft = draft_of (table_view table.now); numbers = resolved (draft_of (table_view table.now)) }) result }
+        (record {
+          draft = draft_of (table_view table.now);
+          numbers = resolved (draft_of (table_view table.now));
+        }) result }
     ensures small { IfOk result (λ reading. IsSmall reading.draft) }
-    ensures clock { IfOk result (λ reading. reading.draft.steps ≡ steps_of reading.draft.head.utc_offset_minutes
+    ensures clock { IfOk result (λ reading. reading.draft.steps
+        ≡ steps_of reading.draft.head.utc_offset_minutes
         (day_number reading.draft.head.week_starts) reading.draft.steps.offsets) }
-    ensures groups { IfOk result (λ reading. length reading.numbers.tables.groups ≡ length reading.draft.tables.groups) }
-    ensures projects { IfOk result (λ reading. length reading.numbers.tables.projects ≡ length reading.draft.tables.projects) }
+    ensures groups { IfOk result (λ reading. length reading.numbers.tables.groups
+        ≡ length reading.draft.tables.groups) }
+    ensures projects { IfOk result (λ reading. length reading.numbers.tables.projects
+        ≡ length reading.draft.tables.projects) }
 {
     let draft = read_draft(alloc, table)?;
     let reading = with_numbers(alloc, table, draft)?;
@@ -118,13 +132,18 @@ fn read_table(alloc: Global, table: &Table) -> Result<Reading, SetupFault>
 /// What a setup's text says, or its first fault.
 #[tactic(auto, unfolding(crate::specs::Reading::setup_in, crate::specs::Reading::parts_or_fault, crate::specs::Reading::parts_in))]
 pub fn read_text(alloc: Global, text: &str) -> Result<Reading, SetupFault>
-    ensures ok { IfOk result (λ reading. setup_in text.now ≡ Ok (parts_of reading.draft reading.numbers)) }
-    ensures err { IfErr result (λ fault. fault ≢ SetupFault.Memory → setup_in text.now ≡ Err fault) }
+    ensures ok { IfOk result (λ reading. setup_in text.now
+        ≡ Ok (parts_of reading.draft reading.numbers)) }
+    ensures err { IfErr result (λ fault. fault ≢ SetupFault.Memory
+        → setup_in text.now ≡ Err fault) }
     ensures small { IfOk result (λ reading. IsSmall reading.draft) }
-    ensures clock { IfOk result (λ reading. reading.draft.steps ≡ steps_of reading.draft.head.utc_offset_minutes
+    ensures clock { IfOk result (λ reading. reading.draft.steps
+        ≡ steps_of reading.draft.head.utc_offset_minutes
         (day_number reading.draft.head.week_starts) reading.draft.steps.offsets) }
-    ensures groups { IfOk result (λ reading. length reading.numbers.tables.groups ≡ length reading.draft.tables.groups) }
-    ensures projects { IfOk result (λ reading. length reading.numbers.tables.projects ≡ length reading.draft.tables.projects) }
+    ensures groups { IfOk result (λ reading. length reading.numbers.tables.groups
+        ≡ length reading.draft.tables.groups) }
+    ensures projects { IfOk result (λ reading. length reading.numbers.tables.projects
+        ≡ length reading.draft.tables.projects) }
 {
     let table = table_of(alloc, text)?;
     read_table(alloc, &table)

@@ -1,7 +1,9 @@
 // Names of the setup, resolved to what they name.
 ghost use Rattle.std.specs.Prelude.{◌≡◌, ◌≤◌, [], ◌∷◌, length, map, IfOk, OnOk};
 ghost use Rattle.setup_drafts.specs.Faults.{Answers, Tells, first_of};
-ghost use Rattle.setup_reading.specs.Resolving.{first_over, unknown, user_in, choice_in, group_in, members_in, group_unknown, group_resolved, project_unknown, project_resolved};
+ghost use Rattle.setup_reading.specs.Resolving.{first_over, unknown, user_in, choice_in, group_in};
+ghost use Rattle.setup_reading.specs.Resolving.{members_in, group_unknown, group_resolved};
+ghost use Rattle.setup_reading.specs.Resolving.{project_unknown, project_resolved};
 
 use field_forms::name_form::{is_among, place_of};
 use field_values::memory::Memory;
@@ -53,7 +55,8 @@ pub(crate) fn groups_in(
     list: &[Text],
 ) -> Result<Sequence<GroupNo>, SetupFault>
     requires { length names.now ≤ 65_534 }
-    ensures { Answers (first_over (unknown names.now) list.now) (map (group_in names.now) list.now) result }
+    ensures { Answers (first_over (unknown names.now) list.now)
+        (map (group_in names.now) list.now) result }
 {
     let mut resolved = Sequence::new(alloc);
     for name in list {
@@ -69,7 +72,8 @@ pub(crate) fn choices_in(
     list: &[Text],
 ) -> Result<Sequence<ChoiceNo>, SetupFault>
     requires { length names.now ≤ 65_534 }
-    ensures { Answers (first_over (unknown names.now) list.now) (map (choice_in names.now) list.now) result }
+    ensures { Answers (first_over (unknown names.now) list.now)
+        (map (choice_in names.now) list.now) result }
 {
     let mut resolved = Sequence::new(alloc);
     for name in list {
@@ -105,7 +109,8 @@ fn members_in(alloc: Global, users: &[Text], texts: &[Text]) -> Result<Sequence<
 #[tactic(auto, unfolding(crate::specs::Resolving::group_unknown, crate::specs::Resolving::group_resolved))]
 fn resolve_group(alloc: Global, users: &[Text], draft: &GroupDraft) -> Result<Group, SetupFault>
     requires { length users.now ≤ 65_534 }
-    ensures { Answers (group_unknown users.now draft.now) (group_resolved users.now draft.now) result }
+    ensures { Answers (group_unknown users.now draft.now)
+        (group_resolved users.now draft.now) result }
 {
     all_known(alloc, users, draft.members.as_slice())?;
     let members = members_in(alloc, users, draft.members.as_slice())?;

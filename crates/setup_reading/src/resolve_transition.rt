@@ -1,78 +1,20 @@
 // Transitions of the setup with their rules.
-ghost use Rattle.std.specs.Prelude.{◌≡◌, ◌≤◌, [], ◌∷◌, length, map, IfOk, OnOk};
+ghost use Rattle.std.specs.Prelude.{◌≡◌, [], ◌∷◌, map, OnOk};
 ghost use Rattle.std.specs.List.{filter_map};
 ghost use Rattle.setup_drafts.specs.Faults.{Answers, Tells, first_of};
 ghost use Rattle.field_forms.specs.Known.{names_of, AreFew};
 ghost use Rattle.field_forms.specs.Rules.{condition_of, validator_of, post_of};
-ghost use Rattle.setup_reading.specs.Resolving.{first_over, no_rule, transition_unknown, transition_resolved};
+ghost use Rattle.setup_reading.specs.Resolving.{first_over, no_rule, transition_unknown};
+ghost use Rattle.setup_reading.specs.Resolving.{transition_resolved};
 
 use crate::resolve::{choice_in, choices_in};
+use crate::rules::rules_of;
 use field_forms::known::Known;
-use field_forms::rule_text::{condition_of, post_of, validator_of};
 use field_values::parts::Transition;
-use field_values::rules::{Condition, PostFunction, Validator};
 use field_values::sequence::Sequence;
-use field_values::text::Text;
 use setup_drafts::draft::transition::TransitionDraft;
 use setup_drafts::fault::SetupFault;
 use std::alloc::Global;
-
-fn conditions_of(
-    alloc: Global,
-    known: &Known<'_>,
-    texts: &[Text],
-) -> Result<Sequence<Condition>, SetupFault>
-    requires { AreFew (names_of known.now) }
-    ensures { Answers (first_over (no_rule (condition_of (names_of known.now))) texts.now)
-        (filter_map (condition_of (names_of known.now)) texts.now) result }
-{
-    let mut rules = Sequence::new(alloc);
-    for text in texts {
-        let Some(rule) = condition_of(alloc, known, text.as_str())? else {
-            return Err(SetupFault::bad_value(alloc, text.as_str()));
-        };
-        rules.push(rule)?;
-    }
-    Ok(rules)
-}
-
-fn validators_of(
-    alloc: Global,
-    known: &Known<'_>,
-    texts: &[Text],
-) -> Result<Sequence<Validator>, SetupFault>
-    requires { AreFew (names_of known.now) }
-    ensures { Answers (first_over (no_rule (validator_of (names_of known.now))) texts.now)
-        (filter_map (validator_of (names_of known.now)) texts.now) result }
-{
-    let mut rules = Sequence::new(alloc);
-    for text in texts {
-        let Some(rule) = validator_of(known, text.as_str()) else {
-            return Err(SetupFault::bad_value(alloc, text.as_str()));
-        };
-        rules.push(rule)?;
-    }
-    Ok(rules)
-}
-
-fn post_functions_of(
-    alloc: Global,
-    known: &Known<'_>,
-    texts: &[Text],
-) -> Result<Sequence<PostFunction>, SetupFault>
-    requires { AreFew (names_of known.now) }
-    ensures { Answers (first_over (no_rule (post_of (names_of known.now))) texts.now)
-        (filter_map (post_of (names_of known.now)) texts.now) result }
-{
-    let mut rules = Sequence::new(alloc);
-    for text in texts {
-        let Some(rule) = post_of(alloc, known, text.as_str())? else {
-            return Err(SetupFault::bad_value(alloc, text.as_str()));
-        };
-        rules.push(rule)?;
-    }
-    Ok(rules)
-}
 
 /// Reads the rules that the draft states.
 fn resolve_rules(
@@ -82,7 +24,8 @@ fn resolve_rules(
     transition: &mut Transition,
 ) -> Result<(), SetupFault>
     requires { AreFew (names_of known.now) }
-    ensures told { Tells (first_of (first_over (no_rule (condition_of (names_of known.now))) draft.now.conditions
+    ensures told { Tells (first_of
+        (first_over (no_rule (condition_of (names_of known.now))) draft.now.conditions
         ∷ first_over (no_rule (validator_of (names_of known.now))) draft.now.validators
         ∷ first_over (no_rule (post_of (names_of known.now))) draft.now.post
         ∷ [])) result }
@@ -92,9 +35,9 @@ fn resolve_rules(
       post = filter_map (post_of (names_of known.now)) draft.now.post;
     }) }
 {
-    transition.conditions = conditions_of(alloc, known, draft.conditions.as_slice())?;
-    transition.validators = validators_of(alloc, known, draft.validators.as_slice())?;
-    transition.post = post_functions_of(alloc, known, draft.post.as_slice())?;
+    transition.conditions = rules_of(alloc, known, draft.conditions.as_slice())?;
+    transition.validators = rules_of(alloc, known, draft.validators.as_slice())?;
+    transition.post = rules_of(alloc, known, draft.post.as_slice())?;
     Ok(())
 }
 

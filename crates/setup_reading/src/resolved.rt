@@ -3,7 +3,9 @@ ghost use Rattle.std.specs.Prelude.{◌≡◌, map, length, IfOk};
 ghost use Rattle.setup_drafts.specs.Faults.{Answers};
 ghost use Rattle.setup_drafts.specs.Drafts.{IsSmall};
 ghost use Rattle.field_forms.specs.Known.{names_of, AreFew};
-ghost use Rattle.setup_reading.specs.Resolving.{draft_names, rights_unknown, rights_resolved, tables_unknown, tables_resolved, resolve_fault, resolved, resolve_fault_by, resolved_by};
+ghost use Rattle.setup_reading.specs.Resolving.{draft_names, rights_unknown, rights_resolved};
+ghost use Rattle.setup_reading.specs.Resolving.{tables_unknown, tables_resolved, resolve_fault};
+ghost use Rattle.setup_reading.specs.Resolving.{resolved, resolve_fault_by, resolved_by};
 
 use crate::name_lists::status_names;
 use crate::resolve::{choice_in, groups_in, resolve_groups, resolve_projects, user_in};
@@ -100,7 +102,8 @@ fn resolve_rights(
     known: &Known<'_>,
 ) -> Result<ResolvedRights, SetupFault>
     requires { AreFew (names_of known.now) }
-    ensures { Answers (rights_unknown (names_of known.now) draft.now) (rights_resolved (names_of known.now) draft.now) result }
+    ensures { Answers (rights_unknown (names_of known.now) draft.now)
+        (rights_resolved (names_of known.now) draft.now) result }
 {
     let rebalancer = user_in(alloc, known.users, draft.head.rebalancer.as_str())?;
     let first_status = choice_in(alloc, known.statuses, draft.rights.first_status.as_str())?;
@@ -121,9 +124,12 @@ fn resolve_tables(
     known: &Known<'_>,
 ) -> Result<ResolvedTables, SetupFault>
     requires { AreFew (names_of known.now) }
-    ensures told { Answers (tables_unknown (names_of known.now) draft.now) (tables_resolved (names_of known.now) draft.now) result }
-    ensures groups { IfOk result (λ resolved. length resolved.groups ≡ length draft.now.tables.groups) }
-    ensures projects { IfOk result (λ resolved. length resolved.projects ≡ length draft.now.tables.projects) }
+    ensures told { Answers (tables_unknown (names_of known.now) draft.now)
+        (tables_resolved (names_of known.now) draft.now) result }
+    ensures groups { IfOk result (λ resolved. length resolved.groups
+        ≡ length draft.now.tables.groups) }
+    ensures projects { IfOk result (λ resolved. length resolved.projects
+        ≡ length draft.now.tables.projects) }
 {
     let groups = resolve_groups(alloc, known.users, draft.tables.groups.as_slice())?;
     let projects = resolve_projects(
@@ -143,9 +149,12 @@ fn resolve_tables(
 #[tactic(auto, unfolding(crate::specs::Resolving::resolve_fault_by, crate::specs::Resolving::resolved_by))]
 fn resolve_by(alloc: Global, draft: &Draft, known: &Known<'_>) -> Result<Resolved, SetupFault>
     requires { AreFew (names_of known.now) }
-    ensures told { Answers (resolve_fault_by (names_of known.now) draft.now) (resolved_by (names_of known.now) draft.now) result }
-    ensures groups { IfOk result (λ resolved. length resolved.tables.groups ≡ length draft.now.tables.groups) }
-    ensures projects { IfOk result (λ resolved. length resolved.tables.projects ≡ length draft.now.tables.projects) }
+    ensures told { Answers (resolve_fault_by (names_of known.now) draft.now)
+        (resolved_by (names_of known.now) draft.now) result }
+    ensures groups { IfOk result (λ resolved. length resolved.tables.groups
+        ≡ length draft.now.tables.groups) }
+    ensures projects { IfOk result (λ resolved. length resolved.tables.projects
+        ≡ length draft.now.tables.projects) }
 {
     let rights = resolve_rights(alloc, draft, known)?;
     let tables = resolve_tables(alloc, draft, known)?;
@@ -157,8 +166,10 @@ fn resolve_by(alloc: Global, draft: &Draft, known: &Known<'_>) -> Result<Resolve
 pub(crate) fn resolve(alloc: Global, draft: &Draft) -> Result<Resolved, SetupFault>
     requires { IsSmall draft.now }
     ensures told { Answers (resolve_fault draft.now) (resolved draft.now) result }
-    ensures groups { IfOk result (λ resolved. length resolved.tables.groups ≡ length draft.now.tables.groups) }
-    ensures projects { IfOk result (λ resolved. length resolved.tables.projects ≡ length draft.now.tables.projects) }
+    ensures groups { IfOk result (λ resolved. length resolved.tables.groups
+        ≡ length draft.now.tables.groups) }
+    ensures projects { IfOk result (λ resolved. length resolved.tables.projects
+        ≡ length draft.now.tables.projects) }
 {
     let statuses = status_names(alloc, draft.tables.statuses.as_slice())?;
     let groups = group_names(alloc, draft.tables.groups.as_slice())?;

@@ -1,4 +1,3 @@
-pub mod Texts
 pub mod Sorting
 pub mod AskedLines
 pub mod Twins

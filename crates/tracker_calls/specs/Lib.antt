@@ -5,7 +5,6 @@ pub mod Asked
 pub mod Body
 pub mod Reply
 pub mod Seen
-pub mod Written
 pub mod Sorted
 pub mod Taken
 pub mod ToldText

@@ -1,5 +1,5 @@
 -- The members of a line that has texts alone, and one object of texts in `set`, as they come.
-use Rattle.std.specs.Prelude.{ℕ, ◌&&◌, List, [], ◌∷◌, Bool, true, false, Option, Some, unwrap_or, if◌then◌else◌}
+use Rattle.std.specs.Prelude.{◌≡◌, ℕ, ◌&&◌, List, [], ◌∷◌, Bool, true, false, Option, Some, None, Ok, unwrap_or, if◌then◌else◌}
 use Rattle.std.specs.Option.{is_some}
 use Rattle.std.specs.Borrow.{Bor}
 use Rattle.std.specs.Str.{bytes_eq}
@@ -9,6 +9,9 @@ use Rattle.json.specs.Find.{as_str}
 use Rattle.json.specs.Value.{value_view}
 use Rattle.json.specs.declared.value.Value.{Value}
 use Rattle.serde_json.specs.Data.{Data, null, string, object, Members, no_members, member, put}
+use Rattle.tracker_calls.specs.Asked.{asked_by, first_other, names_of}
+use Rattle.tracker_calls.specs.declared.call.Call.{Call}
+use Rattle.tracker_calls.specs.declared.call.CallKind.{CallKind}
 
 -- a name and its value
 abbrev pub Named : Type 0
@@ -65,6 +68,15 @@ with_values (m ∷ ms) found = with_values ms (put m.0.now (plain_data (value_vi
 
 abbrev pub values_of : List Named → Members
 values_of ms = with_values ms no_members
+
+-- each of them is a member of a call of that kind
+abbrev pub HaveNoOther : CallKind → List Named → Type 0
+HaveNoOther kind ms = first_other kind (names_of (values_of ms)) ≡ None
+
+-- they ask for the call, whoever the user is
+abbrev pub AskFor : CallKind → List Named → Call → Type 0
+AskFor kind ms call =
+    (user : List ℕ) → asked_by kind (object (values_of ms)) (values_of ms) user ≡ Ok (user, call)
 
 -- the last value of that name, or where there is none, what was found before
 abbrev pub last_value : List ℕ → Option Data → List Named → Option Data

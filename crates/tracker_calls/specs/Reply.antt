@@ -1,9 +1,9 @@
 -- The text of a reply: compact JSON.
 use Rattle.std.specs.Prelude.{ℕ, ℤ, Bool, List, [], ◌∷◌, ◌++◌, Option, Some, None, codes, decimal, map}
-use Rattle.serde_json.specs.Data.{Data, null, boolean, number, unsigned, string, array, object, item, no_items, Members, member, no_members, put}
-use Rattle.serde_json.specs.Find.{of_integer}
+use Rattle.serde_json.specs.Data.{Data, null, boolean, string, array, object, item, no_items, Members, member, no_members, put}
 use Rattle.serde_json.specs.View.{items_of}
 use Rattle.serde_json.specs.Written.{compact_text}
+use Rattle.field_forms.specs.JsonData.{natural, integer, natural_or_null, text_or_null, texts_data}
 use Rattle.tracker_calls.specs.declared.reply.Reply.{Reply}
 use Rattle.tracker_calls.specs.declared.reply.Reply.TheVariants as reply
 use Rattle.tracker_calls.specs.declared.reply.Answer.{Answer}
@@ -71,24 +71,6 @@ abbrev pub phase_name : SprintPhase → List ℕ
 phase_name phase.Future = codes "future"
 phase_name phase.Active = codes "active"
 phase_name phase.Closed = codes "closed"
-
-abbrev pub natural : ℕ → Data
-natural n = number (unsigned n)
-
--- a number that may be below zero
-abbrev pub integer : ℤ → Data
-integer n = number (of_integer n)
-
-abbrev pub natural_or_null : Option ℕ → Data
-natural_or_null None = null
-natural_or_null (Some n) = natural n
-
-abbrev pub text_or_null : Option (List ℕ) → Data
-text_or_null None = null
-text_or_null (Some text) = string text
-
-abbrev pub texts_data : List (List ℕ) → Data
-texts_data texts = array (items_of (map string texts))
 
 abbrev pub shown_data : Shown → Data
 shown_data (shown.Text text) = string text

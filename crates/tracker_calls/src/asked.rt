@@ -1,6 +1,7 @@
 // Each call with its members, in the order in which a fault is told.
+ghost use Rattle.std.specs.Prelude.{◌≡◌};
 ghost use Rattle.tracker_calls.specs.Asked.{UnlessMemory};
-ghost use Rattle.tracker_calls.specs.Taken.{asked_in};
+ghost use Rattle.tracker_calls.specs.Taken.{asked_in, move_in, moved};
 
 use crate::asked_groups::set_group_of;
 use crate::asked_sprints::{burndown_of, close_sprint_of, make_sprint_of, start_sprint_of};
@@ -14,7 +15,7 @@ use crate::named::take_external;
 use crate::reply::Refusal;
 use crate::taken::{take_text, take_user};
 use crate::user_name::UserName;
-use field_values::{BoardNo, FilterNo};
+use field_values::{BoardNo, FilterNo, Text};
 use serde_json::{Map, Value};
 use std::alloc::Global;
 
@@ -31,8 +32,8 @@ pub fn asked_in(
         CallKind::Edit => edit_of(alloc, members),
         CallKind::Transition => transition_of(alloc, members),
         CallKind::Tick => tick_of(alloc, members),
-        CallKind::MoveBefore => move_before_of(alloc, members),
-        CallKind::MoveAfter => move_after_of(alloc, members),
+        CallKind::MoveBefore => move_of(alloc, CallKind::MoveBefore, members),
+        CallKind::MoveAfter => move_of(alloc, CallKind::MoveAfter, members),
         CallKind::RebalanceStart => rebalance_start_of(alloc, members),
         CallKind::RebalanceStep => rebalance_step_of(alloc, members),
         CallKind::SaveFilter => save_filter_of(alloc, members),
@@ -155,12 +156,14 @@ fn tick_of(alloc: Global, members: &mut Map<String, Value>) -> Result<(UserName,
     Ok((user, Call::Tick { to }))
 }
 
+// Either move, by its kind.
 #[tactic(auto, using(crate::proofs::Taking::text_at_without))]
-fn move_before_of(
+fn move_of(
     alloc: Global,
+    kind: CallKind,
     members: &mut Map<String, Value>,
 ) -> Result<(UserName, Call), Refusal>
-    ensures { UnlessMemory result (asked_in CallKind.MoveBefore members.old) }
+    ensures { UnlessMemory result (move_in kind members.old) }
 {
     let Some(issue) = text_at(members, "issue") else {
         return misses(alloc, "issue");
@@ -168,35 +171,22 @@ fn move_before_of(
     let Some(_) = other_than(members, issue) else {
         return misses(alloc, "other");
     };
-    if let Some(other) = first_other(CallKind::MoveBefore, members) {
+    if let Some(other) = first_other(kind, members) {
         return misses(alloc, other);
     }
     let issue = take_text(alloc, members, "issue");
     let other = take_text(alloc, members, "other");
     let user = take_user(alloc, members);
-    Ok((user, Call::MoveBefore { issue, other }))
+    Ok((user, moved(kind, issue, other)))
 }
 
-#[tactic(auto, using(crate::proofs::Taking::text_at_without))]
-fn move_after_of(
-    alloc: Global,
-    members: &mut Map<String, Value>,
-) -> Result<(UserName, Call), Refusal>
-    ensures { UnlessMemory result (asked_in CallKind.MoveAfter members.old) }
+fn moved(kind: CallKind, issue: Text, other: Text) -> Call
+    ensures { result ≡ moved kind issue other }
 {
-    let Some(issue) = text_at(members, "issue") else {
-        return misses(alloc, "issue");
-    };
-    let Some(_) = other_than(members, issue) else {
-        return misses(alloc, "other");
-    };
-    if let Some(other) = first_other(CallKind::MoveAfter, members) {
-        return misses(alloc, other);
+    match kind {
+        CallKind::MoveAfter => Call::MoveAfter { issue, other },
+        _ => Call::MoveBefore { issue, other },
     }
-    let issue = take_text(alloc, members, "issue");
-    let other = take_text(alloc, members, "other");
-    let user = take_user(alloc, members);
-    Ok((user, Call::MoveAfter { issue, other }))
 }
 
 fn rebalance_start_of(

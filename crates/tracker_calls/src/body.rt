@@ -3,7 +3,9 @@ ghost use Rattle.std.specs.Prelude.{◌≡◌, None, IfOk, option_map, codes};
 ghost use Rattle.serde_json.specs.Find.{as_object};
 ghost use Rattle.serde_json.specs.View.{view, members_view};
 ghost use Rattle.tracker_calls.specs.Asked.{UnlessMemory, need, names_of};
-ghost use Rattle.tracker_calls.specs.Body.{body_kind, is_body_member, first_unknown, asked_alone, asked_beside, members_in, members_call, body_of, fault_beside, with_fault, of_line};
+ghost use Rattle.tracker_calls.specs.Body.{body_kind, is_body_member, first_unknown, asked_alone};
+ghost use Rattle.tracker_calls.specs.Body.{asked_beside, members_in, members_call, body_of};
+ghost use Rattle.tracker_calls.specs.Body.{fault_beside, with_fault, of_line};
 
 use crate::asked::asked_in;
 use crate::call::{Call, CallKind, kind_named};

@@ -1,12 +1,12 @@
 // The JSON of answers about saved filters and boards.
-ghost use Rattle.std.specs.Prelude.{◌≡◌, OnOk, map};
-ghost use Rattle.serde_json.specs.View.{items_of};
-ghost use Rattle.tracker_calls.specs.Reply.{save_filter_data, filter_number_data, board_number_data, column_data, board_data};
-ghost use Rattle.tracker_calls.specs.Written.{after, after_items};
+ghost use Rattle.std.specs.Prelude.{◌≡◌, OnOk};
+ghost use Rattle.tracker_calls.specs.Reply.{save_filter_data, filter_number_data};
+ghost use Rattle.tracker_calls.specs.Reply.{board_number_data, column_data, board_data};
+ghost use Rattle.field_forms.specs.JsonTokens.{after};
 
-use crate::json_text::JsonText;
+use crate::list_json::{Listed, write_list};
 use crate::reply::Column;
-use crate::show_json::write_texts;
+use field_forms::json_text::JsonText;
 use field_values::{BoardNo, FilterNo, Memory};
 
 /// Writes a filter's number, and of how many issues its query holds.
@@ -43,29 +43,20 @@ pub fn write_board(out: &mut JsonText, columns: &[Column], total: u64) -> Result
 {
     out.begin_object()?;
     out.key("columns")?;
-    out.begin_array()?;
-    write_items(out, columns)?;
+    write_list(out, columns)?;
     out.number_member("total", total)?;
     out.end_object()
 }
 
-// The items and the closing bracket.
-fn write_items(out: &mut JsonText, columns: &[Column]) -> Result<(), Memory>
-    ensures { OnOk result (out.new ≡ after_items (items_of (map column_data columns.now)) out.old) }
-{
-    for column in columns {
-        write_column(out, column)?;
-    }
-    out.end_array()
-}
-
 // A status and the issues that have it.
-fn write_column(out: &mut JsonText, column: &Column) -> Result<(), Memory>
-    ensures { OnOk result (out.new ≡ after (column_data column.now) out.old) }
-{
-    out.begin_object()?;
-    out.key("issues")?;
-    write_texts(out, column.issues.as_slice())?;
-    out.text_member("status", column.status.as_str())?;
-    out.end_object()
+impl Listed for Column {
+    ghost as_data = { column_data };
+
+    fn write(&self, out: &mut JsonText) -> Result<(), Memory> {
+        out.begin_object()?;
+        out.key("issues")?;
+        out.texts(self.issues.as_slice())?;
+        out.text_member("status", self.status.as_str())?;
+        out.end_object()
+    }
 }

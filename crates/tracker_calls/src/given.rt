@@ -1,9 +1,11 @@
 // What a call gives for fields, as it stands in the JSON of its member `set`.
-ghost use Rattle.std.specs.Prelude.{◌≡◌, ◌∷◌, ◌++◌, ℕ, List, [], Some, codes, option_map, string_bytes, IfOk, OnOk, OnErr, if◌then◌else◌};
+ghost use Rattle.std.specs.Prelude.{◌≡◌, ◌∷◌, ◌++◌, ℕ, List, [], Some, codes, option_map};
+ghost use Rattle.std.specs.Prelude.{string_bytes, IfOk, OnOk, OnErr, if◌then◌else◌};
 ghost use Rattle.std.specs.List.{list_any};
 ghost use Rattle.std.specs.Str.{str_eq_ignore_ascii_case};
 ghost use Rattle.serde_json.specs.View.{view, members_view, items_view};
-ghost use Rattle.tracker_calls.specs.Given.{given_of, fields_of, texts_of, is_twin, has_twins, without_twins, given_set, set_at, set_if_there};
+ghost use Rattle.tracker_calls.specs.Given.{given_of, fields_of, texts_of, is_twin, has_twins};
+ghost use Rattle.tracker_calls.specs.Given.{without_twins, given_set, set_at, set_if_there};
 ghost use Rattle.tracker_calls.specs.Seen.{seen_by, is_other};
 ghost use Rattle.tracker_calls.specs.Taken.{object_of, without};
 
@@ -94,9 +96,11 @@ fn put_seen<'a>(
     seen: &mut BTreeMap<String, &'a str>,
     name: &'a str,
 ) -> Result<Option<&'a str>, Memory>
-    ensures before { IfOk result (λ before. option_map (λ n. n.now) before ≡ seen_by seen.old name.now) }
+    ensures before { IfOk result (λ before. option_map (λ n. n.now) before
+        ≡ seen_by seen.old name.now) }
     ensures seen { OnOk result ((other : List ℕ) → seen_by seen.new other
-        ≡ (if str_eq_ignore_ascii_case name.now other then Some name.now else seen_by seen.old other)) }
+        ≡ (if str_eq_ignore_ascii_case name.now other then Some name.now
+        else seen_by seen.old other)) }
 {
     let letters = name.to_ascii_lowercase(alloc)?;
     Ok(seen.insert(letters, name)?)

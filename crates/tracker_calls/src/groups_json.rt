@@ -1,9 +1,9 @@
 // The JSON of answers about groups.
 ghost use Rattle.std.specs.Prelude.{◌≡◌, OnOk};
 ghost use Rattle.tracker_calls.specs.Reply.{set_group_data};
-ghost use Rattle.tracker_calls.specs.Written.{after};
+ghost use Rattle.field_forms.specs.JsonTokens.{after};
 
-use crate::json_text::JsonText;
+use field_forms::json_text::JsonText;
 use field_values::{Memory, Text};
 
 /// Writes a group's name and how many members it has.

@@ -1,5 +1,4 @@
 // A line that comes in.
-ghost use Rattle.std.specs.Prelude.{◌≡◌};
 ghost use Rattle.serde_json.specs.View.{view};
 ghost use Rattle.tracker_calls.specs.Asked.{line_of, call_of, UnlessMemory};
 ghost use Rattle.tracker_calls.specs.Taken.{object_of};

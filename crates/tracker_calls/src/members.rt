@@ -2,9 +2,12 @@
 ghost use Rattle.std.specs.Prelude.{◌≡◌, map, option_map, Err};
 ghost use Rattle.serde_json.specs.Find.{get_member};
 ghost use Rattle.serde_json.specs.View.{view, members_view};
-ghost use Rattle.tracker_calls.specs.Asked.{text_at, title_at, number_at, moment_at, other_than, first_other, is_among, is_member, call_members, names_of, UnlessMemory};
+ghost use Rattle.tracker_calls.specs.Asked.{text_at, title_at, number_at, moment_at, other_than};
+ghost use Rattle.tracker_calls.specs.Asked.{first_other, is_among, is_member, call_members};
+ghost use Rattle.tracker_calls.specs.Asked.{names_of, UnlessMemory};
 ghost use Rattle.tracker_calls.specs.Taken.{object_of};
-ghost use Rattle.tracker_calls.specs.Part.{whole_within, whole_or, from_if_there, count_if_there, count_at};
+ghost use Rattle.tracker_calls.specs.Part.{whole_within, whole_or, from_if_there, count_if_there};
+ghost use Rattle.tracker_calls.specs.Part.{count_at};
 
 use crate::call::{CallKind, MOST_FROM, call_members};
 use crate::reply::Refusal;
@@ -113,7 +116,8 @@ pub fn count_at(members: &Map<String, Value>, most: u32) -> Option<u32>
 /// The first name in byte order that is no member of the call.
 #[tactic(auto, using(crate::proofs::AskedLines::names_of_members))]
 pub fn first_other<'v>(kind: CallKind, members: &'v Map<String, Value>) -> Option<&'v str>
-    ensures { option_map (λ name. name.now) result ≡ first_other kind (names_of (members_view members.now.entries)) }
+    ensures { option_map (λ name. name.now) result
+        ≡ first_other kind (names_of (members_view members.now.entries)) }
 {
     for name in members.keys() {
         if !is_member(kind, name.as_str()) {

@@ -3,7 +3,8 @@ ghost use Rattle.std.specs.Prelude.{◌≡◌, codes, IfOk};
 ghost use Rattle.std.specs.List.{list_all};
 ghost use Rattle.std.specs.Int.{is_in_range};
 ghost use Rattle.serde_json.specs.View.{view, members_view};
-ghost use Rattle.tracker_calls.specs.Named.{is_external, external_given, external_if_there, few_of, names_given, names_at};
+ghost use Rattle.tracker_calls.specs.Named.{is_external, external_given, external_if_there, few_of};
+ghost use Rattle.tracker_calls.specs.Named.{names_given, names_at};
 ghost use Rattle.tracker_calls.specs.Taken.{object_of, without};
 
 use crate::call::MOST_MEMBERS;

@@ -1,8 +1,8 @@
 // The calls that a plain line may ask for.
-ghost use Rattle.std.specs.Prelude.{◌≡◌, Ok, IfOk, IfSome, List, ℕ, None};
+ghost use Rattle.std.specs.Prelude.{◌≡◌, IfOk, IfSome, Some, codes};
 ghost use Rattle.serde_json.specs.Data.{object};
-ghost use Rattle.tracker_calls.specs.Asked.{asked_by, first_other, names_of};
-ghost use Rattle.tracker_calls.specs.Plain.{values_of};
+ghost use Rattle.tracker_calls.specs.Asked.{other_than, text_at};
+ghost use Rattle.tracker_calls.specs.Plain.{AskFor, HaveNoOther, values_of};
 
 use crate::call::{Call, CallKind, MOST_ENTRIES, MOST_LISTED, Part};
 use crate::plain_members::{member, set_at, set_if_there, text_member};
@@ -16,9 +16,8 @@ pub fn kind_call<'a>(
     kind: CallKind,
     members: &[(&'a str, Value<'a>)],
 ) -> Result<Option<Call>, Memory>
-    requires { first_other kind (names_of (values_of members.now)) ≡ None }
-    ensures { IfOk result (λ found. IfSome found (λ call. (user : List ℕ)
-        → asked_by kind (object (values_of members.now)) (values_of members.now) user ≡ Ok (user, call))) }
+    requires { HaveNoOther kind members.now }
+    ensures { IfOk result (λ found. IfSome found (AskFor kind members.now)) }
 {
     match kind {
         CallKind::Create => create_in(alloc, members),
@@ -35,9 +34,8 @@ pub fn kind_call<'a>(
 
 // A create without an external id.
 fn create_in<'a>(alloc: Global, members: &[(&'a str, Value<'a>)]) -> Result<Option<Call>, Memory>
-    requires { first_other CallKind.Create (names_of (values_of members.now)) ≡ None }
-    ensures { IfOk result (λ found. IfSome found (λ call. (user : List ℕ)
-        → asked_by CallKind.Create (object (values_of members.now)) (values_of members.now) user ≡ Ok (user, call))) }
+    requires { HaveNoOther CallKind.Create members.now }
+    ensures { IfOk result (λ found. IfSome found (AskFor CallKind.Create members.now)) }
 {
     let Some(project) = text_member(members, "project") else {
         return Ok(None);
@@ -67,9 +65,8 @@ fn create_in<'a>(alloc: Global, members: &[(&'a str, Value<'a>)]) -> Result<Opti
 }
 
 fn edit_in<'a>(alloc: Global, members: &[(&'a str, Value<'a>)]) -> Result<Option<Call>, Memory>
-    requires { first_other CallKind.Edit (names_of (values_of members.now)) ≡ None }
-    ensures { IfOk result (λ found. IfSome found (λ call. (user : List ℕ)
-        → asked_by CallKind.Edit (object (values_of members.now)) (values_of members.now) user ≡ Ok (user, call))) }
+    requires { HaveNoOther CallKind.Edit members.now }
+    ensures { IfOk result (λ found. IfSome found (AskFor CallKind.Edit members.now)) }
 {
     let Some(issue) = text_member(members, "issue") else {
         return Ok(None);
@@ -85,9 +82,8 @@ fn transition_in<'a>(
     alloc: Global,
     members: &[(&'a str, Value<'a>)],
 ) -> Result<Option<Call>, Memory>
-    requires { first_other CallKind.Transition (names_of (values_of members.now)) ≡ None }
-    ensures { IfOk result (λ found. IfSome found (λ call. (user : List ℕ)
-        → asked_by CallKind.Transition (object (values_of members.now)) (values_of members.now) user ≡ Ok (user, call))) }
+    requires { HaveNoOther CallKind.Transition members.now }
+    ensures { IfOk result (λ found. IfSome found (AskFor CallKind.Transition members.now)) }
 {
     let Some(issue) = text_member(members, "issue") else {
         return Ok(None);
@@ -111,31 +107,37 @@ fn move_before_in<'a>(
     alloc: Global,
     members: &[(&'a str, Value<'a>)],
 ) -> Result<Option<Call>, Memory>
-    requires { first_other CallKind.MoveBefore (names_of (values_of members.now)) ≡ None }
-    ensures { IfOk result (λ found. IfSome found (λ call. (user : List ℕ)
-        → asked_by CallKind.MoveBefore (object (values_of members.now)) (values_of members.now) user ≡ Ok (user, call))) }
+    requires { HaveNoOther CallKind.MoveBefore members.now }
+    ensures { IfOk result (λ found. IfSome found (AskFor CallKind.MoveBefore members.now)) }
 {
-    let Some(issue) = text_member(members, "issue") else {
-        return Ok(None);
-    };
-    let Some(other) = text_member(members, "other") else {
-        return Ok(None);
-    };
-    if other == issue {
-        return Ok(None);
+    match moved_in(alloc, members)? {
+        Some((issue, other)) => Ok(Some(Call::MoveBefore { issue, other })),
+        None => Ok(None),
     }
-    let issue = Text::copy_of(alloc, issue)?;
-    let other = Text::copy_of(alloc, other)?;
-    Ok(Some(Call::MoveBefore { issue, other }))
 }
 
 fn move_after_in<'a>(
     alloc: Global,
     members: &[(&'a str, Value<'a>)],
 ) -> Result<Option<Call>, Memory>
-    requires { first_other CallKind.MoveAfter (names_of (values_of members.now)) ≡ None }
-    ensures { IfOk result (λ found. IfSome found (λ call. (user : List ℕ)
-        → asked_by CallKind.MoveAfter (object (values_of members.now)) (values_of members.now) user ≡ Ok (user, call))) }
+    requires { HaveNoOther CallKind.MoveAfter members.now }
+    ensures { IfOk result (λ found. IfSome found (AskFor CallKind.MoveAfter members.now)) }
+{
+    match moved_in(alloc, members)? {
+        Some((issue, other)) => Ok(Some(Call::MoveAfter { issue, other })),
+        None => Ok(None),
+    }
+}
+
+// The issue of either move, and the other one.
+fn moved_in<'a>(
+    alloc: Global,
+    members: &[(&'a str, Value<'a>)],
+) -> Result<Option<(Text, Text)>, Memory>
+    ensures issue { IfOk result (λ found. IfSome found (λ moved.
+        text_at (codes "issue") (object (values_of members.now)) ≡ Some moved.0)) }
+    ensures other { IfOk result (λ found. IfSome found (λ moved.
+        other_than moved.0 (object (values_of members.now)) ≡ Some moved.1)) }
 {
     let Some(issue) = text_member(members, "issue") else {
         return Ok(None);
@@ -148,13 +150,12 @@ fn move_after_in<'a>(
     }
     let issue = Text::copy_of(alloc, issue)?;
     let other = Text::copy_of(alloc, other)?;
-    Ok(Some(Call::MoveAfter { issue, other }))
+    Ok(Some((issue, other)))
 }
 
 fn show_in<'a>(alloc: Global, members: &[(&'a str, Value<'a>)]) -> Result<Option<Call>, Memory>
-    requires { first_other CallKind.Show (names_of (values_of members.now)) ≡ None }
-    ensures { IfOk result (λ found. IfSome found (λ call. (user : List ℕ)
-        → asked_by CallKind.Show (object (values_of members.now)) (values_of members.now) user ≡ Ok (user, call))) }
+    requires { HaveNoOther CallKind.Show members.now }
+    ensures { IfOk result (λ found. IfSome found (AskFor CallKind.Show members.now)) }
 {
     let Some(issue) = text_member(members, "issue") else {
         return Ok(None);
@@ -165,9 +166,8 @@ fn show_in<'a>(alloc: Global, members: &[(&'a str, Value<'a>)]) -> Result<Option
 
 // A history from its beginning.
 fn history_in<'a>(alloc: Global, members: &[(&'a str, Value<'a>)]) -> Result<Option<Call>, Memory>
-    requires { first_other CallKind.History (names_of (values_of members.now)) ≡ None }
-    ensures { IfOk result (λ found. IfSome found (λ call. (user : List ℕ)
-        → asked_by CallKind.History (object (values_of members.now)) (values_of members.now) user ≡ Ok (user, call))) }
+    requires { HaveNoOther CallKind.History members.now }
+    ensures { IfOk result (λ found. IfSome found (AskFor CallKind.History members.now)) }
 {
     let Some(issue) = text_member(members, "issue") else {
         return Ok(None);
@@ -190,9 +190,8 @@ fn history_in<'a>(alloc: Global, members: &[(&'a str, Value<'a>)]) -> Result<Opt
 
 // The first issues of a search.
 fn search_in<'a>(alloc: Global, members: &[(&'a str, Value<'a>)]) -> Result<Option<Call>, Memory>
-    requires { first_other CallKind.Search (names_of (values_of members.now)) ≡ None }
-    ensures { IfOk result (λ found. IfSome found (λ call. (user : List ℕ)
-        → asked_by CallKind.Search (object (values_of members.now)) (values_of members.now) user ≡ Ok (user, call))) }
+    requires { HaveNoOther CallKind.Search members.now }
+    ensures { IfOk result (λ found. IfSome found (AskFor CallKind.Search members.now)) }
 {
     let Some(jql) = text_member(members, "jql") else {
         return Ok(None);

@@ -1,6 +1,7 @@
 // Plain lines: their members are texts, and `set` is an object of texts, as in most lines. They are read without a tree of values
 // that owns its texts, so that no text is copied but those of the call. Any other line, and each that has a fault, is left to `line`.
-ghost use Rattle.std.specs.Prelude.{◌≡◌, true, Ok, IfOk, IfSome, codes, option_map, option_and_then};
+ghost use Rattle.std.specs.Prelude.{◌≡◌, true, Ok, IfOk, IfSome, codes, option_map};
+ghost use Rattle.std.specs.Prelude.{option_and_then};
 ghost use Rattle.std.specs.List.{list_all};
 ghost use Rattle.json.specs.Json.{if_last};
 ghost use Rattle.json.specs.Value.{value_view, members_view};
@@ -54,7 +55,8 @@ fn last_value_call(
     value: &Value<'_>,
 ) -> Result<Option<(UserName, Call)>, Memory>
     ensures { IfOk result (λ found. IfSome found (λ asked.
-        need (option_and_then of_json (if_last (value_view value.now) reader.old)) (codes "line") call_of
+        need (option_and_then of_json (if_last (value_view value.now) reader.old))
+        (codes "line") call_of
         ≡ Ok asked)) }
 {
     if reader.next().is_some() {
@@ -79,7 +81,8 @@ fn members_call<'a>(
     members: &[(&'a str, Value<'a>)],
 ) -> Result<Option<(UserName, Call)>, Memory>
     ensures { IfOk result (λ found. IfSome found (λ asked.
-        need (option_map object (of_members (members_view members.now) no_members)) (codes "line") call_of
+        need (option_map object (of_members (members_view members.now) no_members))
+        (codes "line") call_of
         ≡ Ok asked)) }
 {
     if !are_plain(members) {

@@ -1,12 +1,14 @@
 // The JSON of answers about ranks and their balance.
-ghost use Rattle.std.specs.Prelude.{◌≡◌, OnOk, map};
-ghost use Rattle.serde_json.specs.View.{items_of};
-ghost use Rattle.tracker_calls.specs.Reply.{move_data, ranked_data, ranks_data, rebalance_start_data, rebalance_step_data, balance_data};
-ghost use Rattle.tracker_calls.specs.Written.{after, after_items};
+ghost use Rattle.std.specs.Prelude.{◌≡◌, OnOk};
+ghost use Rattle.tracker_calls.specs.Reply.{move_data, ranked_data, ranks_data};
+ghost use Rattle.tracker_calls.specs.Reply.{rebalance_start_data, rebalance_step_data};
+ghost use Rattle.tracker_calls.specs.Reply.{balance_data};
+ghost use Rattle.field_forms.specs.JsonTokens.{after};
 
-use crate::json_text::JsonText;
+use crate::list_json::{Listed, write_list};
 use crate::reply::{BalanceState, RankedKey};
 use crate::told_text::ToldText;
+use field_forms::json_text::JsonText;
 use field_values::Memory;
 
 /// Writes the rank that an issue was given.
@@ -25,30 +27,21 @@ pub fn write_ranks(out: &mut JsonText, ranks: &[RankedKey], total: u64) -> Resul
 {
     out.begin_object()?;
     out.key("ranks")?;
-    out.begin_array()?;
-    write_items(out, ranks)?;
+    write_list(out, ranks)?;
     out.number_member("total", total)?;
     out.end_object()
 }
 
-// The items and the closing bracket.
-fn write_items(out: &mut JsonText, ranks: &[RankedKey]) -> Result<(), Memory>
-    ensures { OnOk result (out.new ≡ after_items (items_of (map ranked_data ranks.now)) out.old) }
-{
-    for ranked in ranks {
-        write_ranked(out, ranked)?;
-    }
-    out.end_array()
-}
-
 // A key and its rank.
-fn write_ranked(out: &mut JsonText, ranked: &RankedKey) -> Result<(), Memory>
-    ensures { OnOk result (out.new ≡ after (ranked_data ranked.now) out.old) }
-{
-    out.begin_array()?;
-    out.text(ranked.issue.as_str())?;
-    out.text(ranked.rank.as_str())?;
-    out.end_array()
+impl Listed for RankedKey {
+    ghost as_data = { ranked_data };
+
+    fn write(&self, out: &mut JsonText) -> Result<(), Memory> {
+        out.begin_array()?;
+        out.text(self.issue.as_str())?;
+        out.text(self.rank.as_str())?;
+        out.end_array()
+    }
 }
 
 /// Writes the two buckets of a rebalancing.

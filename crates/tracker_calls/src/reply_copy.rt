@@ -3,9 +3,10 @@ ghost use Rattle.std.specs.Prelude.{◌≡◌, IfOk, option_map};
 ghost use Rattle.tracker_calls.specs.declared.reply.Answer.TheVariants as answers;
 ghost use Rattle.tracker_calls.specs.declared.reply.Refusal.TheVariants as refusals;
 
+use crate::copied::{Copied, copy_all};
 use crate::reply::{
-    Answer, BurnedRow, BurnedRows, Column, Columns, RankedKey, RankedKeys, Refusal, Reply, Shown,
-    ShownField, ShownFields, Thing, ToldEntries, ToldEntry,
+    Answer, BurnedRow, Column, Columns, RankedKey, RankedKeys, Refusal, Reply, Shown, ShownField,
+    ShownFields, Thing, ToldEntries, ToldEntry,
 };
 use crate::told_text::ToldText;
 use field_values::{Memory, Moment, Names, Permission, Text};
@@ -92,7 +93,7 @@ impl Answer {
                 state,
                 total,
             } => {
-                let rows = copy_burned(alloc, rows)?;
+                let rows = copy_all(alloc, rows)?;
                 Ok(Answer::Burndown {
                     left: *left,
                     rows,
@@ -157,7 +158,7 @@ fn copy_show(
 fn copy_history(alloc: Global, entries: &ToldEntries, total: u64) -> Result<Answer, Memory>
     ensures { IfOk result (λ a. a ≡ answers.History entries.now total) }
 {
-    let entries = copy_told(alloc, entries)?;
+    let entries = copy_all(alloc, entries)?;
     Ok(Answer::History { entries, total })
 }
 
@@ -179,7 +180,7 @@ fn copy_moved(alloc: Global, issue: &ToldText, rank: &ToldText) -> Result<Answer
 fn copy_ranked(alloc: Global, ranks: &RankedKeys, total: u64) -> Result<Answer, Memory>
     ensures { IfOk result (λ a. a ≡ answers.Ranks ranks.now total) }
 {
-    let ranks = copy_keys(alloc, ranks)?;
+    let ranks = copy_all(alloc, ranks)?;
     Ok(Answer::Ranks { ranks, total })
 }
 
@@ -193,7 +194,7 @@ fn copy_filtered(alloc: Global, issues: &Names, total: u64) -> Result<Answer, Me
 fn copy_boarded(alloc: Global, list: &Columns, total: u64) -> Result<Answer, Memory>
     ensures { IfOk result (λ a. a ≡ answers.Board list.now total) }
 {
-    let columns = copy_columns(alloc, list)?;
+    let columns = copy_all(alloc, list)?;
     Ok(Answer::Board { columns, total })
 }
 
@@ -206,50 +207,8 @@ fn copy_set_group(alloc: Global, group: &Text, members: u64) -> Result<Answer, M
 
 // ---- the parts of answers
 
-fn copy_burned(alloc: Global, rows: &BurnedRows) -> Result<BurnedRows, Memory>
-    ensures { IfOk result (λ copy. copy ≡ rows.now) }
-{
-    let mut copy = BurnedRows::new(alloc);
-    for row in rows.as_slice() {
-        copy.push(row.copy(alloc)?)?;
-    }
-    Ok(copy)
-}
-
-fn copy_keys(alloc: Global, ranks: &RankedKeys) -> Result<RankedKeys, Memory>
-    ensures { IfOk result (λ copy. copy ≡ ranks.now) }
-{
-    let mut copy = RankedKeys::new(alloc);
-    for key in ranks.as_slice() {
-        copy.push(key.copy(alloc)?)?;
-    }
-    Ok(copy)
-}
-
-fn copy_columns(alloc: Global, list: &Columns) -> Result<Columns, Memory>
-    ensures { IfOk result (λ copy. copy ≡ list.now) }
-{
-    let mut copy = Columns::new(alloc);
-    for column in list.as_slice() {
-        copy.push(column.copy(alloc)?)?;
-    }
-    Ok(copy)
-}
-
-fn copy_told(alloc: Global, entries: &ToldEntries) -> Result<ToldEntries, Memory>
-    ensures { IfOk result (λ copy. copy ≡ entries.now) }
-{
-    let mut copy = ToldEntries::new(alloc);
-    for entry in entries.as_slice() {
-        copy.push(entry.copy(alloc)?)?;
-    }
-    Ok(copy)
-}
-
-impl BurnedRow {
-    fn copy(&self, alloc: Global) -> Result<Self, Memory>
-        ensures { IfOk result (λ row. row ≡ self.now) }
-    {
+impl Copied for BurnedRow {
+    fn copy(&self, alloc: Global) -> Result<Self, Memory> {
         let issue = self.issue.copy(alloc)?;
         Ok(BurnedRow {
             at: self.at,
@@ -261,30 +220,24 @@ impl BurnedRow {
     }
 }
 
-impl RankedKey {
-    fn copy(&self, alloc: Global) -> Result<Self, Memory>
-        ensures { IfOk result (λ key. key ≡ self.now) }
-    {
+impl Copied for RankedKey {
+    fn copy(&self, alloc: Global) -> Result<Self, Memory> {
         let issue = self.issue.copy(alloc)?;
         let rank = self.rank.copy(alloc)?;
         Ok(RankedKey { issue, rank })
     }
 }
 
-impl Column {
-    fn copy(&self, alloc: Global) -> Result<Self, Memory>
-        ensures { IfOk result (λ column. column ≡ self.now) }
-    {
+impl Copied for Column {
+    fn copy(&self, alloc: Global) -> Result<Self, Memory> {
         let issues = self.issues.copy(alloc)?;
         let status = self.status.copy(alloc)?;
         Ok(Column { issues, status })
     }
 }
 
-impl ToldEntry {
-    fn copy(&self, alloc: Global) -> Result<Self, Memory>
-        ensures { IfOk result (λ entry. entry ≡ self.now) }
-    {
+impl Copied for ToldEntry {
+    fn copy(&self, alloc: Global) -> Result<Self, Memory> {
         let by = self.by.copy(alloc)?;
         let field = self.field.copy(alloc)?;
         let from = shown_if_any(alloc, self.from.as_ref())?;
@@ -404,7 +357,8 @@ fn copy_forbidden(
     permission: Permission,
     project: Option<&Text>,
 ) -> Result<Refusal, Memory>
-    ensures { IfOk result (λ r. r ≡ refusals.Forbidden permission (option_map (λ t. t.now) project.entry)) }
+    ensures { IfOk result (λ r. r
+        ≡ refusals.Forbidden permission (option_map (λ t. t.now) project.entry)) }
 {
     let project = text_if_any(alloc, project)?;
     Ok(Refusal::Forbidden {

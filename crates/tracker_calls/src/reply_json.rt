@@ -1,23 +1,32 @@
 // The text of a reply: compact JSON, the members of each object in byte order of their names.
 ghost use Rattle.std.specs.Prelude.{◌≡◌, IfOk, OnOk};
-ghost use Rattle.tracker_calls.specs.Written.{after};
-ghost use Rattle.tracker_calls.specs.Reply.{reply_text, reply_data, answer_data, create_data, edit_data, tick_data, search_data, refusal_data, form_data, unknown_data, forbidden_data, index_data, permission_name, unfit_data, query_data, sprint_is_data, limit_data, earlier_data, no_room_data, balance_text, balance_is_data, external_is_data, number_data, thing_name, limit_name, limit_number};
+ghost use Rattle.field_forms.specs.JsonTokens.{after};
+ghost use Rattle.tracker_calls.specs.Reply.{reply_text, reply_data, answer_data, create_data};
+ghost use Rattle.tracker_calls.specs.Reply.{edit_data, tick_data, search_data, refusal_data};
+ghost use Rattle.tracker_calls.specs.Reply.{form_data, unknown_data, forbidden_data, index_data};
+ghost use Rattle.tracker_calls.specs.Reply.{permission_name, unfit_data, query_data};
+ghost use Rattle.tracker_calls.specs.Reply.{sprint_is_data, limit_data, earlier_data, no_room_data};
+ghost use Rattle.tracker_calls.specs.Reply.{balance_text, balance_is_data, external_is_data};
+ghost use Rattle.tracker_calls.specs.Reply.{number_data, thing_name, limit_name, limit_number};
 
 use crate::filters_json::{
     write_board, write_board_number, write_filter_number, write_save_filter,
 };
 use crate::groups_json::write_set_group;
 use crate::history_json::write_history;
-use crate::json_text::JsonText;
 use crate::ranks_json::{
     write_balance, write_move, write_ranks, write_rebalance_start, write_rebalance_step,
 };
 use crate::reply::{Answer, BalanceKept, Limit, Refusal, Reply, SprintPhase, Thing};
-use crate::show_json::{write_show, write_texts};
+use crate::show_json::write_show;
 use crate::sprints_json::{write_burndown, write_make_sprint, write_sprint_phase};
 use crate::told_text::ToldText;
+use field_forms::json_text::JsonText;
 use field_values::{Memory, Moment, Permission, Text};
 use std::alloc::Global;
+
+// The bytes that most replies have at most.
+const ROOM: usize = 480;
 
 /// The text of the refusal of a keeper that failed, which is written without memory.
 pub const KEEPER_TEXT: &str = "{\"refused\":{\"no\":14}}";
@@ -26,21 +35,21 @@ pub const KEEPER_TEXT: &str = "{\"refused\":{\"no\":14}}";
 pub const MEMORY_TEXT: &str = "{\"refused\":{\"no\":15}}";
 
 /// The compact JSON text of a reply.
-#[tactic(auto, unfolding(crate::specs::Reply::reply_text), using(crate::proofs::Texts::whole))]
+#[tactic(auto, unfolding(crate::specs::Reply::reply_text), using(field_forms::proofs::JsonTexts::whole))]
 pub fn reply_text(alloc: Global, reply: &Reply) -> Result<Text, Memory>
     ensures { IfOk result (λ text. text ≡ reply_text reply.now) }
 {
-    let mut text = JsonText::new(alloc)?;
+    let mut text = JsonText::with_room(alloc, ROOM)?;
     write_reply(alloc, &mut text, reply)?;
     Ok(text.into_text())
 }
 
 /// The bytes of that text, in the room of these, which it takes the place of.
-#[tactic(auto, unfolding(crate::specs::Reply::reply_text), using(crate::proofs::Texts::whole))]
+#[tactic(auto, unfolding(crate::specs::Reply::reply_text), using(field_forms::proofs::JsonTexts::whole))]
 pub fn reply_bytes(alloc: Global, reply: &Reply, room: Vec<u8>) -> Result<Vec<u8>, Memory>
     ensures { IfOk result (λ bytes. bytes.items ≡ reply_text reply.now) }
 {
-    let mut text = JsonText::in_room(room);
+    let mut text = JsonText::in_room(alloc, room);
     write_reply(alloc, &mut text, reply)?;
     Ok(text.into_bytes())
 }
@@ -148,7 +157,7 @@ fn write_search(out: &mut JsonText, issues: &[Text], total: u64) -> Result<(), M
 {
     out.begin_object()?;
     out.key("issues")?;
-    write_texts(out, issues)?;
+    out.texts(issues)?;
     out.number_member("total", total)?;
     out.end_object()
 }

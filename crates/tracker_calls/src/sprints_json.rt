@@ -1,11 +1,12 @@
 // The JSON of answers about sprints, and the word of how far one is.
-ghost use Rattle.std.specs.Prelude.{◌≡◌, OnOk, map};
-ghost use Rattle.serde_json.specs.View.{items_of};
-ghost use Rattle.tracker_calls.specs.Reply.{make_sprint_data, sprint_phase_data, burned_data, burndown_data, phase_name};
-ghost use Rattle.tracker_calls.specs.Written.{after, after_items};
+ghost use Rattle.std.specs.Prelude.{◌≡◌, OnOk};
+ghost use Rattle.tracker_calls.specs.Reply.{make_sprint_data, sprint_phase_data, burned_data};
+ghost use Rattle.tracker_calls.specs.Reply.{burndown_data, phase_name};
+ghost use Rattle.field_forms.specs.JsonTokens.{after};
 
-use crate::json_text::JsonText;
+use crate::list_json::{Listed, write_list};
 use crate::reply::{BurnedRow, SprintPhase};
+use field_forms::json_text::JsonText;
 use field_values::{Memory, SprintNo};
 
 /// Writes a new sprint's number.
@@ -46,34 +47,25 @@ pub fn write_burndown(
     out.begin_object()?;
     out.integer_member("left", left)?;
     out.key("rows")?;
-    out.begin_array()?;
-    write_items(out, rows)?;
+    write_list(out, rows)?;
     out.integer_member("start", start)?;
     out.text_member("state", state.name())?;
     out.number_member("total", total)?;
     out.end_object()
 }
 
-// The items and the closing bracket.
-fn write_items(out: &mut JsonText, rows: &[BurnedRow]) -> Result<(), Memory>
-    ensures { OnOk result (out.new ≡ after_items (items_of (map burned_data rows.now)) out.old) }
-{
-    for row in rows {
-        write_row(out, row)?;
-    }
-    out.end_array()
-}
+impl Listed for BurnedRow {
+    ghost as_data = { burned_data };
 
-fn write_row(out: &mut JsonText, row: &BurnedRow) -> Result<(), Memory>
-    ensures { OnOk result (out.new ≡ after (burned_data row.now) out.old) }
-{
-    out.begin_object()?;
-    out.number_member("at", row.at.seconds())?;
-    out.integer_member("by", row.by)?;
-    out.number_member("change", row.change)?;
-    out.text_member("issue", row.issue.as_str())?;
-    out.integer_member("left", row.left)?;
-    out.end_object()
+    fn write(&self, out: &mut JsonText) -> Result<(), Memory> {
+        out.begin_object()?;
+        out.number_member("at", self.at.seconds())?;
+        out.integer_member("by", self.by)?;
+        out.number_member("change", self.change)?;
+        out.text_member("issue", self.issue.as_str())?;
+        out.integer_member("left", self.left)?;
+        out.end_object()
+    }
 }
 
 impl SprintPhase {

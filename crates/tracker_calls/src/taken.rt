@@ -11,7 +11,8 @@ use std::alloc::Global;
 
 /// Takes the member of that name out.
 pub fn take(members: &mut Map<String, Value>, name: &str) -> Option<Value>
-    ensures value { option_map view result ≡ get_member name.now (members_view members.old.entries) }
+    ensures value { option_map view result
+        ≡ get_member name.now (members_view members.old.entries) }
     ensures left { members_view members.new.entries
         ≡ without name.now (members_view members.old.entries) }
 {

@@ -6,7 +6,8 @@ ghost use Rattle.setup_drafts.specs.Faults.{Answers};
 ghost use Rattle.setup_drafts.specs.Cells.{word_fault, word_in};
 ghost use Rattle.setup_drafts.specs.Entries.{entries_fault};
 ghost use Rattle.field_values.specs.Words.{field_kind_of};
-ghost use Rattle.setup_drafts.specs.Fields.{number_fault, number_in, options_fault, options_in, field_fault, field_of, with_field};
+ghost use Rattle.setup_drafts.specs.Fields.{number_fault, number_in, options_fault, options_in};
+ghost use Rattle.setup_drafts.specs.Fields.{field_fault, field_of, with_field};
 ghost use Rattle.field_forms.specs.Known.{has_few_options};
 
 use crate::cell::{names_at, new_name_at, put_copy, value_at, whole_at};

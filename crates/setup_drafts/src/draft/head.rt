@@ -1,4 +1,4 @@
-ghost use Rattle.std.specs.Prelude.{◌≡◌, ◌≤ℤ◌, neg_ℤ, pos, IfOk};
+ghost use Rattle.std.specs.Prelude.{◌≤ℤ◌, neg_ℤ, pos, IfOk};
 ghost use Rattle.toml.specs.Data.{get_member};
 ghost use Rattle.toml.specs.View.{table_view};
 ghost use Rattle.setup_drafts.specs.Faults.{Answers};
@@ -60,7 +60,8 @@ fn weekday_at(alloc: Global, table: &Table, key: &str) -> Result<Weekday, SetupF
 /// The first keys of the top table, or the first fault among them.
 #[tactic(auto, unfolding(crate::specs::Drafts::head_fault, crate::specs::Drafts::head_of))]
 pub fn read_head(alloc: Global, table: &Table) -> Result<Head, SetupFault>
-    ensures told { Answers (head_fault (table_view table.now)) (head_of (table_view table.now)) result }
+    ensures told { Answers (head_fault (table_view table.now))
+        (head_of (table_view table.now)) result }
     ensures within { IfOk result (λ head. (neg_ℤ (pos 840) ≤ℤ head.utc_offset_minutes)
         × (head.utc_offset_minutes ≤ℤ pos 840)) }
 {
@@ -76,7 +77,8 @@ pub fn read_head(alloc: Global, table: &Table) -> Result<Head, SetupFault>
 
 #[tactic(auto, unfolding(crate::specs::Drafts::rights_fault, crate::specs::Drafts::rights_of))]
 pub(crate) fn read_rights(alloc: Global, table: &Table) -> Result<Rights, SetupFault>
-    ensures { Answers (rights_fault (table_view table.now)) (rights_of (table_view table.now)) result }
+    ensures { Answers (rights_fault (table_view table.now))
+        (rights_of (table_view table.now)) result }
 {
     let first_status = text_at(alloc, table, "first_status")?;
     let plan = names_at(alloc, table, "plan", NameForm::AnyText, 0, Some(100))?;

@@ -35,7 +35,8 @@ impl Drop for Lists {
 impl Lists {
     /// The users, types, priorities, resolutions and versions.
     pub fn into_names(self) -> (Names, Names, Names, Names, Names)
-        ensures { result ≡ (self.users, self.types, self.priorities, self.resolutions, self.versions) }
+        ensures { result
+            ≡ (self.users, self.types, self.priorities, self.resolutions, self.versions) }
     {
         let Lists {
             users,
@@ -51,7 +52,8 @@ impl Lists {
 /// The lists of names of the top table, or the first fault among them.
 #[tactic(auto, unfolding(crate::specs::Drafts::lists_fault, crate::specs::Drafts::lists_of))]
 pub fn read_lists(alloc: Global, table: &Table) -> Result<Lists, SetupFault>
-    ensures told { Answers (lists_fault (table_view table.now)) (lists_of (table_view table.now)) result }
+    ensures told { Answers (lists_fault (table_view table.now))
+        (lists_of (table_view table.now)) result }
     ensures few { IfOk result AreFewNames }
 {
     let users = names_at(alloc, table, "users", NameForm::User, 1, Some(200))?;

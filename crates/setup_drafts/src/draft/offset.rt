@@ -1,5 +1,4 @@
-ghost use Rattle.std.specs.Prelude.{◌≡◌, ◌≤◌, ◌≤ℤ◌, [], nat_lt, pos, neg_ℤ, not, map, IfOk, IsTrue, unsigned_abs};
-ghost use Rattle.std.specs.List.{list_all};
+ghost use Rattle.std.specs.Prelude.{◌≡◌, ◌≤◌, [], pos, not, map, IfOk, IsTrue, unsigned_abs};
 ghost use Rattle.toml.specs.Data.{get_member};
 ghost use Rattle.toml.specs.View.{table_view};
 ghost use Rattle.field_values.specs.Years.{last_second};
@@ -7,7 +6,9 @@ ghost use Rattle.relative_dates.specs.Calendar.{IsOffset, calendar_with, step_at
 ghost use Rattle.setup_drafts.specs.Faults.{Answers};
 ghost use Rattle.setup_drafts.specs.Cells.{whole_fault, whole_in};
 ghost use Rattle.setup_drafts.specs.Entries.{entries_fault};
-ghost use Rattle.setup_drafts.specs.Offsets.{zone_of, turns_back, comes_later, offset_of, offset_fault, with_offset, steps_of, offsets_fault, offsets_in};
+ghost use Rattle.setup_drafts.specs.Offsets.{zone_of, turns_back, comes_later, offset_of};
+ghost use Rattle.setup_drafts.specs.Offsets.{offset_fault, with_offset, steps_of, offsets_fault};
+ghost use Rattle.setup_drafts.specs.Offsets.{offsets_in};
 
 use crate::cell::{tables_at, whole_at};
 use crate::fault::SetupFault;
@@ -36,7 +37,8 @@ fn comes_later(earlier: &[Offset], from: u64) -> bool
 }
 
 fn moment_at(alloc: Global, entry: &Table, key: &str) -> Result<Moment, SetupFault>
-    ensures { Answers (whole_fault key.now (pos 0) (pos last_second) (get_member key.now (table_view entry.now)))
+    ensures { Answers (whole_fault key.now (pos 0) (pos last_second)
+        (get_member key.now (table_view entry.now)))
         (unsigned_abs (whole_in (get_member key.now (table_view entry.now)))) result }
 {
     let seconds = whole_at(alloc, entry, key, 0, LAST)?;
@@ -52,7 +54,8 @@ fn takes_step(calendar: &mut Calendar, from: u64, minutes: i32) -> Result<bool, 
     requires from { from ≤ last_second }
     requires minutes { IsOffset minutes }
     ensures told { IfOk result (λ taken. taken ≡ not (turns_back calendar.old.zone from minutes)) }
-    ensures taken { IfOk result (λ taken. IsTrue taken → calendar.new ≡ calendar_with calendar.old (step_at from minutes)) }
+    ensures taken { IfOk result (λ taken. IsTrue taken → calendar.new
+        ≡ calendar_with calendar.old (step_at from minutes)) }
 {
     match calendar.add_step(from, minutes) {
         Ok(()) => Ok(true),
@@ -71,9 +74,11 @@ fn read_offset(
     calendar: &mut Calendar,
 ) -> Result<Offset, SetupFault>
     requires { calendar.old.zone ≡ zone_of calendar.old.zone.first_offset earlier.now }
-    ensures told { Answers (offset_fault calendar.old.zone.first_offset earlier.now (table_view entry.now))
+    ensures told { Answers (offset_fault calendar.old.zone.first_offset earlier.now
+        (table_view entry.now))
         (offset_of (table_view entry.now)) result }
-    ensures calendar { IfOk result (λ offset. calendar.new ≡ calendar_with calendar.old (step_at offset.from offset.minutes)) }
+    ensures calendar { IfOk result (λ offset. calendar.new
+        ≡ calendar_with calendar.old (step_at offset.from offset.minutes)) }
 {
     let from = moment_at(alloc, entry, "from")?;
     if !comes_later(earlier, from.seconds()) {

@@ -3,7 +3,10 @@ ghost use Rattle.std.specs.List.{list_all};
 ghost use Rattle.toml.specs.View.{table_view};
 ghost use Rattle.setup_drafts.specs.Faults.{Answers};
 ghost use Rattle.field_forms.specs.Known.{has_few_options};
-ghost use Rattle.setup_drafts.specs.Drafts.{groups_fault, groups_of, projects_fault, projects_of, statuses_fault, statuses_of, transitions_fault, transitions_of, fields_fault, fields_of, tables_fault, tables_of, AreFewTables};
+ghost use Rattle.setup_drafts.specs.Drafts.{groups_fault, groups_of, projects_fault, projects_of};
+ghost use Rattle.setup_drafts.specs.Drafts.{statuses_fault, statuses_of, transitions_fault};
+ghost use Rattle.setup_drafts.specs.Drafts.{transitions_of, fields_fault, fields_of, tables_fault};
+ghost use Rattle.setup_drafts.specs.Drafts.{tables_of, AreFewTables};
 
 use crate::cell::tables_at;
 use crate::draft::field::read_fields;
@@ -58,7 +61,8 @@ impl Tables {
 
 #[tactic(auto, unfolding(crate::specs::Drafts::groups_fault, crate::specs::Drafts::groups_of))]
 fn groups_at(alloc: Global, table: &Table) -> Result<Sequence<GroupDraft>, SetupFault>
-    ensures told { Answers (groups_fault (table_view table.now)) (groups_of (table_view table.now)) result }
+    ensures told { Answers (groups_fault (table_view table.now))
+        (groups_of (table_view table.now)) result }
     ensures few { IfOk result (λ groups. length groups ≤ 100) }
 {
     let entries = tables_at(alloc, table, "group", 0, 100)?;
@@ -67,7 +71,8 @@ fn groups_at(alloc: Global, table: &Table) -> Result<Sequence<GroupDraft>, Setup
 
 #[tactic(auto, unfolding(crate::specs::Drafts::projects_fault, crate::specs::Drafts::projects_of))]
 fn projects_at(alloc: Global, table: &Table) -> Result<Sequence<ProjectDraft>, SetupFault>
-    ensures told { Answers (projects_fault (table_view table.now)) (projects_of (table_view table.now)) result }
+    ensures told { Answers (projects_fault (table_view table.now))
+        (projects_of (table_view table.now)) result }
     ensures few { IfOk result (λ projects. length projects ≤ 50) }
 {
     let entries = tables_at(alloc, table, "project", 1, 50)?;
@@ -76,7 +81,8 @@ fn projects_at(alloc: Global, table: &Table) -> Result<Sequence<ProjectDraft>, S
 
 #[tactic(auto, unfolding(crate::specs::Drafts::statuses_fault, crate::specs::Drafts::statuses_of))]
 fn statuses_at(alloc: Global, table: &Table) -> Result<Sequence<Status>, SetupFault>
-    ensures told { Answers (statuses_fault (table_view table.now)) (statuses_of (table_view table.now)) result }
+    ensures told { Answers (statuses_fault (table_view table.now))
+        (statuses_of (table_view table.now)) result }
     ensures few { IfOk result (λ statuses. length statuses ≤ 50) }
 {
     let entries = tables_at(alloc, table, "status", 1, 50)?;
@@ -85,7 +91,8 @@ fn statuses_at(alloc: Global, table: &Table) -> Result<Sequence<Status>, SetupFa
 
 #[tactic(auto, unfolding(crate::specs::Drafts::transitions_fault, crate::specs::Drafts::transitions_of))]
 fn transitions_at(alloc: Global, table: &Table) -> Result<Sequence<TransitionDraft>, SetupFault>
-    ensures told { Answers (transitions_fault (table_view table.now)) (transitions_of (table_view table.now)) result }
+    ensures told { Answers (transitions_fault (table_view table.now))
+        (transitions_of (table_view table.now)) result }
     ensures few { IfOk result (λ transitions. length transitions ≤ 200) }
 {
     let entries = tables_at(alloc, table, "transition", 0, 200)?;
@@ -94,7 +101,8 @@ fn transitions_at(alloc: Global, table: &Table) -> Result<Sequence<TransitionDra
 
 #[tactic(auto, unfolding(crate::specs::Drafts::fields_fault, crate::specs::Drafts::fields_of))]
 fn fields_at(alloc: Global, table: &Table) -> Result<Sequence<Field>, SetupFault>
-    ensures told { Answers (fields_fault (table_view table.now)) (fields_of (table_view table.now)) result }
+    ensures told { Answers (fields_fault (table_view table.now))
+        (fields_of (table_view table.now)) result }
     ensures few { IfOk result (λ fields. length fields ≤ 30) }
     ensures options { IfOk result (λ fields. list_all has_few_options fields ≡ true) }
 {
@@ -104,7 +112,8 @@ fn fields_at(alloc: Global, table: &Table) -> Result<Sequence<Field>, SetupFault
 
 #[tactic(auto, unfolding(crate::specs::Drafts::tables_fault, crate::specs::Drafts::tables_of))]
 pub(crate) fn read_tables(alloc: Global, table: &Table) -> Result<Tables, SetupFault>
-    ensures told { Answers (tables_fault (table_view table.now)) (tables_of (table_view table.now)) result }
+    ensures told { Answers (tables_fault (table_view table.now))
+        (tables_of (table_view table.now)) result }
     ensures few { IfOk result AreFewTables }
 {
     let groups = groups_at(alloc, table)?;

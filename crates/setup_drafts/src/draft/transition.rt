@@ -69,7 +69,8 @@ pub(crate) fn read_transitions(
     entries: &[&Table],
 ) -> Result<Sequence<TransitionDraft>, SetupFault>
     ensures told { let tables = map (λ t. table_view t.now) entries.now in
-        Answers (entries_fault transition_fault (with_name (λ e. (transition_draft e).name)) [] tables)
+        Answers (entries_fault transition_fault
+        (with_name (λ e. (transition_draft e).name)) [] tables)
         (map transition_draft tables) result }
     ensures all { IfOk result (λ transitions. length transitions ≡ length entries.now) }
 {
