@@ -2,12 +2,6 @@ use change_history::{Change, Changes, Issue, Key};
 use field_values::{ChoiceNo, FieldNo, IssueNo, Memory, Moment, Text, UserNo, Value};
 use std::alloc::Global;
 
-const SUMMARY: FieldNo = FieldNo(2);
-
-const STATUS: FieldNo = FieldNo(4);
-
-const POINTS: FieldNo = FieldNo(12);
-
 fn summary(alloc: Global) -> Result<Value, Memory> {
     Ok(Value::Text(Text::copy_of(alloc, "Fix login")?))
 }
@@ -15,11 +9,11 @@ fn summary(alloc: Global) -> Result<Value, Memory> {
 fn values(alloc: Global) -> Result<Changes, Memory> {
     let mut values = Changes::new(alloc);
     values.push(Change {
-        field: SUMMARY,
+        field: FieldNo::SUMMARY,
         to: summary(alloc)?,
     })?;
     values.push(Change {
-        field: STATUS,
+        field: FieldNo::STATUS,
         to: Value::Choice(ChoiceNo(0)),
     })?;
     Ok(values)
@@ -51,22 +45,22 @@ fn tells_its_creation(issue: &Issue) -> bool {
 fn has_its_values(alloc: Global, issue: &Issue) -> Option<bool> {
     let summary = summary(alloc).ok()?;
     Some(
-        issue.value(SUMMARY).is_same(&summary)
-            && issue.value(POINTS).is_same(&Value::Empty)
-            && issue.opening(SUMMARY).is_same(&summary)
-            && issue.opening(POINTS).is_same(&Value::Empty),
+        issue.value(FieldNo::SUMMARY).is_same(&summary)
+            && issue.value(FieldNo::POINTS).is_same(&Value::Empty)
+            && issue.opening(FieldNo::SUMMARY).is_same(&summary)
+            && issue.opening(FieldNo::POINTS).is_same(&Value::Empty),
     )
 }
 
 fn has_no_entries(issue: &Issue) -> bool {
     issue.entry(0).is_none()
-        && issue.last_entry(STATUS).is_none()
+        && issue.last_entry(FieldNo::STATUS).is_none()
         && issue.entry_before(0).is_none()
 }
 
 /// Who began a span of the status.
 fn author_of_span(issue: &Issue, k: usize) -> Option<u16> {
-    match issue.span(STATUS, k) {
+    match issue.span(FieldNo::STATUS, k) {
         Some(span) => Some(span.author.0),
         None => None,
     }

@@ -3,7 +3,7 @@
 
 use crate::new_tracker::{Name, Thing, finds_names};
 use crate::values::setup_of;
-use fields::Setup;
+use fields::{FieldNo, Setup};
 use std::alloc::{AllocError, Global};
 
 /// Its text by pieces, each of which stands there so many times, with `#` for the number in three digits from 001, `^` for the
@@ -152,9 +152,9 @@ const NAMES: [Name; 9] = [
     (Thing::Transition, "T200", Some(199)),
     (Thing::Group, "G100", Some(100)),
     (Thing::Field, "F030", Some(10_030)),
-    (Thing::Choice(4), "S050", Some(49)),
-    (Thing::Choice(9), "V500", Some(499)),
-    (Thing::Choice(10_030), "U196", Some(195)),
+    (Thing::Choice(FieldNo::STATUS), "S050", Some(49)),
+    (Thing::Choice(FieldNo::FIX_VERSION), "V500", Some(499)),
+    (Thing::Choice(FieldNo(10_030)), "U196", Some(195)),
 ];
 
 /// The setup has 400 steps, of which the last is at 1,400,000,000 seconds.

@@ -138,25 +138,25 @@ fn value_of(held: Held) -> Value {
     }
 }
 
-/// A field's number, a value, and whether the field may hold it.
-const FITTING: [(u16, Held, bool); 12] = [
-    (11, Held::Date(47_481), true),
-    (11, Held::Date(47_482), false),
-    (11, Held::Date(-1), false),
-    (12, Held::Number(999_999_999_999), true),
-    (12, Held::Number(1_000_000_000_000), false),
-    (12, Held::Number(-1), false),
-    (4, Held::Choice(3), true),
-    (4, Held::Choice(4), false),
-    (5, Held::Choice(0), false),
-    (4, Held::Nothing, false),
-    (3, Held::Nothing, true),
-    (14, Held::Nothing, false),
+/// A field, a value, and whether the field may hold it; no field has the number 14.
+const FITTING: [(FieldNo, Held, bool); 12] = [
+    (FieldNo::DUE, Held::Date(47_481), true),
+    (FieldNo::DUE, Held::Date(47_482), false),
+    (FieldNo::DUE, Held::Date(-1), false),
+    (FieldNo::POINTS, Held::Number(999_999_999_999), true),
+    (FieldNo::POINTS, Held::Number(1_000_000_000_000), false),
+    (FieldNo::POINTS, Held::Number(-1), false),
+    (FieldNo::STATUS, Held::Choice(3), true),
+    (FieldNo::STATUS, Held::Choice(4), false),
+    (FieldNo::ASSIGNEE, Held::Choice(0), false),
+    (FieldNo::STATUS, Held::Nothing, false),
+    (FieldNo::DESCRIPTION, Held::Nothing, true),
+    (FieldNo(14), Held::Nothing, false),
 ];
 
 fn tells_what_fits(setup: &Setup) -> bool {
     for &(field, held, wanted) in &FITTING {
-        if setup.fits(FieldNo(field), &value_of(held)) != wanted {
+        if setup.fits(field, &value_of(held)) != wanted {
             return false;
         }
     }
@@ -171,7 +171,7 @@ pub(crate) enum Thing {
     Transition,
     Group,
     Field,
-    Choice(u16),
+    Choice(FieldNo),
 }
 
 /// A kind of thing, a name, and the number of the thing of that name.
@@ -196,11 +196,11 @@ const NAMES: [Name; 23] = [
     (Thing::Field, "Sprint", Some(13)),
     (Thing::Field, "duedate", None),
     (Thing::Field, "rank", None),
-    (Thing::Choice(4), "done", Some(3)),
-    (Thing::Choice(4), "In Progress", Some(1)),
-    (Thing::Choice(4), "Gone", None),
-    (Thing::Choice(9), "1.1", Some(1)),
-    (Thing::Choice(5), "anna", None),
+    (Thing::Choice(FieldNo::STATUS), "done", Some(3)),
+    (Thing::Choice(FieldNo::STATUS), "In Progress", Some(1)),
+    (Thing::Choice(FieldNo::STATUS), "Gone", None),
+    (Thing::Choice(FieldNo::FIX_VERSION), "1.1", Some(1)),
+    (Thing::Choice(FieldNo::ASSIGNEE), "anna", None),
 ];
 
 fn transition_named(setup: &Setup, name: &str) -> Option<u16> {
@@ -218,7 +218,7 @@ fn number_named(setup: &Setup, thing: Thing, name: &str) -> Option<u16> {
         Thing::Transition => transition_named(setup, name),
         Thing::Group => setup.group_named(name).map(|no| no.0),
         Thing::Field => setup.field_named(name).map(|no| no.0),
-        Thing::Choice(field) => setup.choice_named(FieldNo(field), name).map(|no| no.0),
+        Thing::Choice(field) => setup.choice_named(field, name).map(|no| no.0),
     }
 }
 

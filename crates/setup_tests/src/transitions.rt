@@ -3,7 +3,7 @@
 use crate::issues::opened;
 use crate::values::{is_spelled, setup_of};
 use change_history::{Change, Changes, Issue};
-use fields::{BUILT_IN, Moment, Setup, UserNo, Value};
+use fields::{BUILT_IN, FieldNo, Moment, Setup, UserNo, Value};
 use std::alloc::{AllocError, Global};
 use workflow::{PlanFault, net_changes, plan, project_number, refused_input};
 
@@ -79,8 +79,8 @@ fn issue(alloc: Global, setup: &Setup, project: &str, opening: Named) -> Option<
     opened(alloc, project, values).ok()
 }
 
-/// The numbers of fields with the texts of their values.
-type Numbered = &'static [(u16, &'static str)];
+/// Fields by their numbers with the texts of their values.
+type Numbered = &'static [(FieldNo, &'static str)];
 
 /// What a plan is or comes to.
 #[derive(Clone, Copy)]
@@ -95,7 +95,7 @@ fn are_changes(alloc: Global, setup: &Setup, changes: &[Change], wanted: Numbere
     }
     for (place, change) in changes.iter().enumerate() {
         let (field, text) = wanted[place];
-        if change.field.0 != field || !is_spelled(alloc, setup, change.field, &change.to, text) {
+        if change.field != field || !is_spelled(alloc, setup, change.field, &change.to, text) {
             return false;
         }
     }
@@ -151,14 +151,14 @@ const ROWS: [Row; 6] = [
         &[("status", "Open")],
         "Plain",
         &[("points", "1"), ("points", "2")],
-        Plan::Makes(&[(4, "Done"), (12, "2")]),
+        Plan::Makes(&[(FieldNo::STATUS, "Done"), (FieldNo::POINTS, "2")]),
     ),
     (
         "OPS",
         &[("status", "Open"), ("points", "2")],
         "Plain",
         &[("points", "1"), ("points", "2")],
-        Plan::Makes(&[(4, "Done")]),
+        Plan::Makes(&[(FieldNo::STATUS, "Done")]),
     ),
     (
         "OPS",
@@ -171,10 +171,10 @@ const ROWS: [Row; 6] = [
             ("points", "1.5"),
         ],
         Plan::Makes(&[
-            (4, "Done"),
-            (11, "2024-04-01"),
-            (12, "1.5"),
-            (10_001, "Red"),
+            (FieldNo::STATUS, "Done"),
+            (FieldNo::DUE, "2024-04-01"),
+            (FieldNo::POINTS, "1.5"),
+            (FieldNo(10_001), "Red"),
         ]),
     ),
     (
@@ -196,7 +196,7 @@ const ROWS: [Row; 6] = [
         &[("status", "Open"), ("assignee", "bo")],
         "To lead",
         &[],
-        Plan::Makes(&[(4, "Done"), (5, "")]),
+        Plan::Makes(&[(FieldNo::STATUS, "Done"), (FieldNo::ASSIGNEE, "")]),
     ),
 ];
 
@@ -232,7 +232,7 @@ const EDIT: Named = &[
     ("due", "2024-04-01"),
 ];
 
-const NET: Numbered = &[(11, "2024-04-01"), (12, "")];
+const NET: Numbered = &[(FieldNo::DUE, "2024-04-01"), (FieldNo::POINTS, "")];
 
 fn comes_to_net(alloc: Global, setup: &Setup) -> Option<bool> {
     let issue = issue(alloc, setup, "OPS", OPENING)?;
