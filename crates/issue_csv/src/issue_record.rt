@@ -1,7 +1,8 @@
 // The records of an export.
 ghost use Rattle.std.specs.Prelude.{◌≡◌, ◌++◌, ◌∷◌, [], map, option_map, IfOk, OnErr, OnOk};
 ghost use Rattle.fields.specs.SetupParts.{names};
-ghost use Rattle.issue_csv.specs.Writing.{HoldsFitting, column_of, columns_of, export_header, exported_fields, header_text, issue_text};
+ghost use Rattle.issue_csv.specs.Writing.{HoldsFitting, column_of, columns_of, export_header};
+ghost use Rattle.issue_csv.specs.Writing.{exported_fields, header_text, issue_text};
 
 use crate::record_text::write_record;
 use crate::told::{column_text, project_of};

@@ -2,7 +2,8 @@
 ghost use Rattle.std.specs.Prelude.{◌≡◌, option_map};
 ghost use Rattle.csv.specs.Records.{AllText, fields_of};
 ghost use Rattle.issue_csv.specs.Reading.{batch_of};
-ghost use Rattle.issue_csv.specs.Reader.{IsCallAtHand, IsOpen, IsInPhase, IsNextCall, batch_left, header_and, left_of, phase_after, to_come};
+ghost use Rattle.issue_csv.specs.Reader.{IsCallAtHand, IsOpen, IsInPhase, IsNextCall, batch_left};
+ghost use Rattle.issue_csv.specs.Reader.{header_and, left_of, phase_after, to_come};
 
 use crate::columns::is_header;
 use crate::csv_records::{NextRecord, Records};

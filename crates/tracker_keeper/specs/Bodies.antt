@@ -1,6 +1,7 @@
 -- The one text of each part.
 use Rattle.std.specs.Prelude.{ℕ, List, [], ◌∷◌, map, codes}
 use Rattle.field_values.specs.declared.numbers.UserNo.{UserNo}
+use Rattle.field_forms.specs.JsonData.{natural, texts_data}
 use Rattle.field_forms.specs.Known.{Names}
 use Rattle.change_history.specs.declared.change.Change.{Change}
 use Rattle.change_history.specs.declared.entry.Entry.{Entry}
@@ -16,7 +17,7 @@ use Rattle.tracker_keeper.specs.declared.part.Part.{Part}
 use Rattle.tracker_keeper.specs.declared.part.Part.TheVariants as part
 use Rattle.tracker_keeper.specs.declared.part.Format.{Format}
 use Rattle.tracker_keeper.specs.Parts.{format_number}
-use Rattle.tracker_keeper.specs.ValueData.{natural, texts_data, value_data}
+use Rattle.tracker_keeper.specs.ValueData.{value_data}
 use Rattle.fields.specs.Naming.{name_at, field_name}
 
 abbrev pub one_data : ℕ → Data

@@ -6,7 +6,6 @@ pub mod ValueData
 pub mod Bodies
 pub mod Forms
 pub mod Kept
-pub mod Written
 pub mod Sorted
 pub mod Looking
 pub mod LookingAtValues

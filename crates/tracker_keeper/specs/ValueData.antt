@@ -1,20 +1,14 @@
 -- Values of fields as JSON.
-use Rattle.std.specs.Prelude.{ℕ, List, map}
+use Rattle.std.specs.Prelude.{ℕ}
 use Rattle.field_values.specs.declared.value.Value.{Value}
 use Rattle.field_values.specs.declared.value.Value.TheVariants as value
+use Rattle.field_forms.specs.JsonData.{natural, texts_data}
 use Rattle.field_forms.specs.Known.{Names, choices_of}
 use Rattle.field_forms.specs.Numbers as numbers
 use Rattle.field_forms.specs.ValueTexts.{chosen_names}
 use Rattle.civil_dates.specs.DateText.{date_text}
-use Rattle.serde_json.specs.Data.{Data, null, number, unsigned, string, array}
-use Rattle.serde_json.specs.View.{items_of}
+use Rattle.serde_json.specs.Data.{Data, null, string}
 use Rattle.fields.specs.Naming.{name_at}
-
-abbrev pub natural : ℕ → Data
-natural n = number (unsigned n)
-
-abbrev pub texts_data : List (List ℕ) → Data
-texts_data texts = array (items_of (map string texts))
 
 -- a value of a field: a choice or a user by name, a set as the list of its names, a number by its shortest text, a day as
 -- yyyy-MM-dd, a sprint by its number, and null where it is empty

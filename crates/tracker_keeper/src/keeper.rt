@@ -29,13 +29,15 @@ pub trait Keeper {
         requires numbers { All (λ op. number_of op < 2 ^ 63) ops.now }
         ensures cause { HasKeepCause (faults self.old) (faults self.new) result }
         ensures told { tells self.new → tells self.old }
-        ensures done { (rows : Rows) → keeps self.old rows → OnOk result (keeps self.new (with_ops ops.now rows)) }
+        ensures done { (rows : Rows) → keeps self.old rows
+            → OnOk result (keeps self.new (with_ops ops.now rows)) }
         ensures undone { (rows : Rows) → keeps self.old rows → OnErr result (keeps self.new rows) };
 
     /// All rows, by kind and then number.
     fn rows(&mut self) -> Result<Vec<Row>, KeepFault>
         ensures cause { HasKeepCause (faults self.old) (faults self.new) result }
         ensures told { tells self.new → tells self.old }
-        ensures rows { tells self.new → (rows : Rows) → keeps self.old rows → IfOk result (λ list. IsListing rows list.items) }
+        ensures rows { tells self.new → (rows : Rows) → keeps self.old rows
+            → IfOk result (λ list. IsListing rows list.items) }
         ensures same { (rows : Rows) → keeps self.old rows → keeps self.new rows };
 }

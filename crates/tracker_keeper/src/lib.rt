@@ -1,7 +1,6 @@
 //! Kept rows: what keeps them, and the text of each part of a tracker.
 #![tactic(auto)]
 
-mod body_text;
 mod forms;
 mod keeper;
 pub mod laws;

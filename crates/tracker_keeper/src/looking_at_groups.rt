@@ -5,7 +5,9 @@ ghost use Rattle.field_forms.specs.Known.{has_few_options, form_of};
 ghost use Rattle.fields.specs.SetupParts.{names};
 ghost use Rattle.serde_json.specs.Find.{at};
 ghost use Rattle.serde_json.specs.View.{view, items_view};
-ghost use Rattle.tracker_keeper.specs.LookingAtValues.{field_in, value_at, field_at, entry_like, entries_like, entries_at, number_at, group_like};
+ghost use Rattle.tracker_keeper.specs.LookingAtValues.{field_in, value_at, field_at, entry_like};
+ghost use Rattle.tracker_keeper.specs.LookingAtValues.{entries_like, entries_at, number_at};
+ghost use Rattle.tracker_keeper.specs.LookingAtValues.{group_like};
 
 use crate::looking::{moment_at, number_in, user_at};
 use crate::looking_at_issues::change_in;
@@ -52,7 +54,8 @@ fn value_at(
     place: usize,
     value: &Json,
 ) -> Result<Option<Value>, Memory>
-    ensures { IfOk result (λ found. found ≡ value_at (names setup.now) field.0 place (view value.now)) }
+    ensures { IfOk result (λ found. found
+        ≡ value_at (names setup.now) field.0 place (view value.now)) }
 {
     match item_at(value, place) {
         Some(item) => value_like(alloc, setup, field, item),
@@ -81,7 +84,9 @@ fn entry_like(
     stamp: &Stamp,
     value: &Json,
 ) -> Result<Option<Entry>, Memory>
-    ensures { IfOk result (λ entry. entry ≡ entry_like (names setup.now) stamp.now.change stamp.now.at stamp.now.author (view value.now)) }
+    ensures { IfOk result (λ entry. entry
+        ≡ entry_like (names setup.now) stamp.now.change stamp.now.at stamp.now.author
+        (view value.now)) }
 {
     let Some(field) = field_at(setup, value) else {
         return Ok(None);
@@ -109,7 +114,8 @@ fn entries_like(
     items: &[Json],
 ) -> Result<Option<Entries>, Memory>
     ensures { IfOk result (λ entries. entries
-        ≡ entries_like (names setup.now) stamp.now.change stamp.now.at stamp.now.author (items_view items.now)) }
+        ≡ entries_like (names setup.now) stamp.now.change stamp.now.at stamp.now.author
+        (items_view items.now)) }
 {
     let mut entries = Entries::new(alloc);
     for item in items {
@@ -128,7 +134,8 @@ fn entries_at(
     value: &Json,
 ) -> Result<Option<Entries>, Memory>
     ensures { IfOk result (λ entries. entries
-        ≡ entries_at (names setup.now) stamp.now.change stamp.now.at stamp.now.author (view value.now)) }
+        ≡ entries_at (names setup.now) stamp.now.change stamp.now.at stamp.now.author
+        (view value.now)) }
 {
     match items_at(value, "entries") {
         Some(items) => entries_like(alloc, setup, stamp, items),

@@ -1,5 +1,6 @@
 // The issue that a body tells.
-ghost use Rattle.std.specs.Prelude.{◌≡◌, ◌++◌, List, Option, None, map, option_map, IfOk, if◌then◌else◌};
+ghost use Rattle.std.specs.Prelude.{◌≡◌, ◌++◌, List, Option, None, map, option_map, IfOk};
+ghost use Rattle.std.specs.Prelude.{if◌then◌else◌};
 ghost use Rattle.field_forms.specs.Cuts.{cut_at};
 ghost use Rattle.field_forms.specs.Names.{place_named};
 ghost use Rattle.field_forms.specs.Numbers.{is_numeral};
@@ -9,7 +10,9 @@ ghost use Rattle.change_history.specs.declared.change.Change.{Change};
 ghost use Rattle.serde_json.specs.Find.{get};
 ghost use Rattle.serde_json.specs.View.{view};
 ghost use Rattle.tracker_keeper.specs.Kept.{part_keys};
-ghost use Rattle.tracker_keeper.specs.LookingAtValues.{key_number, key_like, key_at, change_in, change_at, with_value, values_like, values_at, issue_like};
+ghost use Rattle.tracker_keeper.specs.LookingAtValues.{key_number, key_like, key_at, change_in};
+ghost use Rattle.tracker_keeper.specs.LookingAtValues.{change_at, with_value, values_like};
+ghost use Rattle.tracker_keeper.specs.LookingAtValues.{values_at, issue_like};
 
 use crate::looking::{moment_at, number_in, text_at, user_at};
 use crate::looking_at_values::filled_like;
@@ -109,7 +112,8 @@ fn put_value_of(
     values: &mut Changes,
 ) -> Result<bool, Memory>
     ensures { IfOk result (λ is. (rest : Option (List Change)) →
-        option_map (λ more. values.old ++ more) (with_value (names setup.now) field.0 (get (field_name setup.now.field field.0) (view fields.now)) rest)
+        option_map (λ more. values.old ++ more) (with_value (names setup.now) field.0
+        (get (field_name setup.now.field field.0) (view fields.now)) rest)
         ≡ (if is then option_map (λ more. values.new ++ more) rest else None)) }
 {
     let Some(value) = member(fields, setup.field_name(field)) else {
@@ -129,7 +133,8 @@ fn values_like(
     fields: &Json,
     numbers: &[FieldNo],
 ) -> Result<Option<Changes>, Memory>
-    ensures { IfOk result (λ values. values ≡ values_like (names setup.now) (view fields.now) (map (λ f. f.0) numbers.now)) }
+    ensures { IfOk result (λ values. values
+        ≡ values_like (names setup.now) (view fields.now) (map (λ f. f.0) numbers.now)) }
 {
     let mut values = Changes::new(alloc);
     for field in numbers {
@@ -157,7 +162,8 @@ pub(crate) fn issue_like(
     no: u64,
     value: &Json,
 ) -> Result<Option<Part>, Memory>
-    ensures { IfOk result (λ part. part ≡ issue_like (names setup.now) (part_keys (parts setup.now)) no (view value.now)) }
+    ensures { IfOk result (λ part. part
+        ≡ issue_like (names setup.now) (part_keys (parts setup.now)) no (view value.now)) }
 {
     let Some(no) = number_in(no) else {
         return Ok(None);

@@ -3,7 +3,8 @@ ghost use Rattle.std.specs.Prelude.{◌≡◌, option_map, IfOk};
 ghost use Rattle.field_values.specs.GroupMembers.{is_user_list};
 ghost use Rattle.fields.specs.SetupParts.{names};
 ghost use Rattle.serde_json.specs.View.{view, items_view};
-ghost use Rattle.tracker_keeper.specs.LookingAtValues.{group_in, user_of, users_in, listed_users, items_at, members_at, members_like};
+ghost use Rattle.tracker_keeper.specs.LookingAtValues.{group_in, user_of, users_in, listed_users};
+ghost use Rattle.tracker_keeper.specs.LookingAtValues.{items_at, members_at, members_like};
 
 use crate::part::Part;
 use field_values::{GroupNo, Memory, Sequence, UserNo};
@@ -79,7 +80,8 @@ fn listed_users(
 }
 
 pub(crate) fn items_at<'v>(value: &'v Json, name: &str) -> Option<&'v [Json]>
-    ensures { option_map (λ items. items_view items.now) result ≡ items_at name.now (view value.now) }
+    ensures { option_map (λ items. items_view items.now) result
+        ≡ items_at name.now (view value.now) }
 {
     match value.get(name)?.as_array() {
         Some(items) => Some(items.as_slice()),

@@ -4,9 +4,12 @@ ghost use Rattle.field_forms.specs.TextLists.{texts_of};
 ghost use Rattle.fields.specs.SetupParts.{names};
 ghost use Rattle.serde_json.specs.View.{view};
 ghost use Rattle.tracker_keeper.specs.Forms.{is_filled};
-ghost use Rattle.tracker_keeper.specs.LookingAtValues.{is_sprint, unless_sprint, text_value, sprint_value, list_value, value_like, unless_empty, filled_like};
+ghost use Rattle.tracker_keeper.specs.LookingAtValues.{is_sprint, unless_sprint, text_value};
+ghost use Rattle.tracker_keeper.specs.LookingAtValues.{sprint_value, list_value, value_like};
+ghost use Rattle.tracker_keeper.specs.LookingAtValues.{unless_empty, filled_like};
 
-use field_values::{FieldNo, Memory, Names, SprintNo, Text, Value};
+use field_forms::text_list::texts_of;
+use field_values::{FieldNo, Memory, SprintNo, Value};
 use fields::Setup;
 use serde_json::Value as Json;
 use std::alloc::Global;
@@ -55,29 +58,14 @@ fn sprint_value(setup: &Setup, field: FieldNo, sprint: u64) -> Option<Value>
     }
 }
 
-fn texts_of(alloc: Global, value: &Json) -> Result<Option<Names>, Memory>
-    ensures { IfOk result (λ texts. texts ≡ texts_of (view value.now)) }
-{
-    let Some(items) = value.as_array() else {
-        return Ok(None);
-    };
-    let mut texts = Names::new(alloc);
-    for item in items {
-        let Some(text) = item.as_str() else {
-            return Ok(None);
-        };
-        texts.push(Text::copy_of(alloc, text)?)?;
-    }
-    Ok(Some(texts))
-}
-
 fn list_value(
     alloc: Global,
     setup: &Setup,
     field: FieldNo,
     value: &Json,
 ) -> Result<Option<Value>, Memory>
-    ensures { IfOk result (λ found. found ≡ list_value (names setup.now) field.0 (texts_of (view value.now))) }
+    ensures { IfOk result (λ found. found
+        ≡ list_value (names setup.now) field.0 (texts_of (view value.now))) }
 {
     let Some(texts) = texts_of(alloc, value)? else {
         return Ok(None);
@@ -130,7 +118,8 @@ pub(crate) fn filled_like(
     field: FieldNo,
     value: &Json,
 ) -> Result<Option<Value>, Memory>
-    ensures { IfOk result (λ found. found ≡ filled_like (names setup.now) field.0 (view value.now)) }
+    ensures { IfOk result (λ found. found
+        ≡ filled_like (names setup.now) field.0 (view value.now)) }
 {
     match value_like(alloc, setup, field, value)? {
         Some(value) => Ok(unless_empty(value)),

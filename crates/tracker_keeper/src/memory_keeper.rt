@@ -1,5 +1,5 @@
 // A keeper in memory, which fails at the calls that it is told.
-ghost use Rattle.std.specs.Prelude.{◌≡◌, ◌<◌, ◌≤◌, ◌^◌, ◌↔◌, ℕ, Err, OnOk, OnErr, IfOk, IsTrue};
+ghost use Rattle.std.specs.Prelude.{◌≡◌, ◌<◌, ◌≤◌, ◌^◌, ◌↔◌, Err, OnOk, OnErr, IfOk, IsTrue};
 ghost use Rattle.std.specs.List.{All};
 ghost use Rattle.request_lines.specs.Causes.{Rose, FailsAt, next_call};
 ghost use Rattle.tracker_keeper.specs.Rows.{Rows, no_rows, with_ops, number_of, IsListing};
@@ -24,7 +24,8 @@ pub struct MemoryKeeper {
 impl MemoryKeeper {
     /// A keeper of the rows that these operations leave where there were none.
     pub fn new(alloc: Global, ops: &[RowOp], failing: Vec<u64>) -> Result<Self, Memory>
-        ensures rows { IfOk result (λ keeper. AreRowsOf (with_ops ops.now no_rows) keeper.rows.places) }
+        ensures rows { IfOk result (λ keeper.
+            AreRowsOf (with_ops ops.now no_rows) keeper.rows.places) }
         ensures failing { IfOk result (λ keeper. keeper.failing.items ≡ failing.items) }
         ensures calls { IfOk result (λ keeper. keeper.calls ≡ 0) }
         ensures faults { IfOk result (λ keeper. keeper.faults ≡ 0) }
@@ -69,11 +70,14 @@ impl Keeper for MemoryKeeper {
         requires numbers { All (λ op. number_of op < 2 ^ 63) ops.now }
         ensures cause { HasKeepCause self.old.faults self.new.faults result }
         ensures told { Unit {0} → Unit {0} }
-        ensures done { (rows : Rows) → AreRowsOf rows self.old.rows.places → OnOk result (AreRowsOf (with_ops ops.now rows) self.new.rows.places) }
-        ensures undone { (rows : Rows) → AreRowsOf rows self.old.rows.places → OnErr result (AreRowsOf rows self.new.rows.places) }
+        ensures done { (rows : Rows) → AreRowsOf rows self.old.rows.places
+            → OnOk result (AreRowsOf (with_ops ops.now rows) self.new.rows.places) }
+        ensures undone { (rows : Rows) → AreRowsOf rows self.old.rows.places
+            → OnErr result (AreRowsOf rows self.new.rows.places) }
 
         // It fails exactly at the calls that it was told.
-        ensures fails { (result ≡ Err KeepFault.Failed) ↔ FailsAt self.old.failing.items (next_call self.old.calls) }
+        ensures fails { (result ≡ Err KeepFault.Failed)
+            ↔ FailsAt self.old.failing.items (next_call self.old.calls) }
         ensures counted { self.new.calls ≡ next_call self.old.calls }
         ensures failing { self.new.failing.items ≡ self.old.failing.items }
     {
@@ -90,9 +94,12 @@ impl Keeper for MemoryKeeper {
     fn rows(&mut self) -> Result<Vec<Row>, KeepFault>
         ensures cause { HasKeepCause self.old.faults self.new.faults result }
         ensures told { Unit {0} → Unit {0} }
-        ensures rows { Unit {0} → (rows : Rows) → AreRowsOf rows self.old.rows.places → IfOk result (λ list. IsListing rows list.items) }
-        ensures same { (rows : Rows) → AreRowsOf rows self.old.rows.places → AreRowsOf rows self.new.rows.places }
-        ensures fails { (result ≡ Err KeepFault.Failed) ↔ FailsAt self.old.failing.items (next_call self.old.calls) }
+        ensures rows { Unit {0} → (rows : Rows) → AreRowsOf rows self.old.rows.places
+            → IfOk result (λ list. IsListing rows list.items) }
+        ensures same { (rows : Rows) → AreRowsOf rows self.old.rows.places
+            → AreRowsOf rows self.new.rows.places }
+        ensures fails { (result ≡ Err KeepFault.Failed)
+            ↔ FailsAt self.old.failing.items (next_call self.old.calls) }
         ensures counted { self.new.calls ≡ next_call self.old.calls }
         ensures failing { self.new.failing.items ≡ self.old.failing.items }
     {

@@ -1,5 +1,5 @@
 // A keeper in memory that never fails.
-ghost use Rattle.std.specs.Prelude.{◌≡◌, ◌<◌, ◌^◌, ℕ, OnOk, OnErr, IfOk, IfErr};
+ghost use Rattle.std.specs.Prelude.{◌≡◌, ◌<◌, ◌^◌, OnOk, OnErr, IfOk, IfErr};
 ghost use Rattle.std.specs.List.{All};
 ghost use Rattle.tracker_keeper.specs.Rows.{Rows, no_rows, with_ops, number_of, IsListing};
 ghost use Rattle.tracker_keeper.specs.Causes.{HasKeepCause};
@@ -40,8 +40,10 @@ impl Keeper for NeverFails {
         requires numbers { All (λ op. number_of op < 2 ^ 63) ops.now }
         ensures cause { HasKeepCause 0 0 result }
         ensures told { Unit {0} → Unit {0} }
-        ensures done { (rows : Rows) → AreRowsOf rows self.old.rows.places → OnOk result (AreRowsOf (with_ops ops.now rows) self.new.rows.places) }
-        ensures undone { (rows : Rows) → AreRowsOf rows self.old.rows.places → OnErr result (AreRowsOf rows self.new.rows.places) }
+        ensures done { (rows : Rows) → AreRowsOf rows self.old.rows.places
+            → OnOk result (AreRowsOf (with_ops ops.now rows) self.new.rows.places) }
+        ensures undone { (rows : Rows) → AreRowsOf rows self.old.rows.places
+            → OnErr result (AreRowsOf rows self.new.rows.places) }
         ensures never { IfErr result (λ fault. fault ≡ KeepFault.Memory) }
     {
         match self.rows.commit(ops) {
@@ -54,8 +56,10 @@ impl Keeper for NeverFails {
     fn rows(&mut self) -> Result<Vec<Row>, KeepFault>
         ensures cause { HasKeepCause 0 0 result }
         ensures told { Unit {0} → Unit {0} }
-        ensures rows { Unit {0} → (rows : Rows) → AreRowsOf rows self.old.rows.places → IfOk result (λ list. IsListing rows list.items) }
-        ensures same { (rows : Rows) → AreRowsOf rows self.old.rows.places → AreRowsOf rows self.new.rows.places }
+        ensures rows { Unit {0} → (rows : Rows) → AreRowsOf rows self.old.rows.places
+            → IfOk result (λ list. IsListing rows list.items) }
+        ensures same { (rows : Rows) → AreRowsOf rows self.old.rows.places
+            → AreRowsOf rows self.new.rows.places }
         ensures never { IfErr result (λ fault. fault ≡ KeepFault.Memory) }
     {
         match self.rows.list() {

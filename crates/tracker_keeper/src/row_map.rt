@@ -1,7 +1,9 @@
 // Rows in memory, found by kind and number in logarithmic time.
 ghost use Rattle.std.specs.Prelude.{◌≡◌, ℕ, Some, None, IfOk, OnOk, OnErr, is_some};
 ghost use Rattle.tracker_keeper.specs.Rows.{with_body, IsListing};
-ghost use Rattle.tracker_keeper.specs.Places.{content, place_at, HasPlace, HasPlaceFor, HavePlaces, is_vacant, IsSet, KeepRows, KeepPlaces, IsCarriedOut, AreCarriedOut};
+ghost use Rattle.tracker_keeper.specs.Places.{content, place_at, HasPlace, HasPlaceFor, HavePlaces};
+ghost use Rattle.tracker_keeper.specs.Places.{is_vacant, IsSet, KeepRows, KeepPlaces, IsCarriedOut};
+ghost use Rattle.tracker_keeper.specs.Places.{AreCarriedOut};
 
 use crate::row::{Row, RowOp};
 use field_values::{Memory, Text};
@@ -67,7 +69,8 @@ impl RowMap {
     #[tactic(auto, using(crate::proofs::Placing::body_set, crate::proofs::Placing::set_stays))]
     fn set_body(&mut self, kind: u8, no: u64, body: Option<Text>)
         requires { HasPlace self.old.places kind no }
-        ensures rows { (k n : ℕ) → content self.new.places k n ≡ with_body kind no body (content self.old.places) k n }
+        ensures rows { (k n : ℕ) → content self.new.places k n
+            ≡ with_body kind no body (content self.old.places) k n }
         ensures others { KeepPlaces self.old.places self.new.places }
     {
         let Ok(()) = self.set(kind, no, body) else {
@@ -78,7 +81,8 @@ impl RowMap {
     // Makes a place vacant, where there is one. It takes no memory.
     #[tactic(auto, using(crate::proofs::Placing::no_body))]
     fn vacate(&mut self, kind: u8, no: u64)
-        ensures rows { (k n : ℕ) → content self.new.places k n ≡ with_body kind no None (content self.old.places) k n }
+        ensures rows { (k n : ℕ) → content self.new.places k n
+            ≡ with_body kind no None (content self.old.places) k n }
         ensures others { KeepPlaces self.old.places self.new.places }
     {
         if self.has_place(kind, no) {

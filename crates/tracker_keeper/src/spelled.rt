@@ -38,7 +38,8 @@ fn text_at(names: &[Text], place: u16) -> Option<&str>
 }
 
 fn status_at(statuses: &[Status], place: u16) -> Option<&str>
-    ensures { option_map (λ text. text.now) result ≡ slice_get (map (λ s. s.name) statuses.now) place }
+    ensures { option_map (λ text. text.now) result
+        ≡ slice_get (map (λ s. s.name) statuses.now) place }
 {
     match statuses.get(usize::from(place)) {
         Some(status) => Some(status.name.as_str()),
@@ -53,7 +54,8 @@ fn own_field(fields: &[Field], no: u16) -> Option<&Field>
 }
 
 fn own_choice_at<'a>(setup: &'a Setup, field: &'a Field, place: u16) -> Option<&'a str>
-    ensures { option_map (λ text. text.now) result ≡ slice_get (own_choices (names setup.now) field.now) place }
+    ensures { option_map (λ text. text.now) result
+        ≡ slice_get (own_choices (names setup.now) field.now) place }
 {
     match field.kind {
         FieldKind::User => text_at(setup.users.as_slice(), place),
@@ -65,7 +67,8 @@ fn own_choice_at<'a>(setup: &'a Setup, field: &'a Field, place: u16) -> Option<&
 
 fn own_choice(setup: &Setup, no: u16, place: u16) -> Option<&str>
     ensures { option_map (λ text. text.now) result
-        ≡ slice_get (option_map_or (own_choices (names setup.now)) (own_field setup.now.field no) []) place }
+        ≡ slice_get (option_map_or (own_choices (names setup.now))
+        (own_field setup.now.field no) []) place }
 {
     match own_field(setup.field.as_slice(), no) {
         Some(own) => own_choice_at(setup, own, place),
@@ -76,7 +79,8 @@ fn own_choice(setup: &Setup, no: u16, place: u16) -> Option<&str>
 /// The name at a place among those that a value of the field may name.
 #[tactic(auto, unfolding(field_forms::specs::Known::choices_of))]
 pub(crate) fn choice_at(setup: &Setup, field: FieldNo, place: u16) -> Option<&str>
-    ensures { option_map (λ text. text.now) result ≡ slice_get (choices_of (names setup.now) field.0) place }
+    ensures { option_map (λ text. text.now) result
+        ≡ slice_get (choices_of (names setup.now) field.0) place }
 {
     match field {
         FieldNo::TYPE => text_at(setup.types.as_slice(), place),

@@ -1,18 +1,23 @@
 // The texts of bodies.
 ghost use Rattle.std.specs.Prelude.{◌≡◌, IfOk, OnOk};
 ghost use Rattle.serde_json.specs.Written.{compact_text};
-ghost use Rattle.tracker_keeper.specs.Written.{after};
-ghost use Rattle.tracker_keeper.specs.Bodies.{one_data, pair_data, balance_data, start_data, close_data, present_data, sprint_data, filter_data, board_data};
+ghost use Rattle.field_forms.specs.JsonTokens.{after};
+ghost use Rattle.tracker_keeper.specs.Bodies.{one_data, pair_data, balance_data, start_data};
+ghost use Rattle.tracker_keeper.specs.Bodies.{close_data, present_data, sprint_data, filter_data};
+ghost use Rattle.tracker_keeper.specs.Bodies.{board_data};
 
-use crate::body_text::BodyText;
 use crate::part::Format;
+use field_forms::json_text::JsonText;
 use field_values::{FilterNo, Memory, Moment, Text};
 use rank_balancer::Balance;
 use sprints::SprintState;
 use std::alloc::Global;
 
+/// The bytes that most bodies have at most.
+pub(crate) const ROOM: usize = 240;
+
 /// The body of where the tracker stands.
-#[tactic(auto, using(crate::proofs::Texts::whole))]
+#[tactic(auto, using(field_forms::proofs::JsonTexts::whole))]
 pub fn present_text(
     alloc: Global,
     balance: Balance,
@@ -20,16 +25,17 @@ pub fn present_text(
     format: Format,
     moment: Moment,
 ) -> Result<Text, Memory>
-    ensures { IfOk result (λ text. text ≡ compact_text (present_data balance change format moment)) }
+    ensures { IfOk result (λ text. text
+        ≡ compact_text (present_data balance change format moment)) }
 {
-    let mut out = BodyText::new(alloc)?;
+    let mut out = JsonText::with_room(alloc, ROOM)?;
     put_present(&mut out, balance, change, format, moment)?;
     Ok(out.into_text())
 }
 
 #[tactic(auto, unfolding(crate::specs::Bodies::present_data))]
 fn put_present(
-    out: &mut BodyText,
+    out: &mut JsonText,
     balance: Balance,
     change: u64,
     format: Format,
@@ -46,7 +52,7 @@ fn put_present(
     out.end_object()
 }
 
-fn put_balance(out: &mut BodyText, balance: Balance) -> Result<(), Memory>
+fn put_balance(out: &mut JsonText, balance: Balance) -> Result<(), Memory>
     ensures { OnOk result (out.new ≡ after (balance_data balance) out.old) }
 {
     match balance {
@@ -55,7 +61,7 @@ fn put_balance(out: &mut BodyText, balance: Balance) -> Result<(), Memory>
     }
 }
 
-fn put_one(out: &mut BodyText, one: u64) -> Result<(), Memory>
+fn put_one(out: &mut JsonText, one: u64) -> Result<(), Memory>
     ensures { OnOk result (out.new ≡ after (one_data one) out.old) }
 {
     out.begin_array()?;
@@ -63,7 +69,7 @@ fn put_one(out: &mut BodyText, one: u64) -> Result<(), Memory>
     out.end_array()
 }
 
-fn put_pair(out: &mut BodyText, one: u64, other: u64) -> Result<(), Memory>
+fn put_pair(out: &mut JsonText, one: u64, other: u64) -> Result<(), Memory>
     ensures { OnOk result (out.new ≡ after (pair_data one other) out.old) }
 {
     out.begin_array()?;
@@ -73,17 +79,17 @@ fn put_pair(out: &mut BodyText, one: u64, other: u64) -> Result<(), Memory>
 }
 
 /// The body of a sprint.
-#[tactic(auto, using(crate::proofs::Texts::whole))]
+#[tactic(auto, using(field_forms::proofs::JsonTexts::whole))]
 pub fn sprint_text(alloc: Global, name: &str, state: &SprintState) -> Result<Text, Memory>
     ensures { IfOk result (λ text. text ≡ compact_text (sprint_data name.now state.now)) }
 {
-    let mut out = BodyText::new(alloc)?;
+    let mut out = JsonText::with_room(alloc, ROOM)?;
     put_sprint(&mut out, name, state)?;
     Ok(out.into_text())
 }
 
 #[tactic(auto, unfolding(crate::specs::Bodies::sprint_data))]
-fn put_sprint(out: &mut BodyText, name: &str, state: &SprintState) -> Result<(), Memory>
+fn put_sprint(out: &mut JsonText, name: &str, state: &SprintState) -> Result<(), Memory>
     ensures { OnOk result (out.new ≡ after (sprint_data name.now state.now) out.old) }
 {
     out.begin_object()?;
@@ -95,7 +101,7 @@ fn put_sprint(out: &mut BodyText, name: &str, state: &SprintState) -> Result<(),
     out.end_object()
 }
 
-fn put_close(out: &mut BodyText, state: &SprintState) -> Result<(), Memory>
+fn put_close(out: &mut JsonText, state: &SprintState) -> Result<(), Memory>
     ensures { OnOk result (out.new ≡ after (close_data state.now) out.old) }
 {
     match *state {
@@ -104,7 +110,7 @@ fn put_close(out: &mut BodyText, state: &SprintState) -> Result<(), Memory>
     }
 }
 
-fn put_start(out: &mut BodyText, state: &SprintState) -> Result<(), Memory>
+fn put_start(out: &mut JsonText, state: &SprintState) -> Result<(), Memory>
     ensures { OnOk result (out.new ≡ after (start_data state.now) out.old) }
 {
     match *state {
@@ -119,17 +125,17 @@ fn put_start(out: &mut BodyText, state: &SprintState) -> Result<(), Memory>
 }
 
 /// The body of a saved filter.
-#[tactic(auto, using(crate::proofs::Texts::whole))]
+#[tactic(auto, using(field_forms::proofs::JsonTexts::whole))]
 pub fn filter_text(alloc: Global, jql: &str, name: &str, owner: &str) -> Result<Text, Memory>
     ensures { IfOk result (λ text. text ≡ compact_text (filter_data jql.now name.now owner.now)) }
 {
-    let mut out = BodyText::new(alloc)?;
+    let mut out = JsonText::with_room(alloc, ROOM)?;
     put_filter(&mut out, jql, name, owner)?;
     Ok(out.into_text())
 }
 
 #[tactic(auto, unfolding(crate::specs::Bodies::filter_data))]
-fn put_filter(out: &mut BodyText, jql: &str, name: &str, owner: &str) -> Result<(), Memory>
+fn put_filter(out: &mut JsonText, jql: &str, name: &str, owner: &str) -> Result<(), Memory>
     ensures { OnOk result (out.new ≡ after (filter_data jql.now name.now owner.now) out.old) }
 {
     out.begin_object()?;
@@ -140,17 +146,17 @@ fn put_filter(out: &mut BodyText, jql: &str, name: &str, owner: &str) -> Result<
 }
 
 /// The body of a board.
-#[tactic(auto, using(crate::proofs::Texts::whole))]
+#[tactic(auto, using(field_forms::proofs::JsonTexts::whole))]
 pub fn board_text(alloc: Global, filter: FilterNo, name: &str) -> Result<Text, Memory>
     ensures { IfOk result (λ text. text ≡ compact_text (board_data filter.0 name.now)) }
 {
-    let mut out = BodyText::new(alloc)?;
+    let mut out = JsonText::with_room(alloc, ROOM)?;
     put_board(&mut out, filter, name)?;
     Ok(out.into_text())
 }
 
 #[tactic(auto, unfolding(crate::specs::Bodies::board_data))]
-fn put_board(out: &mut BodyText, filter: FilterNo, name: &str) -> Result<(), Memory>
+fn put_board(out: &mut JsonText, filter: FilterNo, name: &str) -> Result<(), Memory>
     ensures { OnOk result (out.new ≡ after (board_data filter.0 name.now) out.old) }
 {
     out.begin_object()?;

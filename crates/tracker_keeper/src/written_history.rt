@@ -4,33 +4,36 @@ ghost use Rattle.std.specs.List.{All};
 ghost use Rattle.serde_json.specs.Data.{array};
 ghost use Rattle.serde_json.specs.View.{items_of};
 ghost use Rattle.serde_json.specs.Written.{compact_text};
+ghost use Rattle.field_forms.specs.JsonData.{texts_data};
+ghost use Rattle.field_forms.specs.JsonTokens.{after};
 ghost use Rattle.fields.specs.SetupParts.{names};
 ghost use Rattle.tracker_keeper.specs.Forms.{IsGroupEntry, may_hold};
-ghost use Rattle.tracker_keeper.specs.Written.{after};
 ghost use Rattle.tracker_keeper.specs.Bodies.{entry_data, group_data, user_names, members_data};
-ghost use Rattle.tracker_keeper.specs.ValueData.{texts_data};
 
-use crate::body_text::{BodyText, ROOM};
 use crate::spelled::name_at;
+use crate::written::ROOM;
 use crate::written_values::{put_value, value_room};
 use change_history::{Entry, Group};
+use field_forms::json_text::JsonText;
 use field_values::{IssueNo, Memory, Text, UserNo};
 use fields::Setup;
 use std::alloc::Global;
 
 /// The body of a change group of an issue.
-#[tactic(auto, using(crate::proofs::Texts::whole))]
+#[tactic(auto, using(field_forms::proofs::JsonTexts::whole))]
 pub fn group_text(
     alloc: Global,
     setup: &Setup,
     issue: IssueNo,
     group: &Group,
 ) -> Result<Text, Memory>
-    requires { All (IsGroupEntry (names setup.now) group.now.change group.now.at group.now.author) group.now.entries }
+    requires { All (IsGroupEntry (names setup.now) group.now.change group.now.at group.now.author)
+        group.now.entries }
     ensures { IfOk result (λ text. text
-        ≡ compact_text (group_data (names setup.now) group.now.at group.now.author group.now.entries issue.0)) }
+        ≡ compact_text (group_data (names setup.now) group.now.at group.now.author
+        group.now.entries issue.0)) }
 {
-    let mut out = BodyText::with_room(alloc, entries_room(group.entries.as_slice()))?;
+    let mut out = JsonText::with_room(alloc, entries_room(group.entries.as_slice()))?;
     put_group(&mut out, setup, issue, group)?;
     Ok(out.into_text())
 }
@@ -47,10 +50,12 @@ fn entries_room(entries: &[Entry]) -> usize {
 }
 
 #[tactic(auto, unfolding(crate::specs::Bodies::group_data))]
-fn put_group(out: &mut BodyText, setup: &Setup, issue: IssueNo, group: &Group) -> Result<(), Memory>
-    requires { All (IsGroupEntry (names setup.now) group.now.change group.now.at group.now.author) group.now.entries }
+fn put_group(out: &mut JsonText, setup: &Setup, issue: IssueNo, group: &Group) -> Result<(), Memory>
+    requires { All (IsGroupEntry (names setup.now) group.now.change group.now.at group.now.author)
+        group.now.entries }
     ensures { OnOk result (out.new
-        ≡ after (group_data (names setup.now) group.now.at group.now.author group.now.entries issue.0) out.old) }
+        ≡ after (group_data (names setup.now) group.now.at group.now.author
+        group.now.entries issue.0) out.old) }
 {
     out.begin_object()?;
     out.number_member("at", group.at.seconds())?;
@@ -61,8 +66,9 @@ fn put_group(out: &mut BodyText, setup: &Setup, issue: IssueNo, group: &Group) -
     out.end_object()
 }
 
-fn put_entries(out: &mut BodyText, setup: &Setup, group: &Group) -> Result<(), Memory>
-    requires { All (IsGroupEntry (names setup.now) group.now.change group.now.at group.now.author) group.now.entries }
+fn put_entries(out: &mut JsonText, setup: &Setup, group: &Group) -> Result<(), Memory>
+    requires { All (IsGroupEntry (names setup.now) group.now.change group.now.at group.now.author)
+        group.now.entries }
     ensures { OnOk result (out.new
         ≡ after (array (items_of (map (entry_data (names setup.now)) group.now.entries))) out.old) }
 {
@@ -73,7 +79,7 @@ fn put_entries(out: &mut BodyText, setup: &Setup, group: &Group) -> Result<(), M
     out.end_array()
 }
 
-fn put_entry(out: &mut BodyText, setup: &Setup, entry: &Entry) -> Result<(), Memory>
+fn put_entry(out: &mut JsonText, setup: &Setup, entry: &Entry) -> Result<(), Memory>
     requires from { may_hold (names setup.now) entry.now.field.0 entry.now.from ≡ true }
     requires to { may_hold (names setup.now) entry.now.field.0 entry.now.to ≡ true }
     ensures { OnOk result (out.new ≡ after (entry_data (names setup.now) entry.now) out.old) }
@@ -86,18 +92,20 @@ fn put_entry(out: &mut BodyText, setup: &Setup, entry: &Entry) -> Result<(), Mem
 }
 
 /// The body of a group's members.
-#[tactic(auto, using(crate::proofs::Texts::whole))]
+#[tactic(auto, using(field_forms::proofs::JsonTexts::whole))]
 pub(crate) fn members_text(alloc: Global, setup: &Setup, members: &[UserNo]) -> Result<Text, Memory>
-    ensures { IfOk result (λ text. text ≡ compact_text (members_data (user_names setup.now.users members.now))) }
+    ensures { IfOk result (λ text. text
+        ≡ compact_text (members_data (user_names setup.now.users members.now))) }
 {
-    let mut out = BodyText::new(alloc)?;
+    let mut out = JsonText::with_room(alloc, ROOM)?;
     put_members(&mut out, setup, members)?;
     Ok(out.into_text())
 }
 
 #[tactic(auto, unfolding(crate::specs::Bodies::members_data))]
-fn put_members(out: &mut BodyText, setup: &Setup, members: &[UserNo]) -> Result<(), Memory>
-    ensures { OnOk result (out.new ≡ after (members_data (user_names setup.now.users members.now)) out.old) }
+fn put_members(out: &mut JsonText, setup: &Setup, members: &[UserNo]) -> Result<(), Memory>
+    ensures { OnOk result (out.new
+        ≡ after (members_data (user_names setup.now.users members.now)) out.old) }
 {
     out.begin_object()?;
     out.key("members")?;
@@ -105,8 +113,9 @@ fn put_members(out: &mut BodyText, setup: &Setup, members: &[UserNo]) -> Result<
     out.end_object()
 }
 
-fn put_names(out: &mut BodyText, users: &[Text], members: &[UserNo]) -> Result<(), Memory>
-    ensures { OnOk result (out.new ≡ after (texts_data (user_names users.now members.now)) out.old) }
+fn put_names(out: &mut JsonText, users: &[Text], members: &[UserNo]) -> Result<(), Memory>
+    ensures { OnOk result (out.new
+        ≡ after (texts_data (user_names users.now members.now)) out.old) }
 {
     out.begin_array()?;
     for member in members {

@@ -1,15 +1,16 @@
 // Values of fields as bodies tell them.
 ghost use Rattle.std.specs.Prelude.{◌≡◌, true, OnOk};
+ghost use Rattle.field_forms.specs.JsonData.{texts_data};
+ghost use Rattle.field_forms.specs.JsonTokens.{after};
 ghost use Rattle.field_forms.specs.Known.{choices_of};
 ghost use Rattle.field_forms.specs.ValueTexts.{chosen_names};
 ghost use Rattle.fields.specs.SetupParts.{names};
 ghost use Rattle.tracker_keeper.specs.Forms.{may_hold};
-ghost use Rattle.tracker_keeper.specs.ValueData.{texts_data, value_data};
-ghost use Rattle.tracker_keeper.specs.Written.{after};
+ghost use Rattle.tracker_keeper.specs.ValueData.{value_data};
 
-use crate::body_text::BodyText;
 use crate::spelled::{choice_at, choice_name};
-use field_values::{ChoiceNo, FieldNo, Memory, Text, Value};
+use field_forms::json_text::JsonText;
+use field_values::{ChoiceNo, FieldNo, Memory, Value};
 use fields::Setup;
 
 /// The bytes that most names, numbers and labels have at most.
@@ -18,13 +19,14 @@ const NAME_ROOM: usize = 64;
 /// Writes a value, or null where it is empty.
 #[tactic(auto, using(crate::proofs::Values::day_inside))]
 pub(crate) fn put_value(
-    out: &mut BodyText,
+    out: &mut JsonText,
     setup: &Setup,
     field: FieldNo,
     value: &Value,
 ) -> Result<(), Memory>
     requires { may_hold (names setup.now) field.0 value.now ≡ true }
-    ensures { OnOk result (out.new ≡ after (value_data (names setup.now) field.0 value.now) out.old) }
+    ensures { OnOk result (out.new
+        ≡ after (value_data (names setup.now) field.0 value.now) out.old) }
 {
     match value {
         Value::Empty => out.null(),
@@ -34,30 +36,20 @@ pub(crate) fn put_value(
         Value::User(user) => out.text(choice_name(setup, field, user.0)),
         Value::Date(day) => out.day_text(day.0),
         Value::Set(choices) => put_chosen(out, setup, field, choices.as_slice()),
-        Value::Labels(labels) => put_texts(out, labels.as_slice()),
+        Value::Labels(labels) => out.texts(labels.as_slice()),
         Value::Sprint(sprint) => out.number(u64::from(sprint.0)),
     }
 }
 
-// Writes texts as an array.
-fn put_texts(out: &mut BodyText, texts: &[Text]) -> Result<(), Memory>
-    ensures { OnOk result (out.new ≡ after (texts_data texts.now) out.old) }
-{
-    out.begin_array()?;
-    for text in texts {
-        out.text(text.as_str())?;
-    }
-    out.end_array()
-}
-
 // Writes the names of those choices that have one as an array.
 fn put_chosen(
-    out: &mut BodyText,
+    out: &mut JsonText,
     setup: &Setup,
     field: FieldNo,
     choices: &[ChoiceNo],
 ) -> Result<(), Memory>
-    ensures { OnOk result (out.new ≡ after (texts_data (chosen_names (choices_of (names setup.now) field.0) choices.now)) out.old) }
+    ensures { OnOk result (out.new ≡ after
+        (texts_data (chosen_names (choices_of (names setup.now) field.0) choices.now)) out.old) }
 {
     out.begin_array()?;
     for choice in choices {
