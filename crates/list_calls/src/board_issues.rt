@@ -14,8 +14,8 @@ use std::alloc::Global;
 use tracker_calls::{Answer, Column, Columns, Part, Refusal};
 use tracker_state::{Prepared, State, part_of};
 
-/// Tells a part of the issues of the board's filter which both the caller and the filter's owner may browse, in the order of ranks, with
-/// a column for each status.
+/// Tells a part of the issues of the board's filter which both the caller and the filter's owner may browse, in the order of
+/// ranks, with a column for each status.
 #[tactic(auto, unfolding(tracker_machine::specs::Boards::board_meaning))]
 pub fn board(
     alloc: Global,

@@ -1,9 +1,9 @@
 // Who may browse which issue.
-ghost use Rattle.std.specs.Prelude.{◌≡◌, false, slice_get, unwrap_or, IfOk, IfSome};
+ghost use Rattle.std.specs.Prelude.{◌≡◌, Some, slice_get, IfOk, IfSome};
 ghost use Rattle.field_values.specs.declared.rules.Permission.TheVariants.{Browse};
 ghost use Rattle.fields.specs.SetupParts.{parts, may};
 ghost use Rattle.workflow.specs.Conditions.{project_number};
-ghost use Rattle.list_calls.specs.Browsing.{browsable};
+ghost use Rattle.list_calls.specs.Browsing.{allows, browsable};
 
 use fields::{Memory, Permission, ProjectNo, Setup, UserNo};
 use std::alloc::Global;
@@ -12,7 +12,8 @@ use tracker_state::State;
 /// Whether the user may browse the issue at a place.
 pub fn may_browse(state: &State, user: UserNo, place: usize) -> bool
     ensures { IfSome (slice_get state.now.machine.histories place) (λ h.
-        result ≡ may state.now.machine.setup user.0 Browse (project_number state.now.machine.setup h)) }
+        result ≡ may state.now.machine.setup user.0 Browse
+        (project_number state.now.machine.setup h)) }
 {
     state.may(user, Permission::Browse, state.project_at(place))
 }
@@ -28,23 +29,19 @@ pub fn browsable(alloc: Global, setup: &Setup, user: UserNo) -> Result<Vec<bool>
     Ok(table)
 }
 
-/// Whether the user may browse the issue at a place, by the table of the projects that the user may browse.
-pub fn is_browsable(state: &State, user: UserNo, table: &[bool], place: usize) -> bool
-    requires { table.now ≡ browsable state.now.machine.setup user.0 }
+/// Whether the table of the projects that a user may browse has that of the issue at a place.
+pub fn is_browsable(state: &State, table: &[bool], place: usize) -> bool
     ensures { IfSome (slice_get state.now.machine.histories place) (λ h.
-        result ≡ may state.now.machine.setup user.0 Browse (project_number state.now.machine.setup h)) }
+        result ≡ allows table.now (project_number state.now.machine.setup h)) }
 {
-    // For the contract alone: the table has what is asked of the user.
-    let _ = user;
     match state.project_at(place) {
-        Some(project) => tells(table, project),
+        Some(project) => allows(table, project),
         None => false,
     }
 }
 
-// What the table tells of a project.
-fn tells(table: &[bool], project: ProjectNo) -> bool
-    ensures { result ≡ unwrap_or (slice_get table.now project.0) false }
+fn allows(table: &[bool], project: ProjectNo) -> bool
+    ensures { result ≡ allows table.now (Some project.0) }
 {
     match table.get(usize::from(project.0)) {
         Some(may) => *may,

@@ -1,11 +1,11 @@
 // The call `search`: the issues of which a query holds now.
-ghost use Rattle.std.specs.Prelude.{◌≡◌, ◌+◌, ◌≤◌, IfOk, Some, length, map, option_map, slice_get};
+ghost use Rattle.std.specs.Prelude.{◌≡◌, ◌+◌, ◌≤◌, IfOk, Some, filter, length, map, option_map, slice_get};
 ghost use Rattle.jql_bound.specs.Condition.{view};
 ghost use Rattle.jql_meaning.specs.Truth.{query_holds};
-ghost use Rattle.tracker_machine.specs.Search.{found, is_found, search_meaning, search_answer, surroundings_in};
+ghost use Rattle.tracker_machine.specs.Search.{found, search_meaning, search_answer, surroundings_in};
 ghost use Rattle.tracker_state.specs.Plan.{IsPrepared, cost_to_prepare};
 ghost use Rattle.tracker_state.specs.State.{query_of};
-ghost use Rattle.list_calls.specs.Browsing.{browsable};
+ghost use Rattle.list_calls.specs.Browsing.{is_found_by};
 
 use crate::browsing::{browsable, is_browsable};
 use crate::in_order::put_in_order;
@@ -30,8 +30,10 @@ pub fn search<L: Ledger>(
     part: Part,
     steps: &mut Steps<L>,
 ) -> Result<Prepared, Refusal>
-    ensures prepared { IsPrepared (search_meaning state.now.machine caller.0 jql.now part) state.now result }
-    ensures steps { steps.new ≤ steps.old + cost_to_prepare (search_meaning state.now.machine caller.0 jql.now part) state.now.machine }
+    ensures prepared { IsPrepared (search_meaning state.now.machine caller.0 jql.now part)
+        state.now result }
+    ensures steps { steps.new ≤ steps.old + cost_to_prepare
+        (search_meaning state.now.machine caller.0 jql.now part) state.now.machine }
 {
     let mut bound = asked(alloc, state.setup(), caller, jql)?;
     let answer = answered(alloc, state, caller, &mut bound, part, steps);
@@ -67,7 +69,8 @@ fn told<L: Ledger>(
     part: Part,
     steps: &mut Steps<L>,
 ) -> Result<Answer, Memory>
-    ensures answer { IfOk result (λ answer. answer ≡ search_answer state.now.machine caller.0 part (query_of bound.now)) }
+    ensures answer { IfOk result
+        (λ answer. answer ≡ search_answer state.now.machine caller.0 part (query_of bound.now)) }
     ensures steps { steps.new ≤ steps.old + length state.now.machine.histories }
 {
     let mut issues = found(alloc, state, caller, bound, steps)?;
@@ -77,8 +80,8 @@ fn told<L: Ledger>(
     Ok(Answer::Search { issues, total })
 }
 
-// The issues of which the query holds and which the caller may browse. Each is asked at most once; of each project it is asked once
-// whether the caller may browse it.
+// The issues of which the query holds and which the caller may browse. Each is asked at most once; of each project it is
+// asked once whether the caller may browse it.
 fn found<'s, L: Ledger>(
     alloc: Global,
     state: &'s State,
@@ -86,30 +89,30 @@ fn found<'s, L: Ledger>(
     bound: &Bound,
     steps: &mut Steps<L>,
 ) -> Result<Vec<&'s Issue>, Memory>
-    ensures found { IfOk result (λ issues. map (λ i. i.now.history) issues.items ≡ found state.now.machine caller.0 (option_map view bound.now.cond)) }
+    ensures found { IfOk result (λ issues. map (λ i. i.now.history) issues.items
+        ≡ found state.now.machine caller.0 (option_map view bound.now.cond)) }
     ensures steps { steps.new ≤ steps.old + length state.now.machine.histories }
 {
     let table = browsable(alloc, state.setup(), caller)?;
-    found_among(alloc, state, caller, &table, bound, steps)
+    found_among(alloc, state, &table, bound, steps)
 }
 
-// The same, by the table of the projects that the caller may browse.
-#[tactic(auto, unfolding(tracker_machine::specs::Search::found))]
+// The same, by a table of the projects that may be browsed.
 fn found_among<'s, L: Ledger>(
     alloc: Global,
     state: &'s State,
-    caller: UserNo,
     table: &[bool],
     bound: &Bound,
     steps: &mut Steps<L>,
 ) -> Result<Vec<&'s Issue>, Memory>
-    requires { table.now ≡ browsable state.now.machine.setup caller.0 }
-    ensures found { IfOk result (λ issues. map (λ i. i.now.history) issues.items ≡ found state.now.machine caller.0 (option_map view bound.now.cond)) }
+    ensures found { IfOk result (λ issues. map (λ i. i.now.history) issues.items
+        ≡ filter (is_found_by state.now.machine table.now (option_map view bound.now.cond))
+        state.now.machine.histories) }
     ensures steps { steps.new ≤ steps.old + length state.now.machine.histories }
 {
     let mut issues = Vec::new(alloc);
     for (place, issue) in state.issues().iter().enumerate() {
-        if is_found(state, caller, table, bound, place, issue, steps) {
+        if is_found(state, table, bound, place, issue, steps) {
             issues.push(issue)?;
         }
     }
@@ -118,19 +121,19 @@ fn found_among<'s, L: Ledger>(
 
 fn is_found<L: Ledger>(
     state: &State,
-    caller: UserNo,
     table: &[bool],
     bound: &Bound,
     place: usize,
     issue: &Issue,
     steps: &mut Steps<L>,
 ) -> bool
-    requires table { table.now ≡ browsable state.now.machine.setup caller.0 }
-    requires at { slice_get state.now.machine.histories place ≡ Some issue.now.history }
-    ensures found { result ≡ is_found state.now.machine caller.0 (option_map view bound.now.cond) issue.now.history }
+    requires { slice_get state.now.machine.histories place ≡ Some issue.now.history }
+    ensures found { result
+        ≡ is_found_by state.now.machine table.now (option_map view bound.now.cond)
+        issue.now.history }
     ensures steps { steps.new ≤ steps.old + 1 }
 {
-    if !is_browsable(state, caller, table, place) {
+    if !is_browsable(state, table, place) {
         return false;
     }
     holds_now(state, bound, issue, steps)

@@ -2,8 +2,7 @@
 ghost use Rattle.std.specs.Prelude.{◌≡◌, ◌≢◌, ◌≤◌, ◌+◌, [], true, false, IfOk, IfErr, OnOk, OnErr};
 ghost use Rattle.fields.specs.SetupParts.{parts};
 ghost use Rattle.request_lines.specs.Causes.{Rose};
-ghost use Rattle.tracker_keeper.specs.Causes.{HasKeepCause};
-ghost use Rattle.tracker_keeper.specs.Rows.{Rows, no_rows, with_ops};
+ghost use Rattle.tracker_keeper.specs.Rows.{Rows, no_rows};
 ghost use Rattle.tracker_machine.specs.Machine.{opening};
 ghost use Rattle.tracker_machine.specs.Effect.{IsAllowed};
 ghost use Rattle.tracker_machine.specs.Meaning.{Performs, HasEffect};
@@ -22,8 +21,8 @@ use tracker_calls::{Answer, Call, Refusal, Reply, UserName};
 use tracker_keeper::{KeepFault, Keeper, Row, RowOp};
 use tracker_state::{Plan, Prepared, State, opening_ops};
 
-/// What makes the calls, one at a time, and has kept what they leave. Contracts see it as the abstract tracker, the verdicts of its
-/// filters, and what keeps its rows.
+/// What makes the calls, one at a time, and has kept what they leave. Contracts see it as the abstract tracker, the verdicts
+/// of its filters, and what keeps its rows.
 #[derive(Drop)]
 pub struct Desk<P: Keeper> {
     alloc: Global,
@@ -36,7 +35,11 @@ impl<P: Keeper> Model for Desk<P> {
 
     ghost Value = { DeskParts P };
 
-    ghost view = { λ d. record { machine = d.state.machine; cells = d.state.watched.views.table; keeper = d.keeper } };
+    ghost view = { λ d. record {
+      machine = d.state.machine;
+      cells = d.state.watched.views.table;
+      keeper = d.keeper;
+    } };
 }
 
 /// Why no desk was made.
@@ -63,16 +66,20 @@ impl OpenFault {
 }
 
 impl<P: Keeper + Drop> Desk<P> {
-    /// The desk of a new tracker, whose opening rows are kept. A keeper that has a row already, or that fails, is handed back with
-    /// its rows as they were.
+    /// The desk of a new tracker, whose opening rows are kept. A keeper that has a row already, or that fails, is handed back
+    /// with its rows as they were.
     pub fn create(alloc: Global, keeper: P, setup: Setup) -> Result<Desk<P>, (OpenFault, P)>
         ensures state { IfOk result (λ desk. desk.machine ≡ opening setup.text (parts setup)) }
-        ensures rows { P.keeps keeper no_rows → IfOk result (λ desk. P.keeps desk.keeper (rows_of (opening setup.text (parts setup)))) }
-        ensures none { (rows : Rows) → P.keeps keeper rows → IfOk result (λ desk. P.tells desk.keeper → HasNoRow rows) }
+        ensures rows { P.keeps keeper no_rows →
+            IfOk result (λ desk. P.keeps desk.keeper (rows_of (opening setup.text (parts setup)))) }
+        ensures none { (rows : Rows) → P.keeps keeper rows →
+            IfOk result (λ desk. P.tells desk.keeper → HasNoRow rows) }
         ensures same { (rows : Rows) → P.keeps keeper rows → IfErr result (λ e. P.keeps e.1 rows) }
-        ensures held { (rows : Rows) → P.keeps keeper rows → IfErr result (λ e. e.0 ≡ OpenFault.Held → P.tells e.1 → HasRow rows) }
+        ensures held { (rows : Rows) → P.keeps keeper rows →
+            IfErr result (λ e. e.0 ≡ OpenFault.Held → P.tells e.1 → HasRow rows) }
         ensures fault { IfErr result (λ e. IsCreateFault e.0) }
-        ensures cause { IfErr result (λ e. e.0 ≡ OpenFault.Keeper → Rose (P.faults keeper) (P.faults e.1)) }
+        ensures cause { IfErr result
+            (λ e. e.0 ≡ OpenFault.Keeper → Rose (P.faults keeper) (P.faults e.1)) }
         ensures later_ok { IfOk result (λ desk. P.faults keeper ≤ P.faults desk.keeper) }
         ensures later_err { IfErr result (λ e. P.faults keeper ≤ P.faults e.1) }
     {
@@ -106,11 +113,14 @@ impl<P: Keeper + Drop> Desk<P> {
     #[tactic(auto, unfolding(tracker_machine::specs::Step::IsStep, tracker_machine::specs::Step::evaluations), using(crate::proofs::Steps::told_step, crate::proofs::Steps::refused_step))]
     pub fn call<L: Ledger>(&mut self, caller: &UserName, call: &Call, steps: &mut Steps<L>) -> Reply
         ensures step { IsStep self.old.machine caller.now call.now result self.new.machine }
-        ensures rows { P.keeps self.old.keeper (rows_of self.old.machine) → P.keeps self.new.keeper (rows_of self.new.machine) }
+        ensures rows { P.keeps self.old.keeper (rows_of self.old.machine) →
+            P.keeps self.new.keeper (rows_of self.new.machine) }
         ensures told { P.tells self.new.keeper → P.tells self.old.keeper }
         ensures cause { IsOwed result (P.faults self.old.keeper) (P.faults self.new.keeper) }
-        ensures unasked { ¬ (HasEffect (meaning self.old.machine caller.now call.now)) → self.new.keeper ≡ self.old.keeper }
-        ensures steps { steps.new ≤ steps.old + evaluations (due_in self.old.cells) self.old.machine caller.now call.now }
+        ensures unasked { ¬ (HasEffect (meaning self.old.machine caller.now call.now)) →
+            self.new.keeper ≡ self.old.keeper }
+        ensures steps { steps.new
+            ≤ steps.old + evaluations (due_in self.old.cells) self.old.machine caller.now call.now }
     {
         self.state.have_seen();
         match prepare(self.alloc, &mut self.state, caller, call, steps) {
@@ -151,12 +161,15 @@ impl<P: Keeper + Drop> Desk<P> {
 
 // The keeper has no row.
 fn look<P: Keeper>(keeper: &mut P) -> Result<(), OpenFault>
-    ensures none { (rows : Rows) → P.keeps keeper.old rows → OnOk result (P.tells keeper.new → HasNoRow rows) }
-    ensures held { (rows : Rows) → P.keeps keeper.old rows → result ≡ Err OpenFault.Held → P.tells keeper.new → HasRow rows }
+    ensures none { (rows : Rows) → P.keeps keeper.old rows →
+        OnOk result (P.tells keeper.new → HasNoRow rows) }
+    ensures held { (rows : Rows) → P.keeps keeper.old rows →
+        result ≡ Err OpenFault.Held → P.tells keeper.new → HasRow rows }
     ensures told { P.tells keeper.new → P.tells keeper.old }
     ensures same { (rows : Rows) → P.keeps keeper.old rows → P.keeps keeper.new rows }
     ensures fault { IfErr result IsCreateFault }
-    ensures cause { result ≡ Err OpenFault.Keeper → Rose (P.faults keeper.old) (P.faults keeper.new) }
+    ensures cause { result ≡ Err OpenFault.Keeper →
+        Rose (P.faults keeper.old) (P.faults keeper.new) }
     ensures later { P.faults keeper.old ≤ P.faults keeper.new }
 {
     match keeper.rows() {
@@ -185,11 +198,14 @@ pub(crate) fn begun<P: Keeper>(
     setup: Setup,
 ) -> Result<State, OpenFault>
     ensures state { IfOk result (λ state. state.machine ≡ opening setup.text (parts setup)) }
-    ensures rows { P.keeps keeper.old no_rows → OnOk result (P.keeps keeper.new (rows_of (opening setup.text (parts setup)))) }
+    ensures rows { P.keeps keeper.old no_rows →
+        OnOk result (P.keeps keeper.new (rows_of (opening setup.text (parts setup)))) }
     ensures told { P.tells keeper.new → P.tells keeper.old }
-    ensures same { (rows : Rows) → P.keeps keeper.old rows → OnErr result (P.keeps keeper.new rows) }
+    ensures same { (rows : Rows) → P.keeps keeper.old rows →
+        OnErr result (P.keeps keeper.new rows) }
     ensures own { IfErr result IsKeepersOwn }
-    ensures cause { result ≡ Err OpenFault.Keeper → Rose (P.faults keeper.old) (P.faults keeper.new) }
+    ensures cause { result ≡ Err OpenFault.Keeper →
+        Rose (P.faults keeper.old) (P.faults keeper.new) }
     ensures later { P.faults keeper.old ≤ P.faults keeper.new }
 {
     let Ok(ops) = opening_ops(alloc, &setup) else {
@@ -217,8 +233,10 @@ fn make<P: Keeper, L: Ledger>(
     requires fits { Fits state.old plan }
     requires allowed { IsAllowed (effect_of plan) state.old.machine }
     requires keeps { rows.now ≡ ops_of (effect_of plan) state.old.machine }
-    ensures step { Performs (Makes answer (effect_of plan)) state.old.machine result state.new.machine }
-    ensures rows { P.keeps keeper.old (rows_of state.old.machine) → P.keeps keeper.new (rows_of state.new.machine) }
+    ensures step { Performs (Makes answer (effect_of plan))
+        state.old.machine result state.new.machine }
+    ensures rows { P.keeps keeper.old (rows_of state.old.machine) →
+        P.keeps keeper.new (rows_of state.new.machine) }
     ensures told { P.tells keeper.new → P.tells keeper.old }
     ensures cause { IsOwed result (P.faults keeper.old) (P.faults keeper.new) }
     ensures steps { steps.new ≤ steps.old + cost_of plan state.old }

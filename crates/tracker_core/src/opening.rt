@@ -1,6 +1,5 @@
 // How a desk begins that opens what is kept.
 ghost use Rattle.std.specs.Prelude.{◌≡◌, ◌≤◌, IfOk, IfErr, OnOk, OnErr, MatchOption, IsTrue, ◌↔◌};
-ghost use Rattle.fields.specs.SetupParts.{parts};
 ghost use Rattle.request_lines.specs.Causes.{Rose};
 ghost use Rattle.tracker_keeper.specs.Rows.{Rows, no_rows, with_ops, IsBelow, IsListing};
 ghost use Rattle.tracker_machine.specs.Kept.{rows_of, migrating_ops};
@@ -16,9 +15,9 @@ use tracker_loading::{LoadFault, Loaded, load};
 use tracker_state::{State, migrating_ops};
 
 impl<P: Keeper + Drop> Desk<P> {
-    /// The desk of the tracker whose rows the keeper has; where it has none, that of a new tracker, whose opening rows are kept then.
-    /// Rows of the first format become those of the second, all at once. A keeper that fails, or among whose rows is a bad one, is
-    /// handed back with its rows as they were.
+    /// The desk of the tracker whose rows the keeper has; where it has none, that of a new tracker, whose opening rows are
+    /// kept then. Rows of the first format become those of the second, all at once. A keeper that fails, or among whose rows
+    /// is a bad one, is handed back with its rows as they were.
     pub fn open(alloc: Global, keeper: P) -> Result<Desk<P>, (OpenFault, P)>
         ensures opened { (rows : Rows) → P.keeps keeper rows → IfOk result (λ desk.
             P.tells desk.keeper → IsOpened BUILT_IN.now rows desk.machine) }
@@ -26,7 +25,8 @@ impl<P: Keeper + Drop> Desk<P> {
             P.tells desk.keeper → P.keeps desk.keeper (rows_of desk.machine)) }
         ensures same { (rows : Rows) → P.keeps keeper rows → IfErr result (λ e. P.keeps e.1 rows) }
         ensures fault { IfErr result (λ e. IsOpenFault (HasBadRow P.keeps P.tells keeper e.1) e.0) }
-        ensures cause { IfErr result (λ e. e.0 ≡ OpenFault.Keeper → Rose (P.faults keeper) (P.faults e.1)) }
+        ensures cause { IfErr result
+            (λ e. e.0 ≡ OpenFault.Keeper → Rose (P.faults keeper) (P.faults e.1)) }
         ensures later_ok { IfOk result (λ desk. P.faults keeper ≤ P.faults desk.keeper) }
         ensures later_err { IfErr result (λ e. P.faults keeper ≤ P.faults e.1) }
     {
@@ -45,9 +45,11 @@ fn opened<P: Keeper>(alloc: Global, keeper: &mut P) -> Result<State, OpenFault>
         P.tells keeper.new → IsOpened BUILT_IN.now rows state.machine) }
     ensures rows { (rows : Rows) → P.keeps keeper.old rows → IfOk result (λ state.
         P.tells keeper.new → P.keeps keeper.new (rows_of state.machine)) }
-    ensures same { (rows : Rows) → P.keeps keeper.old rows → OnErr result (P.keeps keeper.new rows) }
+    ensures same { (rows : Rows) → P.keeps keeper.old rows →
+        OnErr result (P.keeps keeper.new rows) }
     ensures fault { IfErr result (IsOpenFault (HasBadRow P.keeps P.tells keeper.old keeper.new)) }
-    ensures cause { result ≡ Err OpenFault.Keeper → Rose (P.faults keeper.old) (P.faults keeper.new) }
+    ensures cause { result ≡ Err OpenFault.Keeper →
+        Rose (P.faults keeper.old) (P.faults keeper.new) }
     ensures later { P.faults keeper.old ≤ P.faults keeper.new }
 {
     match keeper.rows() {
@@ -65,11 +67,14 @@ fn opened<P: Keeper>(alloc: Global, keeper: &mut P) -> Result<State, OpenFault>
 // The state of a new tracker, whose opening rows are kept.
 fn new_tracker<P: Keeper>(alloc: Global, keeper: &mut P) -> Result<State, OpenFault>
     ensures state { IfOk result (λ state. IsNew BUILT_IN.now state.machine) }
-    ensures rows { P.keeps keeper.old no_rows → IfOk result (λ state. P.keeps keeper.new (rows_of state.machine)) }
+    ensures rows { P.keeps keeper.old no_rows →
+        IfOk result (λ state. P.keeps keeper.new (rows_of state.machine)) }
     ensures told { P.tells keeper.new → P.tells keeper.old }
-    ensures same { (rows : Rows) → P.keeps keeper.old rows → OnErr result (P.keeps keeper.new rows) }
+    ensures same { (rows : Rows) → P.keeps keeper.old rows →
+        OnErr result (P.keeps keeper.new rows) }
     ensures own { IfErr result IsKeepersOwn }
-    ensures cause { result ≡ Err OpenFault.Keeper → Rose (P.faults keeper.old) (P.faults keeper.new) }
+    ensures cause { result ≡ Err OpenFault.Keeper →
+        Rose (P.faults keeper.old) (P.faults keeper.new) }
     ensures later { P.faults keeper.old ≤ P.faults keeper.new }
 {
     match Setup::built_in(alloc) {
@@ -81,12 +86,15 @@ fn new_tracker<P: Keeper>(alloc: Global, keeper: &mut P) -> Result<State, OpenFa
 // The state of the tracker whose rows these are, which are of the second format from then on.
 fn resumed<P: Keeper>(alloc: Global, keeper: &mut P, rows: &[Row]) -> Result<State, OpenFault>
     ensures loads { InOrder rows.now → IfOk result (λ state. IsMadeOf rows.now state.machine) }
-    ensures rows { (kept : Rows) → P.keeps keeper.old kept → IsListing kept rows.now → IfOk result (λ state.
-        P.keeps keeper.new (rows_of state.machine)) }
+    ensures rows { (kept : Rows) → P.keeps keeper.old kept → IsListing kept rows.now →
+        IfOk result (λ state. P.keeps keeper.new (rows_of state.machine)) }
     ensures told { P.tells keeper.new → P.tells keeper.old }
-    ensures same { (kept : Rows) → P.keeps keeper.old kept → OnErr result (P.keeps keeper.new kept) }
-    ensures fault { IfErr result (IsOpenFault (λ kind number. InOrder rows.now → IsFirstBad rows.now kind number)) }
-    ensures cause { result ≡ Err OpenFault.Keeper → Rose (P.faults keeper.old) (P.faults keeper.new) }
+    ensures same { (kept : Rows) → P.keeps keeper.old kept →
+        OnErr result (P.keeps keeper.new kept) }
+    ensures fault { IfErr result
+        (IsOpenFault (λ kind number. InOrder rows.now → IsFirstBad rows.now kind number)) }
+    ensures cause { result ≡ Err OpenFault.Keeper →
+        Rose (P.faults keeper.old) (P.faults keeper.new) }
     ensures later { P.faults keeper.old ≤ P.faults keeper.new }
 {
     let Loaded { format, state } = loaded(alloc, rows)?;
@@ -99,11 +107,14 @@ fn resumed<P: Keeper>(alloc: Global, keeper: &mut P, rows: &[Row]) -> Result<Sta
 // Has the rows of a tracker that were of the first format kept in the second one, in one commit.
 fn migrated<P: Keeper>(alloc: Global, keeper: &mut P, state: State) -> Result<State, OpenFault>
     ensures state { IfOk result (λ new. new.machine ≡ state.machine) }
-    ensures rows { (kept : Rows) → P.keeps keeper.old kept → OnOk result (P.keeps keeper.new (with_ops (migrating_ops state.machine) kept)) }
+    ensures rows { (kept : Rows) → P.keeps keeper.old kept →
+        OnOk result (P.keeps keeper.new (with_ops (migrating_ops state.machine) kept)) }
     ensures told { P.tells keeper.new → P.tells keeper.old }
-    ensures same { (kept : Rows) → P.keeps keeper.old kept → OnErr result (P.keeps keeper.new kept) }
+    ensures same { (kept : Rows) → P.keeps keeper.old kept →
+        OnErr result (P.keeps keeper.new kept) }
     ensures own { IfErr result IsKeepersOwn }
-    ensures cause { result ≡ Err OpenFault.Keeper → Rose (P.faults keeper.old) (P.faults keeper.new) }
+    ensures cause { result ≡ Err OpenFault.Keeper →
+        Rose (P.faults keeper.old) (P.faults keeper.new) }
     ensures later { P.faults keeper.old ≤ P.faults keeper.new }
 {
     state.is_tracker();
@@ -118,8 +129,10 @@ fn migrated<P: Keeper>(alloc: Global, keeper: &mut P, state: State) -> Result<St
 
 // What these rows make, which a keeper tells in order.
 fn loaded(alloc: Global, rows: &[Row]) -> Result<Loaded, OpenFault>
-    ensures loads { InOrder rows.now → IfOk result (λ loaded. Loads loaded.format rows.now loaded.state.machine) }
-    ensures fault { IfErr result (IsOpenFault (λ kind number. InOrder rows.now → IsFirstBad rows.now kind number)) }
+    ensures loads { InOrder rows.now →
+        IfOk result (λ loaded. Loads loaded.format rows.now loaded.state.machine) }
+    ensures fault { IfErr result
+        (IsOpenFault (λ kind number. InOrder rows.now → IsFirstBad rows.now kind number)) }
     ensures cause { result ≡ Err OpenFault.Keeper → ⊥ }
 {
     if let Some(row) = first_behind(rows) {

@@ -49,7 +49,8 @@ pub fn prepare<L: Ledger>(
     ensures prepared { IsPrepared (meaning state.old.machine caller.now call.now) state.new result }
     ensures table { state.new.watched.views.table ≡ state.old.watched.views.table }
     ensures filters { state.new.watched.filters ≡ state.old.watched.filters }
-    ensures steps { steps.new ≤ steps.old + cost_to_prepare (meaning state.old.machine caller.now call.now) state.old.machine }
+    ensures steps { steps.new ≤ steps.old + cost_to_prepare
+        (meaning state.old.machine caller.now call.now) state.old.machine }
 {
     match fault_of_form(alloc, call) {
         Ok(None) => {}
@@ -77,7 +78,8 @@ fn prepare_for<L: Ledger>(
     ensures prepared { IsPrepared (meaning_for state.old.machine user.0 call.now) state.new result }
     ensures table { state.new.watched.views.table ≡ state.old.watched.views.table }
     ensures filters { state.new.watched.filters ≡ state.old.watched.filters }
-    ensures steps { steps.new ≤ steps.old + cost_to_prepare (meaning_for state.old.machine user.0 call.now) state.old.machine }
+    ensures steps { steps.new ≤ steps.old + cost_to_prepare
+        (meaning_for state.old.machine user.0 call.now) state.old.machine }
 {
     match call {
         Call::Create {
@@ -158,7 +160,8 @@ fn part_fault(part: Part, most: u32) -> Option<&'static str>
 
 // Two names in `set` that differ in case alone, which no line gives.
 fn twins_fault(alloc: Global, set: &[GivenField]) -> Result<Option<&'static str>, Memory>
-    ensures { IfOk result (λ fault. option_map (λ name. Refusal.Form name.now) fault ≡ twins_refusal set.now) }
+    ensures { IfOk result
+        (λ fault. option_map (λ name. Refusal.Form name.now) fault ≡ twins_refusal set.now) }
 {
     if has_twins(alloc, set)? {
         return Ok(Some("set"));
@@ -213,7 +216,8 @@ fn few_fault(members: &[Text]) -> Option<&'static str>
 
 // An issue that is to go beside itself, which no line asks for.
 fn other_fault(issue: &str, other: &str) -> Option<&'static str>
-    ensures { option_map (λ name. Refusal.Form name.now) result ≡ other_refusal issue.now other.now }
+    ensures { option_map (λ name. Refusal.Form name.now) result
+        ≡ other_refusal issue.now other.now }
 {
     if other == issue {
         return Some("other");
@@ -244,7 +248,8 @@ fn title_fault(name: &str) -> Option<&'static str>
 // The first member of the call that isn't of its form.
 #[tactic(auto, unfolding(tracker_machine::specs::Step::form_refusal))]
 fn fault_of_form(alloc: Global, call: &Call) -> Result<Option<&'static str>, Memory>
-    ensures { IfOk result (λ fault. option_map (λ name. Refusal.Form name.now) fault ≡ form_refusal call.now) }
+    ensures { IfOk result
+        (λ fault. option_map (λ name. Refusal.Form name.now) fault ≡ form_refusal call.now) }
 {
     match call {
         Call::Create { set, external, .. } => create_fault(alloc, set.as_slice(), external),

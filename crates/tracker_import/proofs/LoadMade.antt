@@ -16,7 +16,7 @@ use Rattle.tracker_core.specs.Desk.{DeskParts, IsOwed}
 use Rattle.tracker_import.specs.Calls.{RoseBy, HasKept}
 use Rattle.tracker_import.specs.Load.{loader, end_of, is_refused, refused_at, refused_in, load_calls, loaded, load_summary, summary_of, outcome_of, HasMade, HasMadeFront, HasMadeLoad, IsMadeInLoad, IsLeftInLoad, MakesInLoad}
 use Rattle.tracker_import.specs.declared.load.LoadSummary.{LoadSummary}
-use Rattle.tracker_import.specs.declared.load.Tally.{Tally}
+use Rattle.tracker_import.specs.declared.load.CallCounts.{CallCounts}
 use Rattle.tracker_import.proofs.Calls.{kept_same, kept_on}
 
 -- ---- one call more
@@ -89,10 +89,10 @@ module _ {P : Type 0} (keeps : P → Rows → Type 0) (tells : P → Type 0) (fa
   -- ---- the loop
 
   -- the calls that were handed out were made, and the others are left
-  pub record HasComeTo (old : DeskParts P) (all left : List Call) (tally : Tally) (now : DeskParts P) : Type 0 where
+  pub record HasComeTo (old : DeskParts P) (all left : List Call) (counts : CallCounts) (now : DeskParts P) : Type 0 where
     pub done : List Call
     pub all_is : all ≡ done ++ left
-    pub made : HasMade keeps tells faults old done tally now
+    pub made : HasMade keeps tells faults old done counts now
 
   pub none_made : (desk : DeskParts P) (all : List Call) → HasComeTo desk all all (record { calls = 0; refused = 0 }) desk
   none_made desk all = record {
@@ -101,10 +101,10 @@ module _ {P : Type 0} (keeps : P → Rows → Type 0) (tells : P → Type 0) (fa
     made = record { calls_are = refl; refused_are = refl; machine_is = refl; kept = kept_same keeps tells faults desk };
   }
 
-  pub one_more_made : (old middle new : DeskParts P) (all left rest : List Call) (tally later : Tally) (c : Call) (refused : Bool)
-      → HasComeTo old all left tally middle → left ≡ c ∷ rest → IsMadeInLoad keeps tells faults middle c refused new
-      → later.calls ≡ tally.calls + 1 → later.refused ≡ tally.refused + (if refused then 1 else 0) → HasComeTo old all rest later new
-  one_more_made old middle new all left rest tally later c refused so_far is one calls_are refused_are =
+  pub one_more_made : (old middle new : DeskParts P) (all left rest : List Call) (counts later : CallCounts) (c : Call) (refused : Bool)
+      → HasComeTo old all left counts middle → left ≡ c ∷ rest → IsMadeInLoad keeps tells faults middle c refused new
+      → later.calls ≡ counts.calls + 1 → later.refused ≡ counts.refused + (if refused then 1 else 0) → HasComeTo old all rest later new
+  one_more_made old middle new all left rest counts later c refused so_far is one calls_are refused_are =
       let made = so_far.made in
       let done = so_far.done in
       let reached : middle.machine ≡ end_of old.machine done = made.machine_is in
@@ -121,14 +121,14 @@ module _ {P : Type 0} (keeps : P → Rows → Type 0) (tells : P → Type 0) (fa
         };
       }
 
-  -- a call more finds room in the tally
-  pub room_for_one : (old now : DeskParts P) (all left rest : List Call) (tally : Tally) (c : Call) → HasComeTo old all left tally now → left ≡ c ∷ rest → length all ≤ 1_000_000
-      → tally.calls < 1_000_000
-  room_for_one old now all left rest tally c so_far is few =
+  -- a call more finds room in the counts
+  pub room_for_one : (old now : DeskParts P) (all left rest : List Call) (counts : CallCounts) (c : Call) → HasComeTo old all left counts now → left ≡ c ∷ rest → length all ≤ 1_000_000
+      → counts.calls < 1_000_000
+  room_for_one old now all left rest counts c so_far is few =
       omega (arith, few, so_far.made.calls_are, ap length so_far.all_is, length-append so_far.done left, ap length is)
 
-  pub front_made : (old now : DeskParts P) (all left : List Call) (tally : Tally) → HasComeTo old all left tally now → HasMadeFront keeps tells faults all old now 0
-  front_made old now all left tally so_far = record {
+  pub front_made : (old now : DeskParts P) (all left : List Call) (counts : CallCounts) → HasComeTo old all left counts now → HasMadeFront keeps tells faults all old now 0
+  front_made old now all left counts so_far = record {
     done = so_far.done;
     rest = left;
     calls_are = so_far.all_is;
@@ -137,9 +137,9 @@ module _ {P : Type 0} (keeps : P → Rows → Type 0) (tells : P → Type 0) (fa
   }
 
   -- a call that wasn't made ends it
-  pub front_left : (old middle new : DeskParts P) (all left : List Call) (tally : Tally) (n : ℕ) → HasComeTo old all left tally middle → IsLeftInLoad keeps tells faults middle new n
+  pub front_left : (old middle new : DeskParts P) (all left : List Call) (counts : CallCounts) (n : ℕ) → HasComeTo old all left counts middle → IsLeftInLoad keeps tells faults middle new n
       → HasMadeFront keeps tells faults all old new n
-  front_left old middle new all left tally n so_far one = record {
+  front_left old middle new all left counts n so_far one = record {
     done = so_far.done;
     rest = left;
     calls_are = so_far.all_is;
@@ -147,28 +147,28 @@ module _ {P : Type 0} (keeps : P → Rows → Type 0) (tells : P → Type 0) (fa
     kept = subst (HasKept keeps tells faults old new) (none_before n) (kept_on keeps tells faults old middle new 0 n so_far.made.kept one.kept);
   }
 
-  pub all_made : (old now : DeskParts P) (all left : List Call) (tally : Tally) → HasComeTo old all left tally now → left ≡ [] → HasMade keeps tells faults old all tally now
-  all_made old now all left tally so_far over =
-      subst (λ l. HasMade keeps tells faults old l tally now) (sym (so_far.all_is ∙ ap (λ l. so_far.done ++ l) over ∙ append-nil so_far.done)) so_far.made
+  pub all_made : (old now : DeskParts P) (all left : List Call) (counts : CallCounts) → HasComeTo old all left counts now → left ≡ [] → HasMade keeps tells faults old all counts now
+  all_made old now all left counts so_far over =
+      subst (λ l. HasMade keeps tells faults old l counts now) (sym (so_far.all_is ∙ ap (λ l. so_far.done ++ l) over ∙ append-nil so_far.done)) so_far.made
 
   -- ---- the whole
 
-  pub load_made : (n : ℕ) (old new : DeskParts P) (calls : List Call) (tally : Tally) (summary : LoadSummary) (m : Machine) → calls ≡ load_calls n
-      → HasMade keeps tells faults old calls tally new → m ≡ new.machine → summary ≡ summary_of tally.calls tally.refused m → HasMadeLoad keeps tells faults n old summary new
+  pub load_made : (n : ℕ) (old new : DeskParts P) (calls : List Call) (counts : CallCounts) (summary : LoadSummary) (m : Machine) → calls ≡ load_calls n
+      → HasMade keeps tells faults old calls counts new → m ≡ new.machine → summary ≡ summary_of counts.calls counts.refused m → HasMadeLoad keeps tells faults n old summary new
   unfolding loaded load_summary
-  load_made n old new calls tally summary m are made same told =
-      let all = subst (λ l. HasMade keeps tells faults old l tally new) are made in
+  load_made n old new calls counts summary m are made same told =
+      let all = subst (λ l. HasMade keeps tells faults old l counts new) are made in
       record {
-        summary_is = told ∙ ap (λ k. summary_of k tally.refused m) all.calls_are ∙ ap (λ k. summary_of (length (load_calls n)) k m) all.refused_are
+        summary_is = told ∙ ap (λ k. summary_of k counts.refused m) all.calls_are ∙ ap (λ k. summary_of (length (load_calls n)) k m) all.refused_are
             ∙ ap (λ m. summary_of (length (load_calls n)) (refused_in old.machine (load_calls n)) m) (same ∙ all.machine_is);
         machine_is = all.machine_is;
         kept = all.kept;
       }
 
   -- all calls were made, and memory lacked for the summary
-  pub made_unsummed : (n : ℕ) (old new : DeskParts P) (calls : List Call) (tally : Tally) → calls ≡ load_calls n → HasMade keeps tells faults old calls tally new
+  pub made_unsummed : (n : ℕ) (old new : DeskParts P) (calls : List Call) (counts : CallCounts) → calls ≡ load_calls n → HasMade keeps tells faults old calls counts new
       → HasMadeFront keeps tells faults (load_calls n) old new 0
-  made_unsummed n old new calls tally are made = record {
+  made_unsummed n old new calls counts are made = record {
     done = calls;
     rest = [];
     calls_are = sym are ∙ sym (append-nil calls);

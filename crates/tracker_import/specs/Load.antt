@@ -26,7 +26,7 @@ use Rattle.tracker_import.specs.declared.load.LoadEnd.TheVariants as end
 use Rattle.tracker_import.specs.declared.load.LoadFault.{LoadFault}
 use Rattle.tracker_import.specs.declared.load.LoadFault.TheVariants as fault
 use Rattle.tracker_import.specs.declared.load.LoadSummary.{LoadSummary}
-use Rattle.tracker_import.specs.declared.load.Tally.{Tally}
+use Rattle.tracker_import.specs.declared.load.CallCounts.{CallCounts}
 
 -- ---- numbers
 
@@ -161,9 +161,9 @@ load_summary n m = summary_of (length (load_calls n)) (refused_in m (load_calls 
 -- ---- how it ends
 
 -- the calls were made, and so many of them were refused
-pub record HasMade {P : Type 0} (keeps : P → Rows → Type 0) (tells : P → Type 0) (faults : P → ℕ) (old : DeskParts P) (calls : List Call) (tally : Tally) (new : DeskParts P) : Type 0 where
-  pub calls_are : tally.calls ≡ length calls
-  pub refused_are : tally.refused ≡ refused_in old.machine calls
+pub record HasMade {P : Type 0} (keeps : P → Rows → Type 0) (tells : P → Type 0) (faults : P → ℕ) (old : DeskParts P) (calls : List Call) (counts : CallCounts) (new : DeskParts P) : Type 0 where
+  pub calls_are : counts.calls ≡ length calls
+  pub refused_are : counts.refused ≡ refused_in old.machine calls
   pub machine_is : new.machine ≡ end_of old.machine calls
   pub kept : HasKept keeps tells faults old new 0
 
@@ -212,7 +212,7 @@ outcome_of (reply.Refused refusal.Memory) = Err fault.Memory
 outcome_of (reply.Refused r) = Ok true
 
 -- all of these calls were made, or only the first of them
-abbrev pub MakesEach : {P : Type 0} → (P → Rows → Type 0) → (P → Type 0) → (P → ℕ) → DeskParts P → List Call → Result Tally LoadFault → DeskParts P → Type 0
-MakesEach keeps tells faults old calls (Ok tally) new = HasMade keeps tells faults old calls tally new
+abbrev pub MakesEach : {P : Type 0} → (P → Rows → Type 0) → (P → Type 0) → (P → ℕ) → DeskParts P → List Call → Result CallCounts LoadFault → DeskParts P → Type 0
+MakesEach keeps tells faults old calls (Ok counts) new = HasMade keeps tells faults old calls counts new
 MakesEach keeps tells faults old calls (Err fault.Keeper) new = HasMadeFront keeps tells faults calls old new 1
 MakesEach keeps tells faults old calls (Err fault.Memory) new = HasMadeFront keeps tells faults calls old new 0

@@ -1,5 +1,5 @@
 // All issues as CSV.
-ghost use Rattle.std.specs.Prelude.{◌≡◌, ◌≤◌, ◌<◌, ◌+◌, ◌++◌, ℕ, length, slice_get, option_map, IfSome, OnOk, OnErr};
+ghost use Rattle.std.specs.Prelude.{◌≡◌, ◌≤◌, ◌<◌, ◌+◌, ◌++◌, ℕ, slice_get, option_map, IfSome, OnOk, OnErr};
 ghost use Rattle.rising_numbers.specs.ByNumber.{RiseFrom};
 ghost use Rattle.external_ids.specs.Ids.{external_number};
 ghost use Rattle.fields.specs.SetupParts.{names_in};

@@ -1,7 +1,7 @@
 // Issues of a CSV, created one after another.
 ghost use Rattle.std.specs.Prelude.{◌≡◌, ◌≤◌, Some};
 ghost use Rattle.request_lines.specs.Causes.{Rose};
-ghost use Rattle.issue_csv.specs.Reading.{Batch, batch_in};
+ghost use Rattle.issue_csv.specs.Reading.{Batch};
 ghost use Rattle.tracker_import.specs.Import.{EndsBatch, EndsImport, AnswersCall, IsHaltCause, IsMadeCall};
 
 use crate::halt::Halt;

@@ -49,7 +49,7 @@ pub enum LoadFault {
 
 /// The calls that were made, counted.
 #[derive(Clone, Copy)]
-pub struct Tally {
+pub struct CallCounts {
     pub calls: u64,
     pub refused: u64,
 }
@@ -70,7 +70,7 @@ pub fn make_load<L: Ledger, P: Keeper + Drop>(
     };
     let mut calls = LoadCalls::new(alloc, number);
     match make_each(&mut calls, &caller, desk, steps) {
-        Ok(tally) => match summary_of(alloc, tally, desk.state()) {
+        Ok(counts) => match summary_of(alloc, counts, desk.state()) {
             Ok(summary) => LoadEnd::Done(summary),
             Err(Memory) => LoadEnd::Memory,
         },
@@ -85,12 +85,12 @@ fn make_each<L: Ledger, P: Keeper + Drop>(
     caller: &UserName,
     desk: &mut Desk<P>,
     steps: &mut Steps<L>,
-) -> Result<Tally, LoadFault>
+) -> Result<CallCounts, LoadFault>
     requires caller { caller.now ≡ loader }
     requires few { length calls.old ≤ 1_000_000 }
     ensures { MakesEach P.keeps P.tells P.faults desk.old calls.old result desk.new }
 {
-    let mut tally = Tally {
+    let mut counts = CallCounts {
         calls: 0,
         refused: 0,
     };
@@ -98,34 +98,34 @@ fn make_each<L: Ledger, P: Keeper + Drop>(
         match calls.next_call() {
             Ok(Some(call)) => match make(caller, &call, desk, steps) {
                 Ok(refused) => {
-                    tally = counted(tally, refused);
+                    counts = counted(counts, refused);
                 }
                 Err(fault) => return Err(fault),
             },
-            Ok(None) => return Ok(tally),
+            Ok(None) => return Ok(counts),
             Err(Memory) => return Err(LoadFault::Memory),
         }
     }
 }
 
 // With one call more.
-fn counted(tally: Tally, refused: bool) -> Tally
-    requires few { tally.calls < 1_000_000 }
-    requires fewer { tally.refused ≤ tally.calls }
-    ensures calls { result.calls ≡ tally.calls + 1 }
-    ensures refused { result.refused ≡ tally.refused + (if refused then 1 else 0) }
+fn counted(counts: CallCounts, refused: bool) -> CallCounts
+    requires few { counts.calls < 1_000_000 }
+    requires fewer { counts.refused ≤ counts.calls }
+    ensures calls { result.calls ≡ counts.calls + 1 }
+    ensures refused { result.refused ≡ counts.refused + (if refused then 1 else 0) }
     ensures fewer { result.refused ≤ result.calls }
 {
-    let calls = tally.calls + 1;
+    let calls = counts.calls + 1;
     if refused {
-        Tally {
+        CallCounts {
             calls,
-            refused: tally.refused + 1,
+            refused: counts.refused + 1,
         }
     } else {
-        Tally {
+        CallCounts {
             calls,
-            refused: tally.refused,
+            refused: counts.refused,
         }
     }
 }
@@ -156,13 +156,13 @@ fn outcome_of(reply: &Reply) -> Result<bool, LoadFault>
 }
 
 // What the state tells, and what was counted.
-fn summary_of(alloc: Global, tally: Tally, state: &State) -> Result<LoadSummary, Memory>
-    ensures { IfOk result (λ s. s ≡ summary_of tally.calls tally.refused state.now.machine) }
+fn summary_of(alloc: Global, counts: CallCounts, state: &State) -> Result<LoadSummary, Memory>
+    ensures { IfOk result (λ s. s ≡ summary_of counts.calls counts.refused state.now.machine) }
 {
     let members = members_of(alloc, state, FilterNo(1))?;
     Ok(LoadSummary {
-        calls: tally.calls,
-        refused: tally.refused,
+        calls: counts.calls,
+        refused: counts.refused,
         members,
         left: state.work().remaining(SprintNo(1)),
         bucket: state.ranks().balance().empty_bucket(),

@@ -1,5 +1,5 @@
 // The calls of a load, one after the other.
-ghost use Rattle.std.specs.Prelude.{◌≡◌, ◌≤◌, ◌+◌, ◌/◌, ◌++◌, map, IfOk, IfNone, ◌∷◌, [], ◌%◌, ◌*◌};
+ghost use Rattle.std.specs.Prelude.{◌≡◌, ◌≤◌, ◌+◌, ◌/◌, ◌++◌, map, IfOk, IfNone, [], ◌%◌, ◌*◌};
 ghost use Rattle.std.specs.List.{flat_map};
 ghost use Rattle.tracker_import.specs.Load.{created, into_sprint, is_finished, load_calls, move_up, multiples, numbers, step, steps_for, worked_on};
 ghost use Rattle.tracker_import.specs.Stages.{HandsOut, IsWithin, behind_creates, behind_edits, behind_moves, behind_steps, behind_work, calls_left, next_call, with_first};
@@ -120,7 +120,8 @@ fn call_at(alloc: Global, number: u32, stage: Stage) -> Result<Option<Call>, Mem
 fn stage_after(number: u32, stage: Stage) -> Stage
     requires few { number ≤ 20_000 }
     requires within { IsWithin number stage }
-    ensures left { calls_left number stage ≡ with_first (next_call number stage) (calls_left number result) }
+    ensures left { calls_left number stage
+        ≡ with_first (next_call number stage) (calls_left number result) }
     ensures within { IsWithin number result }
 {
     match stage {
@@ -143,7 +144,8 @@ fn stage_after(number: u32, stage: Stage) -> Stage
 
 // The stage at which the issues from that number on are still to come.
 fn creates_from(number: u32, i: u32) -> Stage
-    ensures left { calls_left number result ≡ flat_map created (numbers i number) ++ behind_creates number }
+    ensures left { calls_left number result
+        ≡ flat_map created (numbers i number) ++ behind_creates number }
     ensures within { IsWithin number result }
 {
     if i <= number {
@@ -184,7 +186,8 @@ fn work_from(number: u32, k: u32) -> Stage
 fn after_start(number: u32, k: u32) -> Stage
     requires few { number ≤ 20_000 }
     requires within { k ≤ number / 2 }
-    ensures left { calls_left number (Stage.Start k) ≡ with_first (next_call number (Stage.Start k)) (calls_left number result) }
+    ensures left { calls_left number (Stage.Start k)
+        ≡ with_first (next_call number (Stage.Start k)) (calls_left number result) }
     ensures within { IsWithin number result }
 {
     if is_finished(2 * k) {

@@ -1,5 +1,5 @@
 // Each call of a load by itself.
-ghost use Rattle.std.specs.Prelude.{◌≡◌, ◌≤◌, ◌++◌, [], codes, decimal, IfOk};
+ghost use Rattle.std.specs.Prelude.{◌≡◌, ◌≤◌, [], IfOk};
 ghost use Rattle.tracker_calls.specs.declared.call.Call.TheVariants as call;
 ghost use Rattle.tracker_calls.specs.declared.given.Given.{Given};
 ghost use Rattle.tracker_import.specs.Load.{create, finish, into_sprint, key, make_sprint, move_up, save_filter, start, step, with_value};

@@ -2,6 +2,8 @@
 use Rattle.std.proofs.Common.{◌≡◌, ℕ, List, [], ◌∷◌, Some, None, codes, refl, pos}
 use Rattle.std.specs.Fmt.{digits}
 use Rattle.serde_json.proofs.OnLiterals.{serde_json_on_literals}
+use Rattle.field_values.specs.declared.numbers.FieldNo.{FieldNo}
+use Rattle.field_values.specs.declared.numbers.TheConstants.FieldNo as number
 use Rattle.field_values.specs.declared.numbers.IssueNo.{IssueNo}
 use Rattle.field_values.specs.declared.numbers.UserNo.{UserNo}
 use Rattle.field_values.specs.declared.status.Status.{Status}
@@ -57,12 +59,12 @@ setup = record {
 abbrev choice : ℕ → Value
 choice place = value.Choice (record { 0 = place })
 
-abbrev holding : ℕ → Value → Change
-holding n v = record { field = record { 0 = n }; to = v }
+abbrev holding : FieldNo → Value → Change
+holding field v = record { field = field; to = v }
 
 -- entries of the third change, at the moment 60
-abbrev changed : ℕ → Value → Value → Entry
-changed n v w = record { change = 3; at = 60; author = user 1; field = record { 0 = n }; from = v; to = w }
+abbrev changed : FieldNo → Value → Value → Entry
+changed field v w = record { change = 3; at = 60; author = user 1; field = field; from = v; to = w }
 
 abbrev pub issue : ℕ → List ℕ → ℕ → List Entry → History
 issue n key change entries = record {
@@ -71,12 +73,12 @@ issue n key change entries = record {
   change = change;
   at = 0;
   author = user 0;
-  opening = holding 1 (choice 0) ∷ holding 2 (value.Text (codes "Fix login")) ∷ holding 4 (choice 0) ∷ [];
+  opening = holding number.TYPE (choice 0) ∷ holding number.SUMMARY (value.Text (codes "Fix login")) ∷ holding number.STATUS (choice 0) ∷ [];
   entries = entries;
 }
 
 abbrev entries : List Entry
-entries = changed 4 (choice 0) (choice 1) ∷ changed 5 value.Empty (value.User (user 0)) ∷ []
+entries = changed number.STATUS (choice 0) (choice 1) ∷ changed number.ASSIGNEE value.Empty (value.User (user 0)) ∷ []
 
 -- the ranks `0|i00000:` and `0|i006bk:`, `0|hzztog:` ahead of both, and `1|r00000:` of a step
 abbrev rank : ℕ → List ℕ → RankParts

@@ -1,5 +1,5 @@
 -- No effect changes a tracker's setup, but for who is in its groups.
-use Rattle.std.proofs.Common.{◌≡◌, ◌-◌, ℕ, List, Ok, refl, ap, ◌∙◌}
+use Rattle.std.proofs.Common.{◌-◌, refl, ap, ◌∙◌}
 use Rattle.field_values.specs.Parts.{Parts}
 use Rattle.field_values.specs.GroupMembers.{with_members}
 use Rattle.field_values.proofs.Members.{same_names}

@@ -1,5 +1,4 @@
-ghost use Rattle.std.specs.Prelude.{◌≡◌, ◌≢◌, IsTrue, IfSome, length};
-ghost use Rattle.board.specs.Place.{named_by};
+ghost use Rattle.std.specs.Prelude.{IsTrue, IfSome, length};
 ghost use Rattle.rank_balancer.specs.Balance.{IsMoving};
 ghost use Rattle.tracker_ranks.specs.Ranked.{AreNumbered, IsOneOf};
 

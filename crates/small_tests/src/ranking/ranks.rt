@@ -1,7 +1,6 @@
 ghost use Rattle.std.specs.Prelude.{◌≡◌, IsTrue, IfSome};
 ghost use Rattle.rank_strings.specs.Rank.{IsBelow};
 ghost use Rattle.std.specs.Option.{option_copied};
-ghost use Rattle.rank_strings.specs.Between.{AreNeighbours};
 
 use super::placing::{MOST_ZEROS, behind_zeros, is, is_exhausted, is_written, rank_of};
 use rank_strings::{Rank, RankFault, between};
@@ -9,7 +8,8 @@ use std::alloc::Global;
 use std::cmp::Ordering;
 
 fn are_in_order(low: Option<&Rank>, high: Option<&Rank>) -> bool
-    ensures { IsTrue result → IfSome (option_copied low.entry) (λ l. IfSome (option_copied high.entry) (λ h. IsBelow l h)) }
+    ensures { IsTrue result → IfSome (option_copied low.entry)
+        (λ l. IfSome (option_copied high.entry) (λ h. IsBelow l h)) }
 {
     match (low, high) {
         (Some(low), Some(high)) => low.cmp(high) == Ordering::Less,

@@ -150,7 +150,8 @@ fn group_of(
     requires later { updated issue.now.history ≤ at }
     requires some { 0 < length net.now }
     requires news { AreNews (present issue.now.history) 0 net.now }
-    ensures { IfOk result (λ group. MayAdd issue.now.history group.change group.at group.author group.entries) }
+    ensures { IfOk result
+        (λ group. MayAdd issue.now.history group.change group.at group.author group.entries) }
 {
     let Some(change) = last_change(issue).checked_add(1) else {
         return Err(Fault::NoRow);
@@ -173,7 +174,8 @@ fn entries_of(
     author: UserNo,
     net: &[Change],
 ) -> Result<Entries, Memory>
-    ensures { IfOk result (λ entries. entries ≡ entries_of (present issue.now.history) change at author net.now) }
+    ensures { IfOk result
+        (λ entries. entries ≡ entries_of (present issue.now.history) change at author net.now) }
 {
     let mut entries = Entries::new(alloc);
     for next in net {

@@ -1,4 +1,4 @@
-use Rattle.std.proofs.Common.{◌≡◌, ◌-◌, ◌∙◌, List, set, ap, sym}
+use Rattle.std.proofs.Common.{◌-◌, ◌∙◌, List, set, ap, sym}
 use Rattle.std.proofs.lemmas.List.{map-set}
 use Rattle.field_values.specs.declared.numbers.IssueNo.{IssueNo}
 use Rattle.change_history.specs.History.{RoomyHistory, History}

@@ -10,7 +10,7 @@ pub each-preserved : goal.each-preserved
 each-preserved g c =
     let out = subst (λ o. HandsOut c.each.calls o c.next_call.new.self) c.in-Ok-Some.field-0-is c.in-Ok-Some.ensures in
     record {
-      so_far = one_more_made _ _ _ c.args.desk.now c.each.desk c.make.new.desk c.args.calls.now c.each.calls c.next_call.new.self c.each.tally c.counted-tally.result
-          c.in-Ok-Some.call c.in-Ok.refused c.each.invariant.so_far out c.in-Ok.ensures c.counted-tally.ensures.calls c.counted-tally.ensures.refused;
-      fewer = c.counted-tally.ensures.fewer;
+      so_far = one_more_made _ _ _ c.args.desk.now c.each.desk c.make.new.desk c.args.calls.now c.each.calls c.next_call.new.self c.each.counts c.counted-counts.result
+          c.in-Ok-Some.call c.in-Ok.refused c.each.invariant.so_far out c.in-Ok.ensures c.counted-counts.ensures.calls c.counted-counts.ensures.refused;
+      fewer = c.counted-counts.ensures.fewer;
     }
