@@ -1,5 +1,5 @@
 -- An issue that is created has a type, a summary and a status.
-use Rattle.std.proofs.Common.{◌≡◌, ◌≢◌, ◌==◌, ℕ, List, [], ◌∷◌, ◌++◌, Bool, true, false, not, Option, Some, None, option_map, refl, sym, ap, ◌∙◌, subst, inl, inr}
+use Rattle.std.proofs.Common.{◌≡◌, ◌≢◌, ◌==◌, ℕ, List, [], ◌∷◌, ◌++◌, Bool, true, false, true≢false, not, Option, Some, None, option_map, refl, sym, ap, ◌∙◌, subst, inl, inr}
 use Rattle.std.specs.Prelude.{if◌then◌else◌}
 use Rattle.std.specs.List.{list_any}
 use Rattle.std.specs.Option.{is_some}
@@ -113,10 +113,7 @@ unfolding fits form_of choices_of
 status_fits_nothing names = refl
 
 there_is : (names : Names) (n : ℕ) (v : Value) → fits names n value.Empty ≡ false → fits names n v ≡ true → v ≢ value.Empty
-there_is names n v nothing fit empty = not_both (fits names n v) fit (ap (fits names n) empty ∙ nothing) where
-  not_both : (b : Bool) → b ≡ true → b ≡ false → ⊥
-  not_both true holds never = cc
-  not_both false holds never = cc
+there_is names n v nothing fit empty = true≢false (sym fit ∙ (ap (fits names n) empty ∙ nothing))
 
 opened_fit : (names : Names) (wants : ℕ → Wanted) (n : ℕ) → fits names n value.Empty ≡ false → list_any (λ k. k == n) (field_numbers names.fields) ≡ true → wants n ≢ wanted.Nothing
     → faults_in names wants (field_numbers names.fields) ≡ [] → opening_value (filled (changes_to wants (field_numbers names.fields))) (record { 0 = n }) ≢ value.Empty
