@@ -17,7 +17,8 @@ use tracker_calls::Refusal;
 
 /// What the text asks for when that user asks it.
 pub fn asked(alloc: Global, setup: &Setup, caller: UserNo, jql: &str) -> Result<Bound, Refusal>
-    ensures query { IfOk result (λ bound. asked (parts setup.now) caller.0 jql.now ≡ Ok (query_of bound)) }
+    ensures query { IfOk result (λ bound. asked (parts setup.now) caller.0 jql.now
+        ≡ Ok (query_of bound)) }
     ensures fault { IfErr result (Faults (asked (parts setup.now) caller.0 jql.now)) }
 {
     match parse(alloc, jql) {
@@ -38,8 +39,11 @@ fn refusal_of(fault: JqlFault) -> Refusal
 
 // The query bound to the setup; it ends here, before what came of it is looked at.
 fn bound(alloc: Global, setup: &Setup, caller: UserNo, query: Query) -> Result<Bound, Refusal>
-    ensures query { IfOk result (λ bound. bound_or_fault (bound_in (scope_in setup.now caller) (option_map tree query.0) query.1) ≡ Ok (query_of bound)) }
-    ensures fault { IfErr result (Faults (bound_or_fault (bound_in (scope_in setup.now caller) (option_map tree query.0) query.1))) }
+    ensures query { IfOk result (λ bound. bound_or_fault
+        (bound_in (scope_in setup.now caller) (option_map tree query.0) query.1)
+        ≡ Ok (query_of bound)) }
+    ensures fault { IfErr result (Faults (bound_or_fault
+        (bound_in (scope_in setup.now caller) (option_map tree query.0) query.1))) }
 {
     let bound = bind(alloc, &query, setup, caller);
     drop(query);

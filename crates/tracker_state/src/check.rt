@@ -7,11 +7,9 @@ ghost use Rattle.tracker_machine.specs.Access.{access_refusal};
 ghost use Rattle.tracker_state.specs.Check.{Checks, IsRefusal};
 
 use crate::state::State;
-use change_history::Issue;
 use fields::{Permission, ProjectNo, Text, UserNo};
 use std::alloc::Global;
 use tracker_calls::{Refusal, Thing};
-use workflow::project_number;
 
 /// The refusal of a member that is not of its form.
 pub fn malformed(alloc: Global, member: &str) -> Refusal
@@ -35,9 +33,12 @@ pub fn unknown(alloc: Global, kind: Thing, name: &str) -> Refusal
 
 /// The place of the issue of that key.
 pub fn known_issue(alloc: Global, state: &State, name: &str) -> Result<usize, Refusal>
-    ensures place { IfOk result (λ place. place_of_issue name.now state.now.machine.histories ≡ Some place) }
+    ensures place { IfOk result (λ place.
+        place_of_issue name.now state.now.machine.histories ≡ Some place) }
     ensures there { IfOk result (λ place. place < length state.now.machine.histories) }
-    ensures check { Checks (unless_known (place_of_issue name.now state.now.machine.histories) (Refusal.Unknown Thing.Issue name.now)) result }
+    ensures check { Checks (unless_known
+        (place_of_issue name.now state.now.machine.histories)
+        (Refusal.Unknown Thing.Issue name.now)) result }
 {
     match state.place_of_issue(name) {
         Some(place) => Ok(place),
@@ -66,7 +67,8 @@ fn forbidden(
     project: Option<ProjectNo>,
 ) -> Refusal
     ensures { IsRefusal (Some (Refusal.Forbidden permission
-        (option_map (name_at (project_keys state.now.machine.setup)) (option_map (λ no. no.0) project)))) result }
+        (option_map (name_at (project_keys state.now.machine.setup))
+        (option_map (λ no. no.0) project)))) result }
 {
     let Some(project) = project else {
         return Refusal::Forbidden {
@@ -91,7 +93,8 @@ pub fn check_permission(
     permission: Permission,
     project: Option<ProjectNo>,
 ) -> Result<(), Refusal>
-    ensures { Checks (permission_refusal state.now.machine caller.0 permission (option_map (λ no. no.0) project)) result }
+    ensures { Checks (permission_refusal state.now.machine caller.0 permission
+        (option_map (λ no. no.0) project)) result }
 {
     if state.may(caller, permission, project) {
         return Ok(());
@@ -107,16 +110,11 @@ pub fn check_access(
     permission: Permission,
     place: usize,
 ) -> Result<(), Refusal>
-    ensures { Checks (access_refusal state.now.machine caller.0 permission (slice_get state.now.machine.histories place)) result }
+    ensures { Checks (access_refusal state.now.machine caller.0 permission
+        (slice_get state.now.machine.histories place)) result }
 {
-    let Some(issue) = state.issue_at(place) else {
-        return Ok(());
-    };
-    check_permission(
-        alloc,
-        state,
-        caller,
-        permission,
-        project_number(state.setup(), issue),
-    )
+    match state.issue_at(place) {
+        Some(_) => check_permission(alloc, state, caller, permission, state.project_at(place)),
+        None => Ok(()),
+    }
 }

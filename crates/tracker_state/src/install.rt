@@ -90,7 +90,8 @@ impl State {
     fn add<L: Ledger>(&mut self, new: GroupPlan, steps: &mut Steps<L>)
         requires fits { GroupFits self.old new }
         requires allowed { IsAllowed (NewGroup new.place new.group) self.old.machine }
-        ensures machine { self.new.machine ≡ applied (NewGroup new.place new.group) self.old.machine }
+        ensures machine { self.new.machine
+            ≡ applied (NewGroup new.place new.group) self.old.machine }
         ensures steps { steps.new ≡ steps.old + length self.old.watched.filters }
     {
         self.change += 1;
@@ -273,8 +274,8 @@ fn turn(work: &mut Work, sprint: SprintNo, state: &SprintState, at: Moment, chan
     let Ok(()) = turned else { unreachable!() };
 }
 
-// How far a sprint of this state is.
-fn phase_of(state: &SprintState) -> Phase
+/// How far a sprint of this state is.
+pub fn phase_of(state: &SprintState) -> Phase
     ensures { result ≡ phase_of state.now }
 {
     match *state {

@@ -13,6 +13,7 @@ mod state;
 
 pub use asking::asked;
 pub use check::{check_access, check_permission, known_issue, malformed, unknown, unnumbered};
+pub use install::phase_of;
 pub use keys::key_numbered;
 pub use part::part_of;
 pub use plan::{GroupPlan, IssuePlan, MembersPlan, NewExternal, Plan, Prepared, RankPlan};

@@ -50,8 +50,10 @@ pub fn no_room(alloc: Global, low: &Option<Rank>, high: &Option<Rank>) -> Refusa
 
 /// The refusal where none is given.
 pub fn refusal_of(alloc: Global, fault: RankFault) -> Refusal
-    ensures rank { (given : Result RankParts Sides) → IsRefusalOf given fault → IsRefusal (room_refusal given) result }
-    ensures step { (given : Result (List Move) Sides) → IsRefusalOf given fault → IsRefusal (room_refusal given) result }
+    ensures rank { (given : Result RankParts Sides) → IsRefusalOf given fault
+        → IsRefusal (room_refusal given) result }
+    ensures step { (given : Result (List Move) Sides) → IsRefusalOf given fault
+        → IsRefusal (room_refusal given) result }
 {
     match fault {
         RankFault::Exhausted { low, high } => no_room(alloc, &low, &high),

@@ -33,11 +33,10 @@ pub fn rank_op(alloc: Global, issue: IssueNo, rank: &Rank) -> Result<RowOp, Memo
     ensures { IfOk result (λ op. op ≡ rank_op issue rank.now) }
 {
     let text = rank.text(alloc)?;
-    let body = Text::copy_of(alloc, text.as_str())?;
     Ok(RowOp::Put(Row {
         kind: 5,
         no: u64::from(issue.0),
-        body,
+        body: Text::of(text.into_string()),
     }))
 }
 
@@ -101,7 +100,8 @@ fn put_members(alloc: Global, ops: &mut Vec<RowOp>, setup: &Setup) -> Result<(),
 /// The operations that keep a new tracker of this setup.
 #[tactic(auto, unfolding(tracker_machine::specs::Kept::opening_ops, tracker_keeper::specs::Bodies::body_text))]
 pub fn opening_ops(alloc: Global, setup: &Setup) -> Result<Vec<RowOp>, Memory>
-    ensures { IfOk result (λ ops. ops.items ≡ opening_ops (opening setup.now.text (parts setup.now))) }
+    ensures { IfOk result (λ ops. ops.items
+        ≡ opening_ops (opening setup.now.text (parts setup.now))) }
 {
     let body = setup.text.copy(alloc)?;
     let op = present_op(alloc, Balance::Idle(0), 0, Moment::first())?;

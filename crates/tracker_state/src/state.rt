@@ -74,7 +74,8 @@ impl Model for State {
     ghost coded = { Prim.hlevel (codes, cond.the_row.coded) };
 
     ghost view = { λ s. record {
-      machine = machine_of s.setting.setup s.moment s.change s.issues s.externals s.ranks s.filters s.boards s.work;
+      machine = machine_of s.setting.setup s.moment s.change s.issues s.externals s.ranks s.filters
+          s.boards s.work;
       room = s.issues.room;
       externals_room = s.externals.room;
       ranks_room = s.ranks.room;
@@ -86,7 +87,8 @@ impl Model for State {
     } };
 
     ghost invariant = { λ s.
-        IsState (machine_of s.setting.setup s.moment s.change s.issues s.externals s.ranks s.filters s.boards s.work)
+        IsState (machine_of s.setting.setup s.moment s.change s.issues s.externals s.ranks s.filters
+        s.boards s.work)
         s.issues.tally s.filters s.work s.setting.context };
 }
 
@@ -124,9 +126,11 @@ impl State {
         boards: Boards,
         work: Work,
     ) -> State
-        requires { IsState (machine_of setting.setup moment change issues externals ranks filters boards work)
+        requires { IsState
+            (machine_of setting.setup moment change issues externals ranks filters boards work)
             issues.tally filters work setting.context }
-        ensures { result.machine ≡ machine_of setting.setup moment change issues externals ranks filters boards work }
+        ensures { result.machine
+            ≡ machine_of setting.setup moment change issues externals ranks filters boards work }
     {
         State {
             setting,
@@ -186,7 +190,8 @@ impl State {
 
     /// The user of that name, ASCII case ignored; `None` exactly where there is none.
     pub fn user_named(&self, name: &str) -> Option<UserNo>
-        ensures place { option_map (λ no. no.0) result ≡ place_named name.now self.now.machine.setup.users }
+        ensures place { option_map (λ no. no.0) result
+            ≡ place_named name.now self.now.machine.setup.users }
         ensures there { IfSome result (λ no. no.0 < length self.now.machine.setup.users) }
     {
         self.setting.setup.user_named(name)
@@ -194,7 +199,8 @@ impl State {
 
     /// The project of that key, ASCII case ignored; `None` exactly where there is none.
     pub fn project_named(&self, name: &str) -> Option<ProjectNo>
-        ensures place { option_map (λ no. no.0) result ≡ place_named name.now (project_keys self.now.machine.setup) }
+        ensures place { option_map (λ no. no.0) result
+            ≡ place_named name.now (project_keys self.now.machine.setup) }
         ensures there { IfSome result (λ no. no.0 < length self.now.machine.setup.project) }
     {
         self.setting.setup.project_named(name)
@@ -203,7 +209,8 @@ impl State {
     /// The group of that name, ASCII case ignored; `None` exactly where there is none. Groups count from 1.
     pub fn group_named(&self, name: &str) -> Option<GroupNo>
         ensures place { option_map (λ no. no.0) result
-            ≡ option_map (λ place. place + 1) (place_named name.now (group_names self.now.machine.setup)) }
+            ≡ option_map (λ place. place + 1)
+            (place_named name.now (group_names self.now.machine.setup)) }
         ensures from_one { IfSome result (λ no. 1 ≤ no.0) }
         ensures there { IfSome result (λ no. no.0 ≤ length self.now.machine.setup.group) }
     {
@@ -220,7 +227,8 @@ impl State {
 
     /// Whether the user has the permission, in the project where it is one of a project.
     pub fn may(&self, user: UserNo, permission: Permission, project: Option<ProjectNo>) -> bool
-        ensures { result ≡ may self.now.machine.setup user.0 permission (option_map (λ no. no.0) project) }
+        ensures { result
+            ≡ may self.now.machine.setup user.0 permission (option_map (λ no. no.0) project) }
     {
         self.setting.setup.may(user, permission, project)
     }
@@ -283,8 +291,10 @@ impl State {
 
     /// The issue at a place; `None` exactly where there is none.
     pub fn issue_at(&self, place: usize) -> Option<&Issue>
-        ensures history { option_map (λ i. i.now.history) result ≡ slice_get self.now.machine.histories place }
-        ensures settled { IfSome result (λ i. IsSettled (names_in self.now.machine.setup) self.now.machine.moment self.now.machine.change i.now.history) }
+        ensures history { option_map (λ i. i.now.history) result
+            ≡ slice_get self.now.machine.histories place }
+        ensures settled { IfSome result (λ i. IsSettled (names_in self.now.machine.setup)
+            self.now.machine.moment self.now.machine.change i.now.history) }
     {
         self.issues.get(place)
     }
@@ -292,7 +302,8 @@ impl State {
     /// The project of the issue at a place, as it was noted when the issue came: its key isn't looked at.
     pub fn project_at(&self, place: usize) -> Option<ProjectNo>
         ensures { option_map (λ no. no.0) result
-            ≡ option_and_then (project_number self.now.machine.setup) (slice_get self.now.machine.histories place) }
+            ≡ option_and_then (project_number self.now.machine.setup)
+            (slice_get self.now.machine.histories place) }
     {
         self.issues.project_at(place)
     }
@@ -332,7 +343,8 @@ impl State {
     /// stays: contracts may cite it.
     pub fn verdicts_are_right(&self)
         ensures { AreRight (surroundings_in self.now.machine.setup self.now.machine.sprints)
-            self.now.machine.moment self.now.machine.histories self.now.watched.filters self.now.watched.views }
+            self.now.machine.moment self.now.machine.histories self.now.watched.filters
+            self.now.watched.views }
     {
         self.filters.are_watched();
     }
@@ -356,7 +368,9 @@ impl State {
     /// How many issues the project at a place has.
     pub fn count_in(&self, project: ProjectNo) -> u32
         requires { project.0 < length self.now.machine.setup.project }
-        ensures count { result ≡ issues_of (name_at (project_keys self.now.machine.setup) project.0) self.now.machine.histories }
+        ensures count { result
+            ≡ issues_of (name_at (project_keys self.now.machine.setup) project.0)
+            self.now.machine.histories }
         ensures few { result ≤ 50_000 }
     {
         self.issues.count_in(project)
@@ -392,7 +406,8 @@ impl State {
         ensures work { self.new.work ≡ self.old.work }
         ensures phases { self.new.phases_room ≡ self.old.phases_room }
         ensures externals { self.new.externals_room ≡ self.old.externals_room }
-        ensures err { OnErr result (self.new ≡ record self.old { ranks_room = self.new.ranks_room; watched = self.new.watched }) }
+        ensures err { OnErr result (self.new
+            ≡ record self.old { ranks_room = self.new.ranks_room; watched = self.new.watched }) }
     {
         self.ranks.reserve()?;
         self.filters.reserve_issue()?;
@@ -413,7 +428,9 @@ impl State {
         ensures same { self.new ≡ record self.old {
           watched = record self.old.watched {
             filter_room = self.new.watched.filter_room;
-            views = record self.old.watched.views { filter_room = self.new.watched.views.filter_room };
+            views = record self.old.watched.views {
+              filter_room = self.new.watched.views.filter_room;
+            };
           };
         } }
     {
