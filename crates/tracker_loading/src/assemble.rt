@@ -64,7 +64,9 @@ fn derived(alloc: Global, base: &Base, given: Given) -> Result<Derived, Memory>
 // The state of both.
 fn put_together(base: Base, derived: Derived) -> State
     requires agree { surroundings_of derived.context
-        ≡ record (surroundings_in (parts base.setup) []) { sprints = derived.context.sprints.items } }
+        ≡ record (surroundings_in (parts base.setup) []) {
+          sprints = derived.context.sprints.items;
+        } }
     requires agreed { IsState (machine_with base derived)
         base.issues.tally derived.filters derived.work derived.context }
     ensures { result.machine ≡ machine_with base derived }

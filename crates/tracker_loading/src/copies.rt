@@ -10,7 +10,7 @@ use std::alloc::Global;
 pub(crate) fn changes_copy(alloc: Global, changes: &[Change]) -> Result<Changes, Memory>
     ensures { IfOk result (λ copy. copy ≡ changes.now) }
 {
-    let mut copy = Changes::new(alloc);
+    let mut copy = Changes::with_capacity(alloc, changes.len())?;
     for change in changes {
         let to = change.to.copy(alloc)?;
         copy.push(Change {
@@ -39,7 +39,7 @@ fn entry_copy(alloc: Global, entry: &Entry) -> Result<Entry, Memory>
 fn entries_copy(alloc: Global, entries: &[Entry]) -> Result<Entries, Memory>
     ensures { IfOk result (λ copy. copy ≡ entries.now) }
 {
-    let mut copy = Entries::new(alloc);
+    let mut copy = Entries::with_capacity(alloc, entries.len())?;
     for entry in entries {
         copy.push(entry_copy(alloc, entry)?)?;
     }

@@ -26,7 +26,8 @@ pub(crate) fn filters_of(
     requires saved { AreSaved filters.items }
     requires numbered { AreNumbered (histories_of issues.now) }
     ensures filters { IfOk result (λ asked. asked.filters ≡ filters.items) }
-    ensures seen { IfOk result (HasSeen (histories_of issues.now) (surroundings_of context.now) at) }
+    ensures seen { IfOk result
+        (HasSeen (histories_of issues.now) (surroundings_of context.now) at) }
 {
     // Nobody reads how often they are asked.
     asked::<Brand>(alloc, filters, issues, context, at, Blank::new(1))
@@ -47,7 +48,8 @@ fn asked<L: Ledger>(
     requires parts { blank.parts ≡ L.parts }
     requires some { 0 < L.parts }
     ensures filters { IfOk result (λ asked. asked.filters ≡ filters.items) }
-    ensures seen { IfOk result (HasSeen (histories_of issues.now) (surroundings_of context.now) at) }
+    ensures seen { IfOk result
+        (HasSeen (histories_of issues.now) (surroundings_of context.now) at) }
 {
     let mut steps = Steps::<L>::new(blank);
     let mut asked = none_on(alloc, issues, context, at, &mut steps)?;
@@ -67,7 +69,8 @@ fn none_on<L: Ledger>(
 ) -> Result<Filters, Memory>
     requires { AreNumbered (histories_of issues.now) }
     ensures filters { IfOk result (λ asked. asked.filters ≡ []) }
-    ensures seen { IfOk result (HasSeen (histories_of issues.now) (surroundings_of context.now) at) }
+    ensures seen { IfOk result
+        (HasSeen (histories_of issues.now) (surroundings_of context.now) at) }
 {
     let mut asked = Filters::new(alloc, context, at);
     for issue in issues {
@@ -89,8 +92,10 @@ fn put_next<L: Ledger>(
 ) -> Result<(), Memory>
     requires may { MayPut asked.old.filters filter }
     requires seen { HasSeen (histories_of issues.now) (surroundings_of context.now) at asked.old }
-    ensures filters { OnOk result (asked.new.filters ≡ put_by_number number filter asked.old.filters) }
-    ensures seen { OnOk result (HasSeen (histories_of issues.now) (surroundings_of context.now) at asked.new) }
+    ensures filters { OnOk result (asked.new.filters
+        ≡ put_by_number number filter asked.old.filters) }
+    ensures seen { OnOk result
+        (HasSeen (histories_of issues.now) (surroundings_of context.now) at asked.new) }
 {
     asked.reserve_filter()?;
     let ready = ReadyFilter::of(alloc, filter, issues, context, at, steps)?;

@@ -21,7 +21,8 @@ impl Progress {
               told = told_with self.old.told part;
               made = joined self.old.made part;
             })) }
-        ensures bad { IfOk result (λ good. good ≡ false → ¬ (MayJoin self.old.format self.old.made part)) }
+        ensures bad { IfOk result (λ good. good ≡ false
+            → ¬ (MayJoin self.old.format self.old.made part)) }
     {
         let good = self.join_part(alloc, &part);
         drop(part);

@@ -57,7 +57,8 @@ fn add_external(
     requires free { external_named external.now externals.old.ids ≡ None }
     requires last { All (λ e. e.no.0 < issue.0) externals.old.ids }
     ensures ids { IfOk result (λ done. externals.new.ids
-        ≡ put_by_number external_number (record { no = issue; id = external.now }) externals.old.ids) }
+        ≡ put_by_number external_number (record { no = issue; id = external.now })
+        externals.old.ids) }
     ensures err { OnErr result (externals.new.ids ≡ externals.old.ids) }
 {
     externals.reserve()?;

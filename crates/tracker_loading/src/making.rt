@@ -65,10 +65,12 @@ impl Model for Making {
 
     ghost Value = { Machine };
 
-    ghost view = { λ m. made_of m.setup m.balance m.change m.moment m.issues m.externals m.ranks.items m.sprints m.filters.items m.boards };
+    ghost view = { λ m. made_of m.setup m.balance m.change m.moment m.issues m.externals
+        m.ranks.items m.sprints m.filters.items m.boards };
 
     ghost invariant = { λ m.
-        IsMaking (made_of m.setup m.balance m.change m.moment m.issues m.externals m.ranks.items m.sprints m.filters.items m.boards)
+        IsMaking (made_of m.setup m.balance m.change m.moment m.issues m.externals
+        m.ranks.items m.sprints m.filters.items m.boards)
         m.issues.tally m.ranks.items m.filters.items (keys m.taken) m.group_at };
 }
 
@@ -81,7 +83,8 @@ impl Making {
         change: u64,
         moment: Moment,
     ) -> Result<Making, Memory>
-        ensures { IfOk result (λ made. made ≡ standing setup.text (parts setup) balance change moment) }
+        ensures { IfOk result (λ made. made
+            ≡ standing setup.text (parts setup) balance change moment) }
     {
         let issues = Issues::new(alloc, setup.project.as_slice())?;
         Ok(Making {

@@ -8,9 +8,10 @@ ghost use Rattle.tracker_machine.specs.SprintRules.{phase_of};
 use field_values::{Memory, SprintNo};
 use fields::Setup;
 use jql_bound::{Context, Phase};
-use sprints::{SprintState, Sprints};
+use sprints::Sprints;
 use std::alloc::Global;
 use tracker_setting::context_with;
+use tracker_state::phase_of;
 
 /// What queries ask of the setup, and of these sprints.
 pub(crate) fn context_of(alloc: Global, setup: &Setup, sprints: &Sprints) -> Result<Context, Memory>
@@ -34,15 +35,4 @@ fn phases_of(alloc: Global, sprints: &Sprints) -> Result<Vec<Phase>, Memory>
         phases.push(phase_of(&state))?;
     }
     Ok(phases)
-}
-
-// How far a sprint of this state is.
-fn phase_of(state: &SprintState) -> Phase
-    ensures { result ≡ phase_of state.now }
-{
-    match *state {
-        SprintState::Future => Phase::Future,
-        SprintState::Active { .. } => Phase::Active,
-        SprintState::Closed { .. } => Phase::Closed,
-    }
 }
