@@ -12,7 +12,7 @@ ghost use Rattle.tracker_state.specs.Rows.{rank_op};
 
 use crate::rows::rank_rows;
 use board::Place;
-use fields::{IssueNo, Memory, Permission, UserNo};
+use fields::{IssueNo, Memory, Permission, Text, UserNo};
 use rank_strings::Rank;
 use std::alloc::Global;
 use tracker_calls::{Answer, Refusal, ToldText};
@@ -149,8 +149,8 @@ fn told(
     ensures rows { IfOk result (λ r. r.1.items ≡ rank_op issue rank.now ∷ []) }
 {
     let text = rank.text(alloc)?;
-    let rows = rank_rows(alloc, issue, text.as_str())?;
     let told = ToldText::copy_of(alloc, text.as_str())?;
+    let rows = rank_rows(alloc, issue, Text::of(text.into_string()))?;
     let issue = ToldText::copy_of(alloc, name)?;
     Ok((Answer::Move { issue, rank: told }, rows))
 }

@@ -12,16 +12,15 @@ use tracker_keeper::{Row, RowOp, sprint_text};
 use tracker_state::{present_ops, put_rank};
 
 /// The operation that keeps another rank of an issue, whose text is given.
-pub fn rank_rows(alloc: Global, issue: IssueNo, rank: &str) -> Result<Vec<RowOp>, Memory>
+pub fn rank_rows(alloc: Global, issue: IssueNo, rank: Text) -> Result<Vec<RowOp>, Memory>
     ensures { IfOk result (λ ops. ops.items
-        ≡ RowOp.Put (record { kind = 5; no = issue.0; body = rank.now }) ∷ []) }
+        ≡ RowOp.Put (record { kind = 5; no = issue.0; body = rank }) ∷ []) }
 {
-    let body = Text::copy_of(alloc, rank)?;
     let mut ops = Vec::with_capacity(alloc, 1)?;
     ops.push(RowOp::Put(Row {
         kind: 5,
         no: u64::from(issue.0),
-        body,
+        body: rank,
     }))?;
     Ok(ops)
 }
@@ -55,7 +54,7 @@ pub fn sprint_ops(
         ≡ sprint_op no (record { name = name.now; state = state.now }) ∷ []) }
 {
     let body = sprint_text(alloc, name, state)?;
-    let mut ops = Vec::new(alloc);
+    let mut ops = Vec::with_capacity(alloc, 1)?;
     ops.push(RowOp::Put(Row {
         kind: 7,
         no: u64::from(no.0),
