@@ -11,11 +11,10 @@ ghost use Rattle.tracker_machine.specs.Tracker.{Holds};
 
 use crate::told::shown_value;
 use change_history::Issue;
-use fields::{Field, FieldNo, Memory, Permission, Setup, UserNo};
+use fields::{Field, FieldNo, Memory, Permission, Setup, UserNo, built_in_fields};
 use std::alloc::Global;
 use tracker_calls::{Answer, Refusal, ShownField, ShownFields, ToldText};
 use tracker_state::{Prepared, State, check_access, known_issue};
-use wanted_values::built_in_fields;
 
 /// Tells the issue's present values.
 pub fn show(alloc: Global, state: &State, caller: UserNo, issue: &str) -> Result<Prepared, Refusal>

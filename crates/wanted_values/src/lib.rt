@@ -10,5 +10,5 @@ mod weight;
 pub use in_sprint::{is_in, sprint_after};
 pub use names::{UnknownName, first_unknown_name, missing_sprint, sprint_given};
 pub use resolved::{ResolvedName, ResolvedSet};
-pub use wants::{Opening, Outcome, built_in_fields, outcome_of_all};
+pub use wants::{Opening, Outcome, outcome_of_all};
 pub use weight::{bytes_of_changes, bytes_of_entries, fitting_is_light};

@@ -2,7 +2,6 @@
 ghost use Rattle.std.specs.Prelude.{◌≡◌, ◌∷◌, ◌++◌, [], option_map, IfOk, OnOk, Some, None, map, if◌then◌else◌};
 ghost use Rattle.std.specs.Option.{is_some};
 ghost use Rattle.field_forms.specs.Known.{value_of, listed_value_of};
-ghost use Rattle.fields.specs.Naming.{built_in_numbers};
 ghost use Rattle.fields.specs.SetupParts.{parts, names_in};
 ghost use Rattle.workflow.specs.Inputs.{least_with};
 ghost use Rattle.tracker_machine.specs.Wanted.{given_for, wanted_or, wanted_by, wanted_given, wanted_in, takes_text, sprint_wanted, sprint_number, is_fault, faults_in, field_at_fault, change_to, changes_to, changes_of};
@@ -12,7 +11,7 @@ ghost use Rattle.wanted_values.specs.Wants.{wants_of};
 use crate::names::sprint_number;
 use crate::resolved::ResolvedSet;
 use change_history::Change;
-use fields::{Field, FieldNo, Memory, Setup, SprintNo, Text, UserNo, Value};
+use fields::{Field, FieldNo, Memory, Setup, SprintNo, Text, UserNo, Value, built_in_fields};
 use std::alloc::Global;
 use tracker_calls::Given;
 use tracker_machine::Wanted;
@@ -319,27 +318,6 @@ fn no_outcome(alloc: Global, set: &ResolvedSet<'_>) -> Result<Outcome, Memory>
         changes: Vec::with_capacity(alloc, room)?,
         fault: None,
     })
-}
-
-/// The fields that every tracker has, by number.
-pub fn built_in_fields() -> &'static [FieldNo]
-    ensures { map (λ f. f.0) result.now ≡ built_in_numbers }
-{
-    &[
-        FieldNo::TYPE,
-        FieldNo::SUMMARY,
-        FieldNo::DESCRIPTION,
-        FieldNo::STATUS,
-        FieldNo::ASSIGNEE,
-        FieldNo::REPORTER,
-        FieldNo::PRIORITY,
-        FieldNo::RESOLUTION,
-        FieldNo::FIX_VERSION,
-        FieldNo::LABELS,
-        FieldNo::DUE,
-        FieldNo::POINTS,
-        FieldNo::SPRINT,
-    ]
 }
 
 /// The changes of all fields of which values are wanted, and the first field at fault, if any is: by what `set` gives, and by
