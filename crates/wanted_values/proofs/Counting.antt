@@ -1,5 +1,5 @@
 -- A net difference has at most one change for each field.
-use Rattle.std.proofs.Common.{◌≡◌, ◌==◌, ℕ, suc, ◌+◌, ◌≤◌, List, [], ◌∷◌, ◌||◌, length, map, Bool, true, false, None, refl, ap, arith, ◌∙◌}
+use Rattle.std.proofs.Common.{◌≡◌, ◌==◌, ℕ, suc, ◌+◌, ◌≤◌, List, [], ◌∷◌, ◌||◌, length, map, Bool, true, false, true≢false, None, refl, sym, ap, arith, ◌∙◌}
 use Rattle.std.specs.Prelude.{if◌then◌else◌, nat_le}
 use Rattle.std.specs.List.{list_any}
 use Rattle.std.proofs.lemmas.Bool.{eqb-true}
@@ -86,10 +86,9 @@ form_none fields n none =
 
 fits_none : (names : Names) (n : ℕ) (v : Value) → form_of names.fields n ≡ None → fits names n v ≡ true → ⊥
 unfolding fits
-fits_none names n v none fit = not_both (fits names n v) fit (rw (none) refl) where
-  not_both : (b : Bool) → b ≡ true → b ≡ false → ⊥
-  not_both true holds never = cc
-  not_both false holds never = cc
+fits_none names n v none fit =
+    let never : fits names n v ≡ false = rw (none) refl in
+    true≢false (sym fit ∙ never)
 
 is_among : (names : Names) (n : ℕ) (v : Value) (b : Bool) → list_any (λ k. k == n) (field_numbers names.fields) ≡ b → fits names n v ≡ true → b ≡ true
 is_among names n v true e fit = refl

@@ -65,7 +65,8 @@ impl<'a> ResolvedSet<'a> {
     /// What is given for a field: the last of its names counts.
     #[tactic(auto, using(crate::proofs::Resolving::last_given_is))]
     pub fn given_for(&self, field: FieldNo) -> Option<&'a Given>
-        ensures { option_map (λ g. g.now) result ≡ given_for self.now.setup.field field.0 self.now.set }
+        ensures { option_map (λ g. g.now) result
+            ≡ given_for self.now.setup.field field.0 self.now.set }
     {
         last_given(&self.names, field)
     }

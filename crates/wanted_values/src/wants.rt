@@ -51,14 +51,16 @@ fn wanted_or(value: Option<Value>) -> Wanted
 }
 
 fn read(alloc: Global, setup: &Setup, field: FieldNo, text: &str) -> Result<Wanted, Memory>
-    ensures { IfOk result (λ wanted. wanted ≡ wanted_or (value_of (names_in (parts setup.now)) field.0 text.now)) }
+    ensures { IfOk result (λ wanted. wanted
+        ≡ wanted_or (value_of (names_in (parts setup.now)) field.0 text.now)) }
 {
     let value = setup.value_of(alloc, field, text)?;
     Ok(wanted_or(value))
 }
 
 fn read_list(alloc: Global, setup: &Setup, field: FieldNo, texts: &[Text]) -> Result<Wanted, Memory>
-    ensures { IfOk result (λ wanted. wanted ≡ wanted_or (listed_value_of (names_in (parts setup.now)) field.0 texts.now)) }
+    ensures { IfOk result (λ wanted. wanted
+        ≡ wanted_or (listed_value_of (names_in (parts setup.now)) field.0 texts.now)) }
 {
     let value = setup.listed_value_of(alloc, field, texts)?;
     Ok(wanted_or(value))
@@ -81,7 +83,8 @@ fn sprint_wanted(given: &Given) -> Wanted
 }
 
 fn wanted_by(alloc: Global, setup: &Setup, field: FieldNo, given: &Given) -> Result<Wanted, Memory>
-    ensures { IfOk result (λ wanted. wanted ≡ wanted_by (names_in (parts setup.now)) field.0 given.now) }
+    ensures { IfOk result (λ wanted. wanted
+        ≡ wanted_by (names_in (parts setup.now)) field.0 given.now) }
 {
     match given {
         Given::Null => Ok(Wanted::Value(Value::Empty)),
@@ -108,7 +111,8 @@ fn wanted_given(
     field: FieldNo,
     given: &Given,
 ) -> Result<Wanted, Memory>
-    ensures { IfOk result (λ wanted. wanted ≡ wanted_given (names_in (parts setup.now)) field.0 given.now) }
+    ensures { IfOk result (λ wanted. wanted
+        ≡ wanted_given (names_in (parts setup.now)) field.0 given.now) }
 {
     if field == FieldNo::STATUS {
         return Ok(Wanted::NoValue);
@@ -117,7 +121,8 @@ fn wanted_given(
 }
 
 fn wanted_in(alloc: Global, set: &ResolvedSet<'_>, field: FieldNo) -> Result<Wanted, Memory>
-    ensures { IfOk result (λ wanted. wanted ≡ wanted_in (names_in set.now.setup) field.0 set.now.set) }
+    ensures { IfOk result (λ wanted. wanted
+        ≡ wanted_in (names_in set.now.setup) field.0 set.now.set) }
 {
     match set.given_for(field) {
         Some(given) => wanted_given(alloc, set.setup(), field, given),
@@ -132,7 +137,8 @@ fn member_wanted(
     field: FieldNo,
     text: &str,
 ) -> Result<Wanted, Memory>
-    ensures { IfOk result (λ wanted. wanted ≡ member_wanted (names_in set.now.setup) field.0 set.now.set text.now) }
+    ensures { IfOk result (λ wanted. wanted
+        ≡ member_wanted (names_in set.now.setup) field.0 set.now.set text.now) }
 {
     if is_given(set, field) {
         return Ok(Wanted::NoValue);
@@ -165,7 +171,8 @@ fn wanted_at_opening(
     field: FieldNo,
 ) -> Result<Wanted, Memory>
     ensures { IfOk result (λ wanted. wanted
-        ≡ create_wants set.now.setup opening.entry.caller.0 opening.entry.issue_type.now opening.entry.summary.now set.now.set field.0) }
+        ≡ create_wants set.now.setup opening.entry.caller.0 opening.entry.issue_type.now
+        opening.entry.summary.now set.now.set field.0) }
 {
     match field {
         FieldNo::TYPE => member_wanted(alloc, set, field, opening.issue_type),
@@ -182,7 +189,8 @@ fn wanted(
     opening: Option<Opening<'_>>,
     field: FieldNo,
 ) -> Result<Wanted, Memory>
-    ensures { IfOk result (λ wanted. wanted ≡ wants_of set.now.setup set.now.set opening.entry field.0) }
+    ensures { IfOk result (λ wanted. wanted
+        ≡ wants_of set.now.setup set.now.set opening.entry field.0) }
 {
     match opening {
         Some(opening) => wanted_at_opening(alloc, set, opening, field),
@@ -218,7 +226,8 @@ fn fault_after(
     wanted: &Wanted,
 ) -> Option<FieldNo>
     ensures { option_map (λ f. f.0) result
-        ≡ least_with (option_map (λ f. f.0) fault) (if is_fault (names_in (parts setup.now)) field.0 wanted.now then field.0 ∷ [] else []) }
+        ≡ least_with (option_map (λ f. f.0) fault)
+        (if is_fault (names_in (parts setup.now)) field.0 wanted.now then field.0 ∷ [] else []) }
 {
     if is_fault(setup, field, wanted) {
         return Some(lesser(fault, field));
@@ -246,7 +255,8 @@ fn put_outcome(
 ) -> Result<(), Memory>
     ensures fault { OnOk result (option_map (λ f. f.0) outcome.new.fault
         ≡ least_with (option_map (λ f. f.0) outcome.old.fault)
-        (faults_in (names_in set.now.setup) (wants_of set.now.setup set.now.set opening.entry) (field.0 ∷ []))) }
+        (faults_in (names_in set.now.setup)
+        (wants_of set.now.setup set.now.set opening.entry) (field.0 ∷ []))) }
     ensures changes { OnOk result (outcome.new.changes.items ≡ outcome.old.changes.items
         ++ change_to field.0 (wants_of set.now.setup set.now.set opening.entry field.0)) }
 {
@@ -265,9 +275,11 @@ fn put_outcomes(
 ) -> Result<(), Memory>
     ensures fault { OnOk result (option_map (λ f. f.0) outcome.new.fault
         ≡ least_with (option_map (λ f. f.0) outcome.old.fault)
-        (faults_in (names_in set.now.setup) (wants_of set.now.setup set.now.set opening.entry) (map (λ f. f.0) numbers.now))) }
+        (faults_in (names_in set.now.setup)
+        (wants_of set.now.setup set.now.set opening.entry) (map (λ f. f.0) numbers.now))) }
     ensures changes { OnOk result (outcome.new.changes.items ≡ outcome.old.changes.items
-        ++ changes_to (wants_of set.now.setup set.now.set opening.entry) (map (λ f. f.0) numbers.now)) }
+        ++ changes_to (wants_of set.now.setup set.now.set opening.entry)
+        (map (λ f. f.0) numbers.now)) }
 {
     for field in numbers {
         put_outcome(alloc, set, opening, *field, outcome)?;
@@ -285,9 +297,11 @@ fn put_own_outcomes(
 ) -> Result<(), Memory>
     ensures fault { OnOk result (option_map (λ f. f.0) outcome.new.fault
         ≡ least_with (option_map (λ f. f.0) outcome.old.fault)
-        (faults_in (names_in set.now.setup) (wants_of set.now.setup set.now.set opening.entry) (map (λ f. f.number.0) fields.now))) }
+        (faults_in (names_in set.now.setup)
+        (wants_of set.now.setup set.now.set opening.entry) (map (λ f. f.number.0) fields.now))) }
     ensures changes { OnOk result (outcome.new.changes.items ≡ outcome.old.changes.items
-        ++ changes_to (wants_of set.now.setup set.now.set opening.entry) (map (λ f. f.number.0) fields.now)) }
+        ++ changes_to (wants_of set.now.setup set.now.set opening.entry)
+        (map (λ f. f.number.0) fields.now)) }
 {
     for field in fields {
         put_outcome(alloc, set, opening, field.number, outcome)?;
@@ -336,7 +350,8 @@ pub fn outcome_of_all(
     opening: Option<Opening<'_>>,
 ) -> Result<Outcome, Memory>
     ensures fault { IfOk result (λ outcome. option_map (λ f. f.0) outcome.fault
-        ≡ field_at_fault (names_in set.now.setup) (wants_of set.now.setup set.now.set opening.entry)) }
+        ≡ field_at_fault (names_in set.now.setup)
+        (wants_of set.now.setup set.now.set opening.entry)) }
     ensures changes { IfOk result (λ outcome. outcome.changes.items
         ≡ changes_of (names_in set.now.setup) (wants_of set.now.setup set.now.set opening.entry)) }
 {
