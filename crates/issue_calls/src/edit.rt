@@ -17,7 +17,7 @@ ghost use Rattle.tracker_state.specs.Plan.{IsPrepared};
 use crate::check::{check_bytes, check_closed, check_entries, check_set, known_values};
 use crate::group::{GroupCall, grouped};
 use change_history::{Change, Issue};
-use fields::{Memory, Permission, UserNo};
+use fields::{Permission, UserNo};
 use std::alloc::Global;
 use tracker_calls::{GivenField, Refusal};
 use tracker_state::{Prepared, State, check_access, known_issue};
@@ -98,42 +98,34 @@ fn change(
         IsPrepared (grouped (edit_answer name.now) state.old.machine caller.0 place h
         (net_changes (present h) changes.items)) state.new result) }
 {
-    let net = news(alloc, state, place, changes)?;
+    let net = news(state, place, changes);
     grouped(alloc, state, caller, GroupCall::Edit, place, name, net)
 }
 
 // The values that differ from the present ones.
-fn news(
-    alloc: Global,
-    state: &State,
-    place: usize,
-    changes: Vec<Change>,
-) -> Result<Vec<Change>, Memory>
+fn news(state: &State, place: usize, changes: Vec<Change>) -> Vec<Change>
     requires there { place < length state.now.machine.histories }
     requires fitting { AllFit (names_in state.now.machine.setup) changes.items }
     requires sprints { AreOfSprints (length state.now.machine.sprints) changes.items }
-    ensures net { IfOk result (λ net. IfSome (slice_get state.now.machine.histories place) (λ h.
-        net.items ≡ net_changes (present h) changes.items)) }
-    ensures news { IfOk result (λ net. IfSome (slice_get state.now.machine.histories place) (λ h.
-        AreNews (present h) 0 net.items)) }
-    ensures fitting { IfOk result (λ net. AllFit (names_in state.now.machine.setup) net.items) }
-    ensures sprints { IfOk result (λ net.
-        AreOfSprints (length state.now.machine.sprints) net.items) }
+    ensures net { IfSome (slice_get state.now.machine.histories place) (λ h.
+        result.items ≡ net_changes (present h) changes.items) }
+    ensures news { IfSome (slice_get state.now.machine.histories place) (λ h.
+        AreNews (present h) 0 result.items) }
+    ensures fitting { AllFit (names_in state.now.machine.setup) result.items }
+    ensures sprints { AreOfSprints (length state.now.machine.sprints) result.items }
 {
     let Some(issue) = state.issue_at(place) else {
         unreachable!()
     };
-    news_of(alloc, issue, changes)
+    news_of(issue, changes)
 }
 
-fn news_of(alloc: Global, issue: &Issue, changes: Vec<Change>) -> Result<Vec<Change>, Memory>
-    ensures net { IfOk result (λ net. net.items
-        ≡ net_changes (present issue.now.history) changes.items) }
-    ensures news { IfOk result (λ net. AreNews (present issue.now.history) 0 net.items) }
-    ensures fitting { IfOk result (λ net. (names : Names) → AllFit names changes.items →
-        AllFit names net.items) }
-    ensures sprints { IfOk result (λ net. (count : ℕ) →
-        AreOfSprints count changes.items → AreOfSprints count net.items) }
+fn news_of(issue: &Issue, changes: Vec<Change>) -> Vec<Change>
+    ensures net { result.items ≡ net_changes (present issue.now.history) changes.items }
+    ensures news { AreNews (present issue.now.history) 0 result.items }
+    ensures fitting { (names : Names) → AllFit names changes.items → AllFit names result.items }
+    ensures sprints { (count : ℕ) → AreOfSprints count changes.items
+        → AreOfSprints count result.items }
 {
-    net_changes(alloc, issue, changes)
+    net_changes(issue, changes)
 }

@@ -18,6 +18,7 @@ use std::alloc::Global;
 use tracker_calls::{Answer, Refusal, ToldText};
 use tracker_state::State;
 use wanted_values::Opening;
+use workflow::is_same;
 
 /// What a create tells where the issue at a place has its external id. It is refused where that issue
 /// was created as another one.
@@ -143,10 +144,4 @@ fn has_summary(issue: &Issue, summary: &str) -> bool
         Value::Text(text) => text.as_str() == summary,
         _ => false,
     }
-}
-
-fn is_same(one: &Value, other: &Value) -> bool
-    ensures { result ≡ same_value one.now other.now }
-{
-    one.is_same(other)
 }

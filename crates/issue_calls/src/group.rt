@@ -276,7 +276,7 @@ fn entries_of(
     ensures { IfOk result (λ entries. entries
         ≡ entries_of (present issue.now.history) change at author changes.items) }
 {
-    let mut entries = Entries::new(alloc);
+    let mut entries = Entries::with_capacity(alloc, changes.len())?;
     for next in changes {
         let Change { field, to } = next;
         let from = issue.value(field).copy(alloc)?;

@@ -5,7 +5,6 @@ mod check;
 pub mod create;
 mod due;
 pub mod edit;
-mod empty;
 mod external;
 mod group;
 pub mod history;

@@ -18,7 +18,6 @@ ghost use Rattle.tracker_work.specs.Work.{HasRoomFor};
 ghost use Rattle.tracker_keeper.specs.Forms.{are_opening};
 
 use crate::due::NewValues;
-use crate::empty::is_empty;
 use crate::rows::row_ops;
 use board::Place;
 use change_history::{Change, Changes, Issue, Key};
@@ -30,6 +29,7 @@ use tracker_keeper::{Created, Row, RowOp, issue_text};
 use tracker_state::no_room::refusal_of;
 use tracker_state::{IssuePlan, NewExternal, Plan, Prepared, State, external_op, put_rank};
 use wanted_values::bytes_of_changes;
+use workflow::is_empty;
 
 /// The issue with these values, behind all others, ready to come; or no rank is left there.
 pub fn place_last(
@@ -207,7 +207,7 @@ fn new_issue(
         (filled values.changes.items))) }
 {
     let NewValues { project, changes } = values;
-    let opening = filled(alloc, changes)?;
+    let opening = filled(changes);
     let bytes = bytes_of_changes(opening.as_slice());
     let external = new_external(alloc, external)?;
     let (issue, key, row) = issue_in(alloc, state, caller, project, opening)?;
@@ -312,15 +312,17 @@ fn next_key(alloc: Global, state: &State, project: ProjectNo) -> Result<Key, Mem
     Key::of(alloc, state.project_key(project), count + 1)
 }
 
-// The changes that aren't to nothing.
-fn filled(alloc: Global, changes: Vec<Change>) -> Result<Changes, Memory>
-    ensures { IfOk result (λ kept. kept ≡ filled changes.items) }
+// The changes that aren't to nothing. They stay in their list, which has room for little more.
+fn filled(changes: Vec<Change>) -> Changes
+    ensures { result ≡ filled changes.items }
 {
-    let mut kept = Changes::new(alloc);
-    for change in changes {
-        if !is_empty(&change.to) {
-            kept.push(change)?;
-        }
-    }
-    Ok(kept)
+    let mut kept = changes;
+    keep_filled(&mut kept);
+    Changes::of(kept)
+}
+
+fn keep_filled(changes: &mut Vec<Change>)
+    ensures { changes.new.items ≡ filled changes.old.items }
+{
+    changes.retain(|change| !is_empty(&change.to));
 }

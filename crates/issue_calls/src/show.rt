@@ -36,7 +36,8 @@ pub fn check_show(
     issue: &str,
 ) -> Result<usize, Refusal>
     ensures check { Checks (show_refusal state.now.machine caller.0 issue.now) result }
-    ensures place { IfOk result (λ place. history_named state.now.machine issue.now ≡ slice_get state.now.machine.histories place) }
+    ensures place { IfOk result (λ place. history_named state.now.machine issue.now
+        ≡ slice_get state.now.machine.histories place) }
     ensures there { IfOk result (λ place. place < length state.now.machine.histories) }
 {
     let place = known_issue(alloc, state, issue)?;
@@ -46,7 +47,8 @@ pub fn check_show(
 
 fn shown(alloc: Global, state: &State, place: usize) -> Result<Answer, Memory>
     requires { place < length state.now.machine.histories }
-    ensures { IfOk result (λ answer. answer ≡ show_answer_of state.now.machine (slice_get state.now.machine.histories place)) }
+    ensures { IfOk result (λ answer. answer ≡ show_answer_of state.now.machine
+        (slice_get state.now.machine.histories place)) }
 {
     let Some(issue) = state.issue_at(place) else {
         unreachable!()
@@ -56,7 +58,9 @@ fn shown(alloc: Global, state: &State, place: usize) -> Result<Answer, Memory>
 
 fn issue_answer(alloc: Global, setup: &Setup, issue: &Issue) -> Result<Answer, Memory>
     requires { (f : FieldNo) → Holds (names_in (parts setup.now)) f (present issue.now.history f) }
-    ensures { IfOk result (λ answer. answer ≡ Answer.Show issue.now.history.at (shown_issue (names_in (parts setup.now)) issue.now.history) issue.now.history.key (updated issue.now.history)) }
+    ensures { IfOk result (λ answer. answer ≡ Answer.Show issue.now.history.at
+        (shown_issue (names_in (parts setup.now)) issue.now.history) issue.now.history.key
+        (updated issue.now.history)) }
 {
     let fields = shown_issue(alloc, setup, issue)?;
     let key = ToldText::copy_of(alloc, issue.key().as_str())?;
@@ -71,7 +75,8 @@ fn issue_answer(alloc: Global, setup: &Setup, issue: &Issue) -> Result<Answer, M
 // All fields that aren't empty.
 fn shown_issue(alloc: Global, setup: &Setup, issue: &Issue) -> Result<ShownFields, Memory>
     requires { (f : FieldNo) → Holds (names_in (parts setup.now)) f (present issue.now.history f) }
-    ensures { IfOk result (λ fields. fields ≡ shown_issue (names_in (parts setup.now)) issue.now.history) }
+    ensures { IfOk result (λ fields. fields
+        ≡ shown_issue (names_in (parts setup.now)) issue.now.history) }
 {
     let mut fields = ShownFields::new(alloc);
     put_fields(alloc, setup, issue, built_in_fields(), &mut fields)?;
@@ -89,7 +94,8 @@ fn put_fields(
 ) -> Result<(), Memory>
     requires { (f : FieldNo) → Holds (names_in (parts setup.now)) f (present issue.now.history f) }
     ensures { OnOk result (fields.new ≡ fields.old
-        ++ shown_fields (names_in (parts setup.now)) issue.now.history (map (λ f. f.0) numbers.now)) }
+        ++ shown_fields (names_in (parts setup.now)) issue.now.history
+        (map (λ f. f.0) numbers.now)) }
 {
     for field in numbers {
         put_field(alloc, setup, issue, *field, fields)?;
@@ -107,7 +113,8 @@ fn put_own_fields(
 ) -> Result<(), Memory>
     requires { (f : FieldNo) → Holds (names_in (parts setup.now)) f (present issue.now.history f) }
     ensures { OnOk result (fields.new ≡ fields.old
-        ++ shown_fields (names_in (parts setup.now)) issue.now.history (map (λ f. f.number.0) own.now)) }
+        ++ shown_fields (names_in (parts setup.now)) issue.now.history
+        (map (λ f. f.number.0) own.now)) }
 {
     for field in own {
         put_field(alloc, setup, issue, field.number, fields)?;
@@ -125,7 +132,8 @@ fn put_field(
 ) -> Result<(), Memory>
     requires { Holds (names_in (parts setup.now)) field (present issue.now.history field) }
     ensures { OnOk result (fields.new ≡ fields.old
-        ++ with_shown (field_name setup.now.field field.0) (shown_value (names_in (parts setup.now)) field.0 (present issue.now.history field)) []) }
+        ++ with_shown (field_name setup.now.field field.0)
+        (shown_value (names_in (parts setup.now)) field.0 (present issue.now.history field)) []) }
 {
     let Some(value) = shown_value(alloc, setup, field, issue.value(field))? else {
         return Ok(());

@@ -1,5 +1,4 @@
 use Rattle.std.proofs.Common.{List, subst, sym}
-use Rattle.std.proofs.lemmas.Result.{IfOk-weaker}
 use Rattle.change_history.specs.declared.change.Change.{Change}
 use Rattle.change_history.specs.History.{present}
 use Rattle.workflow.specs.Difference.{AreNews}
@@ -13,14 +12,14 @@ use Rattle.issue_calls.proofs.edit.news_of.Goals as goal
 pub returns-clause-news : goal.returns-clause-news
 returns-clause-news c =
     let before = present c.args.issue.now.history in
-    IfOk-weaker c.net_changes.result _ _ (λ net is. subst (λ (cs : List Change). AreNews before 0 cs) (sym is) (net_is before c.args.changes.items).news) c.net_changes.ensures
+    subst (λ (cs : List Change). AreNews before 0 cs) (sym c.net_changes.ensures) (net_is before c.args.changes.items).news
 
 pub returns-clause-fitting : goal.returns-clause-fitting
-returns-clause-fitting c =
+returns-clause-fitting c = λ names fit.
     let before = present c.args.issue.now.history in
-    IfOk-weaker c.net_changes.result _ _ (λ net is names fit. subst (λ (cs : List Change). AllFit names cs) (sym is) (fits_net names before c.args.changes.items fit)) c.net_changes.ensures
+    subst (λ (cs : List Change). AllFit names cs) (sym c.net_changes.ensures) (fits_net names before c.args.changes.items fit)
 
 pub returns-clause-sprints : goal.returns-clause-sprints
-returns-clause-sprints c =
+returns-clause-sprints c = λ count all.
     let before = present c.args.issue.now.history in
-    IfOk-weaker c.net_changes.result _ _ (λ net is count all. subst (λ (cs : List Change). AreOfSprints count cs) (sym is) (net_of_sprints count before c.args.changes.items all)) c.net_changes.ensures
+    subst (λ (cs : List Change). AreOfSprints count cs) (sym c.net_changes.ensures) (net_of_sprints count before c.args.changes.items all)
