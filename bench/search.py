@@ -12,7 +12,6 @@ import os
 import sys
 import tempfile
 
-ISSUES = int(sys.argv[2]) if len(sys.argv) > 2 else 10_000
 EACH = 200
 START = 1_709_251_200
 
@@ -34,10 +33,10 @@ def line(user, call, **members):
     return json.dumps({'user': user, 'call': call, **members})
 
 
-def load():
-    """The lines that make the issues and change each of them three times."""
+def load(issues):
+    """The lines that make so many issues and change each of them three times."""
     users, words = ['anna', 'bo', 'root'], ['login', 'logout', 'search', 'board', 'report']
-    for number in range(1, ISSUES + 1):
+    for number in range(1, issues + 1):
         key, user = f'OPS-{number}', users[number % 3]
         yield line('anna', 'tick', to=START + 10 * number)
         yield line(user, 'create', project='OPS', type='Task', summary=f'{words[number % 5]} fails at step {number}', set={
@@ -73,9 +72,10 @@ def fastest(program, lines):
 
 def main():
     program = sys.argv[1]
-    issues = list(load())
+    number = int(sys.argv[2]) if len(sys.argv) > 2 else 10_000
+    issues = list(load(number))
     alone, memory = fastest(program, issues)
-    print(f'{len(issues)} lines for {ISSUES} issues: {alone:.2f} s of processor time, {len(issues) / alone:,.0f} lines a second; {memory:.0f} MB at most')
+    print(f'{len(issues)} lines for {number} issues: {alone:.2f} s of processor time, {len(issues) / alone:,.0f} lines a second; {memory:.0f} MB at most')
     total = 0
     for jql in KINDS:
         took, memory = fastest(program, issues + [line('cy', 'search', jql=jql)] * EACH)

@@ -31,7 +31,6 @@ use Rattle.fields.specs.Naming.{field_numbers}
 use Rattle.change_history.specs.declared.change.Change.{Change}
 use Rattle.change_history.specs.declared.entry.Entry.{Entry}
 use Rattle.change_history.specs.History.{History, present, opening_value, value_after}
-use Rattle.change_history.proofs.Placing.{value_after-append}
 use Rattle.workflow.specs.Net.{with_changes, put_change, put_changes, is_news, net_changes}
 use Rattle.workflow.specs.Difference.{entries_of}
 use Rattle.workflow.specs.PostFunctions.{change, post_change, with_post}
@@ -298,6 +297,10 @@ planned_of_sprints setup h caller t inputs count sound fit all =
     (posts_known (names_in setup) count setup h caller (inputs ++ to ∷ []) t.post (post_rules (names_in setup) t sound) inputs_known))
 
 -- ---- the sprint that an issue is in
+
+value_after-append : (v : Value) (xs ys : List Entry) (f : FieldNo) → value_after v (xs ++ ys) f ≡ value_after (value_after v xs f) ys f
+value_after-append v [] ys f = refl
+value_after-append v (x ∷ xs) ys f = value_after-append (if x.field.0 == f.0 then x.to else v) xs ys f
 
 in_after : (v : Value) (es : List Entry) → sprint_in (value_after v es number.SPRINT) ≡ sprint_after (sprint_in v) es
 in_after v [] = refl
