@@ -8,8 +8,9 @@ usage: python3 tools/libraries.py [--lanes N] [CRATE..]
 The first form builds what the crates stand on and the crates themselves, all where none is named, at most N at a time (all processors
 by default), and tells the time of each. The second checks a crate over the libraries as they are. `rt check` builds the crates below one
 after another, and sums their sources anew on each path that leads to them, of which the command line has some twelve thousand; here each
-crate is summed once. The third takes the libraries that a running `rt ci` has proved so far of the same sources, by hard links, from the
-checkout that it runs in, or from the copies of runs that were given names: checks here stand on them, and what lies below isn't proved twice.
+crate is summed once. The third takes the libraries that a running `rt ci` has proved so far of the same sources, their own and those
+below, by hard links, from the checkout that it runs in, or from the copies of runs that were given names: checks here stand on them, and
+what lies below isn't proved twice.
 Nothing is to be edited while any of them runs, and only `rt ci` gives a verdict. The status is 1 where a crate isn't proved.
 """
 import concurrent.futures
@@ -85,14 +86,21 @@ def same_sources(one, other):
 
 
 def link(crates, checkouts):
-    """Takes each library that lacks here from the first of the checkouts that has it of the same sources."""
+    """Takes each library that lacks here from the first of the checkouts that has it of the same sources, those below it among them."""
+    def is_same(top, crate, seen):
+        if (top, crate.name) not in seen:
+            of = f'{top}/crates/{crate.name}'
+            seen[top, crate.name] = os.path.isdir(of) and same_sources(of, crate.folder) and all(is_same(top, it, seen) for it in crate.deps)
+        return seen[top, crate.name]
+
+    seen = {}
     for crate in crates:
         if not crate.makes_rlib() or crate.is_built():
             continue
         for top in checkouts:
             of, to = f'{top}/crates/{crate.name}', f'{crate.folder}/out/rlib'
             library = f'out/rlib/{crate.name}.rlib'
-            if os.path.isfile(f'{of}/{library}/format') and same_sources(of, crate.folder):
+            if os.path.isfile(f'{of}/{library}/format') and is_same(top, crate, seen):
                 shutil.rmtree(to, ignore_errors=True)
                 shutil.copytree(f'{of}/{library}', f'{crate.folder}/{library}', copy_function=os.link)
                 pathlib.Path(f'{to}/stamp').write_text(crate.stamp(), encoding='utf-8')
