@@ -3,15 +3,17 @@
 
 usage: python3 bench/generate.py PROGRAM
 
-PROGRAM is the built tracker, as crates/tracker/out/tracker after `rt run` there. Of three runs the fastest counts, by its processor time (user
-and system), with its peak memory. The status is 1 where four times the issues in memory take 4.6 times as long or longer, or 20,000 take
-more than 3 seconds.
+PROGRAM is the built tracker, as crates/tracker/out/tracker after `rt run` there. Of seven runs the fastest counts, by its processor time (user
+and system), with its peak memory. The three numbers take turns, since a machine may be slower for a while, and of how many times as long
+as the run before one takes the median counts. The status is 1 where four times the issues in memory take 4.6 times as long or longer, or
+20,000 take more than 3 seconds.
 """
 import os
+import statistics
 import sys
 import tempfile
 
-RUNS = 3
+RUNS = 7
 MOST_SECONDS = 3
 MOST_TIMES = 4.6
 
@@ -31,24 +33,22 @@ def ran(program, store, number):
         return used.ru_utime + used.ru_stime, used.ru_maxrss / 1024, told.read().decode().strip()
 
 
-def fastest(program, number, file):
-    """The fastest of some runs, each over a store of its own."""
-    def once():
-        with tempfile.TemporaryDirectory() as room:
-            return ran(program, f'{room}/rows' if file else ':memory:', number)
-    return min(once() for _ in range(RUNS))
+def once(program, number, file):
+    """A run over a store of its own."""
+    with tempfile.TemporaryDirectory() as room:
+        return ran(program, f'{room}/rows' if file else ':memory:', number)
 
 
 def main():
-    program, before, slow = sys.argv[1], None, False
-    for number in (1_250, 5_000, 20_000):
-        seconds, peak, told = fastest(program, number, False)
-        times = f', {seconds / before:.1f} times as long' if before else ''
-        print(f'{number} issues: {seconds:.2f} s{times}, {peak:.0f} MB, {told}')
-        slow = slow or bool(before) and seconds >= MOST_TIMES * before
-        before = seconds
-    slow = slow or before > MOST_SECONDS
-    seconds, peak, told = fastest(program, 5_000, True)
+    program, slow = sys.argv[1], False
+    numbers = (1_250, 5_000, 20_000)
+    rounds = [[once(program, number, False) for number in numbers] for _ in range(RUNS)]
+    for place, number in enumerate(numbers):
+        seconds, peak, told = min(runs[place] for runs in rounds)
+        times = statistics.median(runs[place][0] / runs[place - 1][0] for runs in rounds) if place else 0
+        print(f'{number} issues: {seconds:.2f} s{f", {times:.1f} times as long" if place else ""}, {peak:.0f} MB, {told}')
+        slow = slow or times >= MOST_TIMES or seconds > MOST_SECONDS
+    seconds, peak, told = min(once(program, 5_000, True) for _ in range(RUNS))
     print(f'5000 issues over a file: {seconds:.2f} s, {peak:.0f} MB, {told}')
     sys.exit(slow)
 
