@@ -1,4 +1,5 @@
 pub mod Checked
+pub mod Cutting
 pub mod Ops
 pub mod Parted
 pub mod Passes

@@ -11,7 +11,7 @@ ghost use Rattle.tracker_state.specs.State.{saved_as};
 use crate::browsing::may_browse;
 use crate::check::known_filter;
 use crate::in_order::put_in_order;
-use crate::listing::{count_of, keys_of};
+use crate::listing::{count_of, end_of, keys_of};
 use change_history::Issue;
 use fields::{FilterNo, IssueNo, Memory, UserNo};
 use std::alloc::Global;
@@ -50,7 +50,7 @@ fn told(
     state.have_seen();
     let mut issues = shown(alloc, state, caller, filter)?;
     let total = count_of(&issues);
-    put_in_order(alloc, state, &filter.query.order, &mut issues)?;
+    put_in_order(alloc, state, &filter.query.order, end_of(part), &mut issues)?;
     let issues = keys_of(alloc, part_of(&issues, part))?;
     Ok(Answer::Filter { issues, total })
 }

@@ -7,6 +7,7 @@ mod check;
 pub mod drop_board;
 pub mod drop_filter;
 pub mod filter_issues;
+mod foremost;
 mod in_order;
 mod listing;
 pub mod make_board;

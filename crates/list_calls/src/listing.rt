@@ -1,9 +1,10 @@
 // Issues as answers list them: their keys and their number.
-ghost use Rattle.std.specs.Prelude.{◌≡◌, IfOk, length, map};
+ghost use Rattle.std.specs.Prelude.{◌≡◌, ◌+◌, IfOk, length, map};
 
 use change_history::Issue;
 use fields::{Memory, Names, Text};
 use std::alloc::Global;
+use tracker_calls::Part;
 
 /// The issues' keys.
 pub fn keys_of(alloc: Global, issues: &[&Issue]) -> Result<Names, Memory>
@@ -21,4 +22,11 @@ pub fn count_of(issues: &[&Issue]) -> u64
     ensures { result ≡ length (map (λ i. i.now.history) issues.now) }
 {
     issues.len() as u64
+}
+
+/// How many issues a part reaches over, from the first of all.
+pub fn end_of(part: Part) -> usize
+    ensures { result ≡ part.from + part.count }
+{
+    part.from as usize + part.count as usize
 }

@@ -9,7 +9,7 @@ ghost use Rattle.list_calls.specs.Browsing.{is_found_by};
 
 use crate::browsing::{browsable, is_browsable};
 use crate::in_order::put_in_order;
-use crate::listing::{count_of, keys_of};
+use crate::listing::{count_of, end_of, keys_of};
 use change_history::Issue;
 use fields::{Memory, Steps, UserNo};
 use jql_bound::Bound;
@@ -75,7 +75,7 @@ fn told<L: Ledger>(
 {
     let mut issues = found(alloc, state, caller, bound, steps)?;
     let total = count_of(&issues);
-    put_in_order(alloc, state, &bound.order, &mut issues)?;
+    put_in_order(alloc, state, &bound.order, end_of(part), &mut issues)?;
     let issues = keys_of(alloc, part_of(&issues, part))?;
     Ok(Answer::Search { issues, total })
 }
