@@ -9,13 +9,15 @@ use Rattle.tracker_machine.specs.Run.{AnswersLine, RepliesTo, failures_at}
 pub use Rattle.tracker_import.specs.Calls.{RoseBy}
 
 -- the reply to a line and the state after it, under some mark; and where that is of a keeper that failed, its count rose
-pub record IsReplied (old : Machine) (line : List ℕ) (reply : Reply) (new : Machine) (before now : ℕ) : Type 0 where
+pub record IsReplied (old : Machine) (line : List ℕ) (reply : Reply) (new : Machine)
+    (before now : ℕ) : Type 0 where
   pub replies : RepliesTo old line reply new
   pub counted : RoseBy before now (failures_at replies.mark)
 
 -- the line is answered as the abstract tracker answers it; the keeper has the tracker's rows then, if it had them before; and
 -- where the line is answered that the keeper failed, its count rose
-pub record AnswersKept {P : Type 0} (keeps : P → Rows → Type 0) (tells : P → Type 0) (faults : P → ℕ) (old : DeskParts P) (line text : List ℕ) (new : DeskParts P) : Type 0 where
+pub record AnswersKept {P : Type 0} (keeps : P → Rows → Type 0) (tells : P → Type 0)
+    (faults : P → ℕ) (old : DeskParts P) (line text : List ℕ) (new : DeskParts P) : Type 0 where
   pub failures : ℕ
   pub answered : AnswersLine old.machine line text new.machine failures
   pub rows : keeps old.keeper (rows_of old.machine) → keeps new.keeper (rows_of new.machine)

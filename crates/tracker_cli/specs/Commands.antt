@@ -15,24 +15,30 @@ use Rattle.tracker_cli.specs.Outcome.{BeginsIn, HasRowsOf, GrewBy, GrewByFront, 
 use Rattle.tracker_cli.specs.Texts.{csv_line, load_line}
 
 -- a desk was opened, and no call was made: the keeper has the rows of the state where the desk began
-abbrev pub Stands : {P : Type 0} → (P → Rows → Type 0) → (P → Type 0) → (P → ℕ) → List ℕ → P → P → Type 0
+abbrev pub Stands : {P : Type 0} → (P → Rows → Type 0) → (P → Type 0) → (P → ℕ) → List ℕ → P → P
+    → Type 0
 Stands keeps tells faults setup_text old new =
-    (start : Machine) × BeginsIn keeps tells setup_text old new start × HasRowsOf keeps tells faults old new start 0
+    (start : Machine) × BeginsIn keeps tells setup_text old new start
+    × HasRowsOf keeps tells faults old new start 0
 
 -- ---- export
 
 -- the text is all issues of the state where a desk began, whose rows the keeper has
-abbrev pub IsExported : {P : Type 0} → (P → Rows → Type 0) → (P → Type 0) → (P → ℕ) → List ℕ → P → P → List ℕ → Type 0
+abbrev pub IsExported : {P : Type 0} → (P → Rows → Type 0) → (P → Type 0) → (P → ℕ) → List ℕ → P → P
+    → List ℕ → Type 0
 IsExported keeps tells faults setup_text old new text =
-    (start : Machine) × BeginsIn keeps tells setup_text old new start × HasRowsOf keeps tells faults old new start 0 × (text ≡ export_text start)
+    (start : Machine) × BeginsIn keeps tells setup_text old new start
+    × HasRowsOf keeps tells faults old new start 0 × (text ≡ export_text start)
 
 -- what comes of `export`, where `Exported` says which texts are those of all issues, `Same` that the keeper has the rows that it had,
 -- and `Bad` which of them is the first bad one
-pub record ExportedEnd (Exported : List ℕ → Type 0) (Same : Type 0) (Bad : ℕ → ℕ → Type 0) (status : ℕ) (left after old new : Option (List ℕ)) : Type 0 where
+pub record ExportedEnd (Exported : List ℕ → Type 0) (Same : Type 0) (Bad : ℕ → ℕ → Type 0)
+    (status : ℕ) (left after old new : Option (List ℕ)) : Type 0 where
   -- the issues were written
   pub done : status ≡ 0 → GrewBy old new Exported
   -- a write failed: a front of the issues was written, or of the text on a bad row
-  pub written : status ≡ 3 → GrewByFront old new Exported ⊎ (GrewByFront old new (IsKeptText Bad) × Same)
+  pub written : status ≡ 3
+      → GrewByFront old new Exported ⊎ (GrewByFront old new (IsKeptText Bad) × Same)
   -- the keeper failed before, and nothing was written
   pub unopened : status ≡ 4 → (new ≡ old) × Same
   -- a row is bad, which is told
@@ -51,35 +57,48 @@ import_limit = 67_108_864
 
 -- this text is the replies to these calls of the user, from where a desk began, under some marks, and the last state is kept, where
 -- so many calls were answered that the keeper failed
-abbrev pub AreImported : {P : Type 0} → (P → Rows → Type 0) → (P → Type 0) → (P → ℕ) → List ℕ → P → P → List ℕ → List Call → List ℕ → Type 0
+abbrev pub AreImported : {P : Type 0} → (P → Rows → Type 0) → (P → Type 0) → (P → ℕ) → List ℕ → P
+    → P → List ℕ → List Call → List ℕ → Type 0
 AreImported keeps tells faults setup_text old new user calls text =
-    (start : Machine) × (last : Machine) × (failures : ℕ) × BeginsIn keeps tells setup_text old new start
-    × AreMade user start calls text last failures × HasRowsOf keeps tells faults old new last failures
+    (start : Machine) × (last : Machine) × (failures : ℕ)
+    × BeginsIn keeps tells setup_text old new start
+    × AreMade user start calls text last failures
+    × HasRowsOf keeps tells faults old new last failures
 
 -- this text is the replies to the first of these calls, and then at most a front of the next one's reply; no other call was made
-abbrev pub AreCutImported : {P : Type 0} → (P → Rows → Type 0) → (P → Type 0) → (P → ℕ) → List ℕ → P → P → List ℕ → List Call → List ℕ → Type 0
+abbrev pub AreCutImported : {P : Type 0} → (P → Rows → Type 0) → (P → Type 0) → (P → ℕ) → List ℕ → P
+    → P → List ℕ → List Call → List ℕ → Type 0
 AreCutImported keeps tells faults setup_text old new user calls text =
-    (start : Machine) × (last : Machine) × (failures : ℕ) × BeginsIn keeps tells setup_text old new start
-    × AreCutCalls user start calls text last failures × HasRowsOf keeps tells faults old new last failures
+    (start : Machine) × (last : Machine) × (failures : ℕ)
+    × BeginsIn keeps tells setup_text old new start
+    × AreCutCalls user start calls text last failures
+    × HasRowsOf keeps tells faults old new last failures
 
 -- no record of these bytes is bad, and each has its reply
-abbrev pub IsWholeImport : (List Call → List ℕ → Type 0) → Option (List ℕ) → Option (List ℕ) → List ℕ → Type 0
-IsWholeImport Made old new bytes = ((batch_in bytes).bad ≡ None) × GrewBy old new (Made (batch_in bytes).calls)
+abbrev pub IsWholeImport : (List Call → List ℕ → Type 0) → Option (List ℕ) → Option (List ℕ)
+    → List ℕ → Type 0
+IsWholeImport Made old new bytes =
+    ((batch_in bytes).bad ≡ None) × GrewBy old new (Made (batch_in bytes).calls)
 
 -- the replies to the records before the first bad one, and then its text
 abbrev pub IsRecordText : (List Call → List ℕ → Type 0) → List ℕ → List ℕ → Type 0
 IsRecordText Made bytes text =
-    (number : ℕ) × (whole : List ℕ) × ((batch_in bytes).bad ≡ Some number) × Made (batch_in bytes).calls whole × (text ≡ whole ++ csv_line number)
+    (number : ℕ) × (whole : List ℕ) × ((batch_in bytes).bad ≡ Some number)
+    × Made (batch_in bytes).calls whole × (text ≡ whole ++ csv_line number)
 
 -- or a front of its text
 abbrev pub IsCutRecordText : (List Call → List ℕ → Type 0) → List ℕ → List ℕ → Type 0
 IsCutRecordText Made bytes text =
-    (number : ℕ) × (whole : List ℕ) × (front : List ℕ) × (back : List ℕ) × ((batch_in bytes).bad ≡ Some number)
-    × Made (batch_in bytes).calls whole × (csv_line number ≡ front ++ back) × (text ≡ whole ++ front)
+    (number : ℕ) × (whole : List ℕ) × (front : List ℕ) × (back : List ℕ)
+    × ((batch_in bytes).bad ≡ Some number)
+    × Made (batch_in bytes).calls whole × (csv_line number ≡ front ++ back)
+    × (text ≡ whole ++ front)
 
 -- a write failed on the replies to the records of these bytes, or on the text of the first bad one
-abbrev pub IsUnwritten : (List Call → List ℕ → Type 0) → (List Call → List ℕ → Type 0) → Option (List ℕ) → Option (List ℕ) → List ℕ → Type 0
-IsUnwritten Made Cut old new bytes = GrewBy old new (Cut (batch_in bytes).calls) ⊎ GrewBy old new (IsCutRecordText Made bytes)
+abbrev pub IsUnwritten : (List Call → List ℕ → Type 0) → (List Call → List ℕ → Type 0)
+    → Option (List ℕ) → Option (List ℕ) → List ℕ → Type 0
+IsUnwritten Made Cut old new bytes =
+    GrewBy old new (Cut (batch_in bytes).calls) ⊎ GrewBy old new (IsCutRecordText Made bytes)
 
 -- the input is too long
 abbrev pub IsTooLong : Option (List ℕ) → Type 0
@@ -88,9 +107,12 @@ IsTooLong left = IfSome left (λ bytes. import_limit < length bytes)
 -- what comes of `import`, where these texts are the replies to calls, and those to calls that are cut short. `Unmade` says that a desk
 -- was opened and no call made, `Same` that the keeper has the rows that it had, and `Bad` which of them is the first bad one
 pub record ImportedEnd
-    (Made Cut : List Call → List ℕ → Type 0) (Unmade Same : Type 0) (Bad : ℕ → ℕ → Type 0) (status : ℕ) (left after old new : Option (List ℕ)) : Type 0 where
+    (Made Cut : List Call → List ℕ → Type 0) (Unmade Same : Type 0) (Bad : ℕ → ℕ → Type 0)
+    (status : ℕ) (left after old new : Option (List ℕ)) : Type 0 where
   -- the input was read to its end, and each of its records has its reply
-  pub done : status ≡ 0 → IfSome left (λ bytes. IsAtEnd after × (length bytes ≤ import_limit) × IsWholeImport Made old new bytes)
+  pub done : status ≡ 0
+      → IfSome left (λ bytes. IsAtEnd after × (length bytes ≤ import_limit)
+      × IsWholeImport Made old new bytes)
   -- a read failed, and nothing was written
   pub read : status ≡ 2 → (new ≡ old) × Unmade
   -- a write failed: a front of the replies was written; or all replies to the records before a bad one and a front of its text; or a
@@ -105,7 +127,8 @@ pub record ImportedEnd
   pub bad : status ≡ 5 → GrewBy old new (IsKeptText Bad) × Same
   -- want of memory: a front of the replies was written; or no call was made and nothing was written, with a desk or without one
   pub memory : status ≡ 6 →
-      IfSome left (λ bytes. GrewBy old new (Cut (batch_in bytes).calls)) ⊎ ((new ≡ old) × Unmade) ⊎ ((new ≡ old) × Same)
+      IfSome left (λ bytes. GrewBy old new (Cut (batch_in bytes).calls)) ⊎ ((new ≡ old) × Unmade)
+      ⊎ ((new ≡ old) × Same)
   -- the input is too long, which is told
   pub limit : status ≡ 7 → Appends old new limit_input × IsTooLong left × Unmade
   -- a record is bad: those before have their replies, and its text follows
@@ -120,7 +143,8 @@ HadNoRow keeps tells old new = (rows : Rows) → keeps old rows → tells new �
 
 -- the text tells what the load of that many issues comes to in a new tracker of this setup; and the keeper, which had no row, has the
 -- rows of the tracker behind it
-pub record IsGenerated {P : Type 0} (keeps : P → Rows → Type 0) (tells : P → Type 0) (faults : P → ℕ) (setup_text : List ℕ) (old new : P) (n : ℕ) (text : List ℕ) : Type 0 where
+pub record IsGenerated {P : Type 0} (keeps : P → Rows → Type 0) (tells : P → Type 0)
+    (faults : P → ℕ) (setup_text : List ℕ) (old new : P) (n : ℕ) (text : List ℕ) : Type 0 where
   pub start : Machine
   pub begins : IsNew setup_text start
   pub text_is : text ≡ load_line (load_summary n start)
@@ -129,7 +153,8 @@ pub record IsGenerated {P : Type 0} (keeps : P → Rows → Type 0) (tells : P �
 
 -- the first calls of that load were made in a new tracker, and no other one; and the keeper, which had no row, has the rows of the
 -- tracker behind them
-pub record IsBegun {P : Type 0} (keeps : P → Rows → Type 0) (tells : P → Type 0) (faults : P → ℕ) (setup_text : List ℕ) (old new : P) (n failures : ℕ) : Type 0 where
+pub record IsBegun {P : Type 0} (keeps : P → Rows → Type 0) (tells : P → Type 0) (faults : P → ℕ)
+    (setup_text : List ℕ) (old new : P) (n failures : ℕ) : Type 0 where
   pub start : Machine
   pub begins : IsNew setup_text start
   pub done : List Call
@@ -139,13 +164,16 @@ pub record IsBegun {P : Type 0} (keeps : P → Rows → Type 0) (tells : P → T
   pub kept : HasRowsOf keeps tells faults old new (end_of start done) failures
 
 -- a write failed on the text of a load, or on that on a row, which `Held` says that the keeper has
-abbrev pub IsUnwrittenLoad : (List ℕ → Type 0) → Type 0 → Type 0 → Option (List ℕ) → Option (List ℕ) → Type 0
-IsUnwrittenLoad Generated Same Held old new = GrewByFront old new Generated ⊎ (GrewByFront old new (λ due. due ≡ held) × Held × Same)
+abbrev pub IsUnwrittenLoad : (List ℕ → Type 0) → Type 0 → Type 0 → Option (List ℕ) → Option (List ℕ)
+    → Type 0
+IsUnwrittenLoad Generated Same Held old new =
+    GrewByFront old new Generated ⊎ (GrewByFront old new (λ due. due ≡ held) × Held × Same)
 
 -- what comes of `generate`, where `Generated` says which text tells what the load comes to, `Begun` that its first calls were made and
 -- that the keeper failed so often, `Same` that the keeper has the rows that it had, and `Held` that it has some
 pub record GeneratedEnd
-    (Generated : List ℕ → Type 0) (Begun : ℕ → Type 0) (Same Held : Type 0) (status : ℕ) (left after old new : Option (List ℕ)) : Type 0 where
+    (Generated : List ℕ → Type 0) (Begun : ℕ → Type 0) (Same Held : Type 0) (status : ℕ)
+    (left after old new : Option (List ℕ)) : Type 0 where
   -- all calls were made, and what they come to was written
   pub done : status ≡ 0 → GrewBy old new Generated
   pub written : status ≡ 3 → IsUnwrittenLoad Generated Same Held old new
@@ -162,23 +190,29 @@ pub record GeneratedEnd
 -- ---- on the way
 
 -- the keeper that a desk hands back has the rows of this state, if the desk's had its own, and its count rose by so many failures
-pub record HandsBack {P : Type 0} (keeps : P → Rows → Type 0) (tells : P → Type 0) (faults : P → ℕ) (old : DeskParts P) (new : P) (last : Machine) (failures : ℕ) : Type 0 where
+pub record HandsBack {P : Type 0} (keeps : P → Rows → Type 0) (tells : P → Type 0) (faults : P → ℕ)
+    (old : DeskParts P) (new : P) (last : Machine) (failures : ℕ) : Type 0 where
   pub rows : keeps old.keeper (rows_of old.machine) → keeps new (rows_of last)
   pub told : tells new → tells old.keeper
   pub counted : RoseBy (faults old.keeper) (faults new) failures
 
 -- this text is the replies to these calls that a desk made
-abbrev pub AreMadeFrom : {P : Type 0} → (P → Rows → Type 0) → (P → Type 0) → (P → ℕ) → DeskParts P → P → List ℕ → List Call → List ℕ → Type 0
+abbrev pub AreMadeFrom : {P : Type 0} → (P → Rows → Type 0) → (P → Type 0) → (P → ℕ) → DeskParts P
+    → P → List ℕ → List Call → List ℕ → Type 0
 AreMadeFrom keeps tells faults old new user calls text =
-    (last : Machine) × (failures : ℕ) × AreMade user old.machine calls text last failures × HandsBack keeps tells faults old new last failures
+    (last : Machine) × (failures : ℕ) × AreMade user old.machine calls text last failures
+    × HandsBack keeps tells faults old new last failures
 
 -- or to calls that are cut short
-abbrev pub AreCutFrom : {P : Type 0} → (P → Rows → Type 0) → (P → Type 0) → (P → ℕ) → DeskParts P → P → List ℕ → List Call → List ℕ → Type 0
+abbrev pub AreCutFrom : {P : Type 0} → (P → Rows → Type 0) → (P → Type 0) → (P → ℕ) → DeskParts P
+    → P → List ℕ → List Call → List ℕ → Type 0
 AreCutFrom keeps tells faults old new user calls text =
-    (last : Machine) × (failures : ℕ) × AreCutCalls user old.machine calls text last failures × HandsBack keeps tells faults old new last failures
+    (last : Machine) × (failures : ℕ) × AreCutCalls user old.machine calls text last failures
+    × HandsBack keeps tells faults old new last failures
 
 -- the first calls of a load were made by a desk, and its keeper handed back
-pub record IsBegunFrom {P : Type 0} (keeps : P → Rows → Type 0) (tells : P → Type 0) (faults : P → ℕ) (old : DeskParts P) (new : P) (n failures : ℕ) : Type 0 where
+pub record IsBegunFrom {P : Type 0} (keeps : P → Rows → Type 0) (tells : P → Type 0)
+    (faults : P → ℕ) (old : DeskParts P) (new : P) (n failures : ℕ) : Type 0 where
   pub done : List Call
   pub rest : List Call
   pub calls_are : load_calls n ≡ done ++ rest

@@ -51,14 +51,16 @@ IsImportOfSome words = (user : List ℕ) × IsImport words user
 
 -- the words are `generate` and this number of issues
 abbrev pub IsGenerate : List (List ℕ) → ℕ → Type 0
-IsGenerate words n = (word : List ℕ) × (words ≡ codes "generate" ∷ word ∷ []) × IsNumberOf 1 20_000 word n
+IsGenerate words n =
+    (word : List ℕ) × (words ≡ codes "generate" ∷ word ∷ []) × IsNumberOf 1 20_000 word n
 
 abbrev pub IsGenerateOfSome : List (List ℕ) → Type 0
 IsGenerateOfSome words = (n : ℕ) × IsGenerate words n
 
 -- the words are a command's
 abbrev pub IsCommand : List (List ℕ) → Type 0
-IsCommand words = IsOfLines words ⊎ IsInit words ⊎ IsExport words ⊎ IsImportOfSome words ⊎ IsGenerateOfSome words
+IsCommand words =
+    IsOfLines words ⊎ IsInit words ⊎ IsExport words ⊎ IsImportOfSome words ⊎ IsGenerateOfSome words
 
 -- ---- texts
 
@@ -80,32 +82,41 @@ limit_input = codes "limit input\n"
 -- ---- replies
 
 -- a run begins where the rows of the keeper are, or as a new tracker of that setup where there are none, so far as it tells them
-abbrev pub BeginsIn : {P : Type 0} → (P → Rows → Type 0) → (P → Type 0) → List ℕ → P → P → Machine → Type 0
-BeginsIn keeps tells setup_text old new m = (rows : Rows) → keeps old rows → tells new → IsOpened setup_text rows m
+abbrev pub BeginsIn : {P : Type 0} → (P → Rows → Type 0) → (P → Type 0) → List ℕ → P → P → Machine
+    → Type 0
+BeginsIn keeps tells setup_text old new m =
+    (rows : Rows) → keeps old rows → tells new → IsOpened setup_text rows m
 
 -- this text is the replies to these lines, from where a run begins, under some marks, and the last state is kept, where so many
 -- lines were answered that the keeper failed
-abbrev pub AreReplies : (Machine → Type 0) → (Machine → ℕ → Type 0) → List (List ℕ) → List ℕ → Type 0
+abbrev pub AreReplies : (Machine → Type 0) → (Machine → ℕ → Type 0) → List (List ℕ) → List ℕ
+    → Type 0
 AreReplies Begins Kept all text =
-    (start : Machine) × (last : Machine) × (failures : ℕ) × Begins start × IsRun start (requests all) text last failures × Kept last failures
+    (start : Machine) × (last : Machine) × (failures : ℕ) × Begins start
+    × IsRun start (requests all) text last failures × Kept last failures
 
 -- this text is the replies to the first lines of an input, and then at most a front of the next one's reply; no other call was
 -- made, so that `last` is the state after them, and it is kept; or no desk was opened, and there is no text
-abbrev pub AreCutReplies : (Machine → Type 0) → (Machine → ℕ → Type 0) → Type 0 → List ℕ → List ℕ → Type 0
+abbrev pub AreCutReplies : (Machine → Type 0) → (Machine → ℕ → Type 0) → Type 0 → List ℕ → List ℕ
+    → Type 0
 AreCutReplies Begins Kept Unopened bytes text =
     ((text ≡ []) × Unopened)
-    ⊎ ((start : Machine) × (last : Machine) × (failures : ℕ) × Begins start × IsCutRun start (lines bytes) text last failures × Kept last failures)
+    ⊎ ((start : Machine) × (last : Machine) × (failures : ℕ) × Begins start
+    × IsCutRun start (lines bytes) text last failures × Kept last failures)
 
 -- each line, taken as a query, has its reply, one behind another
 abbrev pub AreChecked : List (List ℕ) → List ℕ → Type 0
 AreChecked [] text = text ≡ []
-AreChecked (line ∷ more) text = (first : List ℕ) × (rest : List ℕ) × IsReply line first × (text ≡ first ++ rest) × AreChecked more rest
+AreChecked (line ∷ more) text =
+    (first : List ℕ) × (rest : List ℕ) × IsReply line first × (text ≡ first ++ rest)
+    × AreChecked more rest
 
 -- after the lines that are done, nothing, or a front of the reply to the next one, which is within the limits too
 abbrev pub IsFrontOfCheck : List (List ℕ) → List (List ℕ) → List ℕ → Type 0
 IsFrontOfCheck done rest front =
     (front ≡ [])
-    ⊎ ((line : List ℕ) × (more : List (List ℕ)) × (text : List ℕ) × (back : List ℕ) × (rest ≡ line ∷ more)
+    ⊎ ((line : List ℕ) × (more : List (List ℕ)) × (text : List ℕ) × (back : List ℕ)
+    × (rest ≡ line ∷ more)
     × AreWithinLimits (done ++ line ∷ []) × IsReply line text × (text ≡ front ++ back))
 
 -- the first lines of an input have their whole replies, and at most the next one has a front of its reply
@@ -121,17 +132,22 @@ pub record AreCutChecks (bytes text : List ℕ) : Type 0 where
   pub text_is : text ≡ whole ++ front
 
 -- this text is what the words' command replies to these lines
-abbrev pub AreRepliesOf : (Machine → Type 0) → (Machine → ℕ → Type 0) → List (List ℕ) → List (List ℕ) → List ℕ → Type 0
-AreRepliesOf Begins Kept words all text = (IsExec words × AreReplies Begins Kept all text) ⊎ (IsCheck words × AreChecked all text)
+abbrev pub AreRepliesOf : (Machine → Type 0) → (Machine → ℕ → Type 0) → List (List ℕ)
+    → List (List ℕ) → List ℕ → Type 0
+AreRepliesOf Begins Kept words all text =
+    (IsExec words × AreReplies Begins Kept all text) ⊎ (IsCheck words × AreChecked all text)
 
 -- this text is what it has replied to an input when it is cut short
-abbrev pub AreCutRepliesOf : (Machine → Type 0) → (Machine → ℕ → Type 0) → Type 0 → List (List ℕ) → List ℕ → List ℕ → Type 0
+abbrev pub AreCutRepliesOf : (Machine → Type 0) → (Machine → ℕ → Type 0) → Type 0 → List (List ℕ)
+    → List ℕ → List ℕ → Type 0
 AreCutRepliesOf Begins Kept Unopened words bytes text =
-    (IsExec words × AreCutReplies Begins Kept Unopened bytes text) ⊎ (IsCheck words × AreCutChecks bytes text)
+    (IsExec words × AreCutReplies Begins Kept Unopened bytes text)
+    ⊎ (IsCheck words × AreCutChecks bytes text)
 
 -- the keeper has the rows of a state, so far as it tells them; and at most as many lines were answered that it failed as its count
 -- rose by, or that count stands at its last value
-pub record HasRowsOf {P : Type 0} (keeps : P → Rows → Type 0) (tells : P → Type 0) (faults : P → ℕ) (old new : P) (m : Machine) (failures : ℕ) : Type 0 where
+pub record HasRowsOf {P : Type 0} (keeps : P → Rows → Type 0) (tells : P → Type 0) (faults : P → ℕ)
+    (old new : P) (m : Machine) (failures : ℕ) : Type 0 where
   pub rows : (rows : Rows) → keeps old rows → tells new → keeps new (rows_of m)
   pub counted : RoseBy (faults old) (faults new) failures
 
@@ -149,33 +165,45 @@ GrewBy old new P = (text : List ℕ) × P text × Appends old new text
 
 -- or by a front of one
 abbrev pub GrewByFront : Option (List ℕ) → Option (List ℕ) → (List ℕ → Type 0) → Type 0
-GrewByFront old new P = (front : List ℕ) × (back : List ℕ) × P (front ++ back) × Appends old new front
+GrewByFront old new P =
+    (front : List ℕ) × (back : List ℕ) × P (front ++ back) × Appends old new front
 
 -- the replies to the lines before the first that passes a limit, and then the limit's text
 abbrev pub IsLimitText : (List (List ℕ) → List ℕ → Type 0) → List ℕ → List ℕ → Type 0
 IsLimitText Replies bytes due =
-    ((done : List (List ℕ)) × (text : List ℕ) × StopsAtLong (lines bytes) done × Replies done text × (due ≡ text ++ limit_line))
-    ⊎ ((done : List (List ℕ)) × (text : List ℕ) × StopsAtMany (lines bytes) done × Replies done text × (due ≡ text ++ limit_lines))
+    ((done : List (List ℕ)) × (text : List ℕ) × StopsAtLong (lines bytes) done × Replies done text
+    × (due ≡ text ++ limit_line))
+    ⊎ ((done : List (List ℕ)) × (text : List ℕ) × StopsAtMany (lines bytes) done × Replies done text
+    × (due ≡ text ++ limit_lines))
 
 -- all replies to these lines, and then a front of the limit's text
 abbrev pub IsCutLimit : (List (List ℕ) → List ℕ → Type 0) → List (List ℕ) → List ℕ → List ℕ → Type 0
 IsCutLimit Replies done limit text =
-    (whole : List ℕ) × (front : List ℕ) × (back : List ℕ) × Replies done whole × (limit ≡ front ++ back) × (text ≡ whole ++ front)
+    (whole : List ℕ) × (front : List ℕ) × (back : List ℕ) × Replies done whole
+    × (limit ≡ front ++ back) × (text ≡ whole ++ front)
 
 -- all replies to the lines before the first that passes a limit, and then a front of the limit's text
 abbrev pub IsCutLimitText : (List (List ℕ) → List ℕ → Type 0) → List ℕ → List ℕ → Type 0
 IsCutLimitText Replies bytes text =
-    ((done : List (List ℕ)) × StopsAtLong (lines bytes) done × IsCutLimit Replies done limit_line text)
-    ⊎ ((done : List (List ℕ)) × StopsAtMany (lines bytes) done × IsCutLimit Replies done limit_lines text)
+    ((done : List (List ℕ)) × StopsAtLong (lines bytes) done
+    × IsCutLimit Replies done limit_line text)
+    ⊎ ((done : List (List ℕ)) × StopsAtMany (lines bytes) done
+    × IsCutLimit Replies done limit_lines text)
 
 -- how the loop over lines ends, told by which texts are the replies to lines, and which are those to an input where it is cut short
-abbrev pub EndsRun : (List (List ℕ) → List ℕ → Type 0) → (List ℕ → List ℕ → Type 0) → List ℕ → Option (List ℕ) → Option (List ℕ) → Option (List ℕ) → End → Type 0
-EndsRun Replies Cut bytes left old new Done = IsAtEnd left × AreWithinLimits (lines bytes) × GrewBy old new (Replies (lines bytes))
-EndsRun Replies Cut bytes left old new ReadFault = (read : List ℕ) × Consumes (Some bytes) left read × AreWithinLimits (whole_lines read) × GrewBy old new (Replies (whole_lines read))
+abbrev pub EndsRun : (List (List ℕ) → List ℕ → Type 0) → (List ℕ → List ℕ → Type 0) → List ℕ
+    → Option (List ℕ) → Option (List ℕ) → Option (List ℕ) → End → Type 0
+EndsRun Replies Cut bytes left old new Done =
+    IsAtEnd left × AreWithinLimits (lines bytes) × GrewBy old new (Replies (lines bytes))
+EndsRun Replies Cut bytes left old new ReadFault =
+    (read : List ℕ) × Consumes (Some bytes) left read × AreWithinLimits (whole_lines read)
+    × GrewBy old new (Replies (whole_lines read))
 EndsRun Replies Cut bytes left old new WriteFault = GrewBy old new (Cut bytes)
 EndsRun Replies Cut bytes left old new Memory = GrewBy old new (Cut bytes)
-EndsRun Replies Cut bytes left old new LongLine = (done : List (List ℕ)) × StopsAtLong (lines bytes) done × GrewBy old new (Replies done)
-EndsRun Replies Cut bytes left old new ManyLines = (done : List (List ℕ)) × StopsAtMany (lines bytes) done × GrewBy old new (Replies done)
+EndsRun Replies Cut bytes left old new LongLine =
+    (done : List (List ℕ)) × StopsAtLong (lines bytes) done × GrewBy old new (Replies done)
+EndsRun Replies Cut bytes left old new ManyLines =
+    (done : List (List ℕ)) × StopsAtMany (lines bytes) done × GrewBy old new (Replies done)
 
 -- ---- by status
 
@@ -195,17 +223,23 @@ IsKeptText Bad text = (kind : ℕ) × (number : ℕ) × Bad kind number × (text
 -- cut short. `Opens` says that the command opens a desk, `Same` that the keeper has the rows that it had, and `Bad` which of them is the
 -- first bad one
 pub record LinesEnd
-    (Replies : List (List ℕ) → List ℕ → Type 0) (Cut : List ℕ → List ℕ → Type 0) (Opens Same : Type 0) (Bad : ℕ → ℕ → Type 0) (status : ℕ)
+    (Replies : List (List ℕ) → List ℕ → Type 0) (Cut : List ℕ → List ℕ → Type 0)
+    (Opens Same : Type 0) (Bad : ℕ → ℕ → Type 0) (status : ℕ)
     (left after old new : Option (List ℕ)) : Type 0 where
   -- the input was read to its end, and each of its lines has its reply
-  pub done : status ≡ 0 → IfSome left (λ bytes. IsAtEnd after × AreWithinLimits (lines bytes) × GrewBy old new (Replies (lines bytes)))
+  pub done : status ≡ 0
+      → IfSome left (λ bytes. IsAtEnd after × AreWithinLimits (lines bytes)
+      × GrewBy old new (Replies (lines bytes)))
   -- a read failed: the whole lines before, which are within the limits, have their replies
   pub read : status ≡ 2 →
-      IfSome left (λ bytes. (read : List ℕ) × Consumes (Some bytes) after read × AreWithinLimits (whole_lines read) × GrewBy old new (Replies (whole_lines read)))
+      IfSome left (λ bytes. (read : List ℕ) × Consumes (Some bytes) after read
+      × AreWithinLimits (whole_lines read) × GrewBy old new (Replies (whole_lines read)))
   -- a write failed: the first lines have their replies, and at most the next one a front of its reply; or all lines before a limit have
   -- theirs, and the limit's text has a front; or so has the text on a bad row
   pub written : status ≡ 3 →
-      IfSome left (λ bytes. GrewBy old new (Cut bytes) ⊎ GrewBy old new (IsCutLimitText Replies bytes)) ⊎ (GrewByFront old new (IsKeptText Bad) × Same)
+      IfSome left (λ bytes. GrewBy old new (Cut bytes)
+      ⊎ GrewBy old new (IsCutLimitText Replies bytes))
+      ⊎ (GrewByFront old new (IsKeptText Bad) × Same)
   -- the keeper failed before any call, and nothing was written
   pub unopened : status ≡ 4 → (new ≡ old) × Same
   -- a row is bad, which is told
@@ -219,7 +253,8 @@ pub record LinesEnd
   pub statuses : (status ≤ 7) × (status ≢ 1)
 
 -- a new tracker was made of this setup's text, where there was no row
-pub record IsCreated {P : Type 0} (keeps : P → Rows → Type 0) (tells : P → Type 0) (old new : P) (text : List ℕ) : Type 0 where
+pub record IsCreated {P : Type 0} (keeps : P → Rows → Type 0) (tells : P → Type 0) (old new : P)
+    (text : List ℕ) : Type 0 where
   pub setup : Parts
   pub is_text : IsUtf8 text
   pub reads : setup_in text ≡ Ok setup
@@ -228,7 +263,9 @@ pub record IsCreated {P : Type 0} (keeps : P → Rows → Type 0) (tells : P →
 
 -- the text tells why these bytes are no setup
 abbrev pub IsSetupText : Option (List ℕ) → List ℕ → Type 0
-IsSetupText left text = (fault : SetupFault) × (fault ≢ setup_fault.Memory) × IfSome left (λ bytes. Explains bytes fault) × (text ≡ setup_line fault)
+IsSetupText left text =
+    (fault : SetupFault) × (fault ≢ setup_fault.Memory)
+    × IfSome left (λ bytes. Explains bytes fault) × (text ≡ setup_line fault)
 
 -- the most bytes of a setup
 abbrev pub setup_limit : ℕ
@@ -237,14 +274,18 @@ setup_limit = 1_048_576
 -- one of the texts of `init`, each where it is due: the input is too long, it is no setup, or the keeper has a row, which `Held` says
 abbrev pub IsInitText : Type 0 → Option (List ℕ) → List ℕ → Type 0
 IsInitText Held left text =
-    ((text ≡ limit_input) × IfSome left (λ bytes. setup_limit < length bytes)) ⊎ IsSetupText left text ⊎ ((text ≡ held) × Held)
+    ((text ≡ limit_input) × IfSome left (λ bytes. setup_limit < length bytes))
+    ⊎ IsSetupText left text ⊎ ((text ≡ held) × Held)
 
 -- what comes of `init`. `Created` says that a tracker was made of a text, `Same` that the keeper has the rows that it had, and `Held` that
 -- it has some
 pub record InitEnd
-    (Created : List ℕ → Type 0) (Same Held : Type 0) (status : ℕ) (left after old new : Option (List ℕ)) : Type 0 where
+    (Created : List ℕ → Type 0) (Same Held : Type 0) (status : ℕ)
+    (left after old new : Option (List ℕ)) : Type 0 where
   -- the input was read to its end, and is the setup of the tracker that was made; nothing was written
-  pub done : status ≡ 0 → (new ≡ old) × IfSome left (λ bytes. IsAtEnd after × (length bytes ≤ setup_limit) × Created bytes)
+  pub done : status ≡ 0
+      → (new ≡ old)
+      × IfSome left (λ bytes. IsAtEnd after × (length bytes ≤ setup_limit) × Created bytes)
   -- a read failed
   pub read : status ≡ 2 → (new ≡ old) × Same
   -- a write failed: the text that was due has a front
@@ -254,7 +295,8 @@ pub record InitEnd
   -- want of memory
   pub memory : status ≡ 6 → (new ≡ old) × Same
   -- the input is too long
-  pub limit : status ≡ 7 → Appends old new limit_input × IfSome left (λ bytes. setup_limit < length bytes) × Same
+  pub limit : status ≡ 7
+      → Appends old new limit_input × IfSome left (λ bytes. setup_limit < length bytes) × Same
   -- the input is no setup
   pub setup : status ≡ 8 → GrewBy old new (IsSetupText left) × Same
   -- the keeper has a row

@@ -19,7 +19,8 @@ IsServe words port = (word : List ℕ) × (words ≡ codes "serve" ∷ word ∷ 
 
 -- a call is made as the abstract tracker makes it: the rows that are kept are the tracker's, after it as before it; a keeper's fault
 -- is told only where its count rose; and the keeper isn't asked where there is nothing to keep
-pub record MakesCall {P : Type 0} (keeps : P → Rows → Type 0) (tells : P → Type 0) (faults : P → ℕ) (old : DeskParts P) (caller : List ℕ) (c : Call)
+pub record MakesCall {P : Type 0} (keeps : P → Rows → Type 0) (tells : P → Type 0) (faults : P → ℕ)
+    (old : DeskParts P) (caller : List ℕ) (c : Call)
     (r : Reply) (new : DeskParts P) : Type 0 where
   pub step : IsStep old.machine caller c r new.machine
   pub rows : keeps old.keeper (rows_of old.machine) → keeps new.keeper (rows_of new.machine)
@@ -33,7 +34,8 @@ tells_parts desk state = desk ≡ state
 
 -- calls were made, one after another, from the tracker whose rows the keeper has on, or from a new one of this setup; it has the rows of
 -- the last state then, so far as it tells them
-pub record HasServed {P : Type 0} (keeps : P → Rows → Type 0) (tells : P → Type 0) (faults : P → ℕ) (setup_text : List ℕ) (old new : P) : Type 0 where
+pub record HasServed {P : Type 0} (keeps : P → Rows → Type 0) (tells : P → Type 0) (faults : P → ℕ)
+    (setup_text : List ℕ) (old new : P) : Type 0 where
   pub first : DeskParts P
   pub last : DeskParts P
   pub events : List Event

@@ -12,6 +12,7 @@ abbrev pub TellsOf : {M F : Type 0} → (M → Type 0) → (F → Type 0) → St
 TellsOf of_memory of_file (store.Memory keeper) = of_memory keeper
 TellsOf of_memory of_file (store.File keeper) = of_file keeper
 
-abbrev pub KeepsOf : {M F : Type 0} → (M → Rows → Type 0) → (F → Rows → Type 0) → Store M F → Rows → Type 0
+abbrev pub KeepsOf : {M F : Type 0} → (M → Rows → Type 0) → (F → Rows → Type 0) → Store M F → Rows
+    → Type 0
 KeepsOf of_memory of_file (store.Memory keeper) rows = of_memory keeper rows
 KeepsOf of_memory of_file (store.File keeper) rows = of_file keeper rows

@@ -32,7 +32,13 @@ taking_one name = with_rule (new_app name) operand
 
 -- all words are the program's, one of them has to be a command's, and there is no help
 abbrev pub top : App
-top = on_top (λ s. record s { no_binary_name = true; disable_help_flag = true; disable_help_subcommand = true; subcommand_required = true }) (new_app (codes "tracker"))
+top =
+    on_top (λ s. record s {
+      no_binary_name = true;
+      disable_help_flag = true;
+      disable_help_subcommand = true;
+      subcommand_required = true;
+    }) (new_app (codes "tracker"))
 
 abbrev pub with_one : App → App → App
 with_one all one = with_subcommand all one.top

@@ -28,7 +28,8 @@ pub fn run<S: Source, T: Sink, P: Keeper + Drop>(
     keeper: P,
 ) -> (u8, P)
     // The words are none of a command's.
-    ensures usage { ¬ (IsCommand (map string_bytes words.now)) → UsageEnd result.0 (T.taken out.old) (T.taken out.new) }
+    ensures usage { ¬ (IsCommand (map string_bytes words.now))
+        → UsageEnd result.0 (T.taken out.old) (T.taken out.new) }
     ensures words { result.0 ≡ 1 → ¬ (IsCommand (map string_bytes words.now)) }
 
     // `exec` and `check` answer line after line: from the tracker whose rows the keeper has, or from a new one. What is kept is then
@@ -39,7 +40,8 @@ pub fn run<S: Source, T: Sink, P: Keeper + Drop>(
         (AreCutRepliesOf (BeginsIn P.keeps P.tells BUILT_IN.now keeper result.1)
         (HasRowsOf P.keeps P.tells P.faults keeper result.1)
         (HasItsRows P.keeps keeper result.1) (map string_bytes words.now))
-        (IsExec (map string_bytes words.now)) (HasItsRows P.keeps keeper result.1) (HasBadRow P.keeps P.tells keeper result.1)
+        (IsExec (map string_bytes words.now)) (HasItsRows P.keeps keeper result.1)
+        (HasBadRow P.keeps P.tells keeper result.1)
         result.0 (S.left input.old) (S.left input.new) (T.taken out.old) (T.taken out.new) }
 
     // `init` makes a new tracker of a setup.
@@ -70,8 +72,10 @@ pub fn run<S: Source, T: Sink, P: Keeper + Drop>(
         result.0 (S.left input.old) (S.left input.new) (T.taken out.old) (T.taken out.new) }
 
     // Where no desk is opened or made, the keeper has the rows that it had.
-    ensures untouched { ¬ (IsExec (map string_bytes words.now)) → ¬ (IsInit (map string_bytes words.now)) →
-        ¬ (IsExport (map string_bytes words.now)) → ¬ (IsImportOfSome (map string_bytes words.now)) →
+    ensures untouched { ¬ (IsExec (map string_bytes words.now))
+        → ¬ (IsInit (map string_bytes words.now)) →
+        ¬ (IsExport (map string_bytes words.now))
+        → ¬ (IsImportOfSome (map string_bytes words.now)) →
         ¬ (IsGenerateOfSome (map string_bytes words.now)) → HasItsRows P.keeps keeper result.1 }
 
     // A fault of the outside is told only where the outside counted one.

@@ -21,10 +21,14 @@ pub(crate) fn export<T: Sink, P: Keeper + Drop>(alloc: Global, out: &mut T, keep
         (IsExported P.keeps P.tells P.faults BUILT_IN.now keeper result.1) }
     ensures written { result.0 ≡ 3 → GrewByFront (T.taken out.old) (T.taken out.new)
         (IsExported P.keeps P.tells P.faults BUILT_IN.now keeper result.1)
-        ⊎ (GrewByFront (T.taken out.old) (T.taken out.new) (IsKeptText (HasBadRow P.keeps P.tells keeper result.1))
+        ⊎ (GrewByFront (T.taken out.old) (T.taken out.new)
+        (IsKeptText (HasBadRow P.keeps P.tells keeper result.1))
         × HasItsRows P.keeps keeper result.1) }
-    ensures unopened { result.0 ≡ 4 → (T.taken out.new ≡ T.taken out.old) × HasItsRows P.keeps keeper result.1 }
-    ensures bad { result.0 ≡ 5 → GrewBy (T.taken out.old) (T.taken out.new) (IsKeptText (HasBadRow P.keeps P.tells keeper result.1))
+    ensures unopened { result.0 ≡ 4
+        → (T.taken out.new ≡ T.taken out.old) × HasItsRows P.keeps keeper result.1 }
+    ensures bad { result.0 ≡ 5
+        → GrewBy (T.taken out.old) (T.taken out.new)
+        (IsKeptText (HasBadRow P.keeps P.tells keeper result.1))
         × HasItsRows P.keeps keeper result.1 }
     ensures memory { result.0 ≡ 6 → GrewByFront (T.taken out.old) (T.taken out.new)
         (IsExported P.keeps P.tells P.faults BUILT_IN.now keeper result.1)
@@ -45,8 +49,10 @@ pub(crate) fn export<T: Sink, P: Keeper + Drop>(alloc: Global, out: &mut T, keep
 
 // Writes all issues of the desk, and hands its keeper back.
 fn write_issues<T: Sink, P: Keeper + Drop>(alloc: Global, desk: Desk<P>, out: &mut T) -> (u8, P)
-    ensures done { result.0 ≡ 0 → Appends (T.taken out.old) (T.taken out.new) (export_text desk.machine) }
-    ensures cut { (result.0 ≡ 3) ⊎ (result.0 ≡ 6) → WritesFront (T.taken out.old) (T.taken out.new) (export_text desk.machine) }
+    ensures done { result.0 ≡ 0
+        → Appends (T.taken out.old) (T.taken out.new) (export_text desk.machine) }
+    ensures cut { (result.0 ≡ 3) ⊎ (result.0 ≡ 6)
+        → WritesFront (T.taken out.old) (T.taken out.new) (export_text desk.machine) }
     ensures keeper { result.1 ≡ desk.keeper }
     ensures write_cause { result.0 ≡ 3 → Rose (T.faults out.old) (T.faults out.new) }
     ensures write_later { T.faults out.old ≤ T.faults out.new }

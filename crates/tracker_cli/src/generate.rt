@@ -44,7 +44,8 @@ pub(crate) fn generate<T: Sink, P: Keeper + Drop>(
     ensures write_cause { result.0 ≡ 3 → Rose (T.faults out.old) (T.faults out.new) }
     ensures keeper_cause { result.0 ≡ 4 → Rose (P.faults keeper) (P.faults result.1) }
     ensures write_later { T.faults out.old ≤ T.faults out.new }
-    ensures statuses { (result.0 ≡ 0) ⊎ (result.0 ≡ 3) ⊎ (result.0 ≡ 4) ⊎ (result.0 ≡ 6) ⊎ (result.0 ≡ 9) }
+    ensures statuses { (result.0 ≡ 0) ⊎ (result.0 ≡ 3) ⊎ (result.0 ≡ 4) ⊎ (result.0 ≡ 6)
+        ⊎ (result.0 ≡ 9) }
 {
     let Ok(setup) = Setup::built_in(alloc) else {
         return (6, keeper);
@@ -98,8 +99,10 @@ fn load<L: Ledger, T: Sink, P: Keeper + Drop>(
 
 // Writes what a load comes to: 0, or 3 where the sink failed on it, or 6 where there was no memory for it and nothing was written.
 fn tell_load<T: Sink>(alloc: Global, out: &mut T, summary: &LoadSummary) -> u8
-    ensures told { result ≡ 0 → Appends (T.taken out.old) (T.taken out.new) (load_line summary.now) }
-    ensures written { result ≡ 3 → GrewByFront (T.taken out.old) (T.taken out.new) (λ due. due ≡ load_line summary.now) }
+    ensures told { result ≡ 0
+        → Appends (T.taken out.old) (T.taken out.new) (load_line summary.now) }
+    ensures written { result ≡ 3
+        → GrewByFront (T.taken out.old) (T.taken out.new) (λ due. due ≡ load_line summary.now) }
     ensures memory { result ≡ 6 → T.taken out.new ≡ T.taken out.old }
     ensures write_cause { result ≡ 3 → Rose (T.faults out.old) (T.faults out.new) }
     ensures later { T.faults out.old ≤ T.faults out.new }

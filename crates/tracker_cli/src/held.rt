@@ -9,7 +9,8 @@ use tracker_calls::{Failed, Sink, write_all};
 /// Writes that the keeper has rows already: 9, or 3 where the sink failed on it.
 pub(crate) fn tell_held<T: Sink>(out: &mut T) -> u8
     ensures told { result ≡ 9 → Appends (T.taken out.old) (T.taken out.new) held }
-    ensures written { result ≡ 3 → GrewByFront (T.taken out.old) (T.taken out.new) (λ due. due ≡ held) }
+    ensures written { result ≡ 3
+        → GrewByFront (T.taken out.old) (T.taken out.new) (λ due. due ≡ held) }
     ensures write_cause { result ≡ 3 → Rose (T.faults out.old) (T.faults out.new) }
     ensures later { T.faults out.old ≤ T.faults out.new }
     ensures statuses { (result ≡ 3) ⊎ (result ≡ 9) }

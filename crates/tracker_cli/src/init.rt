@@ -30,17 +30,24 @@ pub(crate) fn init<S: Source, T: Sink, P: Keeper + Drop>(
     out: &mut T,
     keeper: P,
 ) -> (u8, P)
-    ensures done { result.0 ≡ 0 → (T.taken out.new ≡ T.taken out.old) × IfSome (S.left input.old) (λ bytes.
-        IsAtEnd (S.left input.new) × (length bytes ≤ setup_limit) × IsCreated P.keeps P.tells keeper result.1 bytes) }
-    ensures read { result.0 ≡ 2 → (T.taken out.new ≡ T.taken out.old) × HasItsRows P.keeps keeper result.1 }
+    ensures done { result.0 ≡ 0
+        → (T.taken out.new ≡ T.taken out.old) × IfSome (S.left input.old) (λ bytes.
+        IsAtEnd (S.left input.new) × (length bytes ≤ setup_limit)
+        × IsCreated P.keeps P.tells keeper result.1 bytes) }
+    ensures read { result.0 ≡ 2
+        → (T.taken out.new ≡ T.taken out.old) × HasItsRows P.keeps keeper result.1 }
     ensures written { result.0 ≡ 3 → GrewByFront (T.taken out.old) (T.taken out.new)
         (IsInitText (HasSomeRow P.keeps P.tells keeper result.1) (S.left input.old))
         × HasItsRows P.keeps keeper result.1 }
-    ensures unopened { result.0 ≡ 4 → (T.taken out.new ≡ T.taken out.old) × HasItsRows P.keeps keeper result.1 }
-    ensures memory { result.0 ≡ 6 → (T.taken out.new ≡ T.taken out.old) × HasItsRows P.keeps keeper result.1 }
+    ensures unopened { result.0 ≡ 4
+        → (T.taken out.new ≡ T.taken out.old) × HasItsRows P.keeps keeper result.1 }
+    ensures memory { result.0 ≡ 6
+        → (T.taken out.new ≡ T.taken out.old) × HasItsRows P.keeps keeper result.1 }
     ensures limit { result.0 ≡ 7 → Appends (T.taken out.old) (T.taken out.new) limit_input
-        × IfSome (S.left input.old) (λ bytes. setup_limit < length bytes) × HasItsRows P.keeps keeper result.1 }
-    ensures setup { result.0 ≡ 8 → GrewBy (T.taken out.old) (T.taken out.new) (IsSetupText (S.left input.old))
+        × IfSome (S.left input.old) (λ bytes. setup_limit < length bytes)
+        × HasItsRows P.keeps keeper result.1 }
+    ensures setup { result.0 ≡ 8
+        → GrewBy (T.taken out.old) (T.taken out.new) (IsSetupText (S.left input.old))
         × HasItsRows P.keeps keeper result.1 }
     ensures held { result.0 ≡ 9 → Appends (T.taken out.old) (T.taken out.new) held
         × HasSomeRow P.keeps P.tells keeper result.1 × HasItsRows P.keeps keeper result.1 }
@@ -64,20 +71,25 @@ pub(crate) fn init<S: Source, T: Sink, P: Keeper + Drop>(
 
 // Makes a new tracker of the setup that the text is.
 fn make<T: Sink, P: Keeper + Drop>(alloc: Global, text: &[u8], out: &mut T, keeper: P) -> (u8, P)
-    ensures done { result.0 ≡ 0 → (T.taken out.new ≡ T.taken out.old) × IsCreated P.keeps P.tells keeper result.1 text.now }
+    ensures done { result.0 ≡ 0
+        → (T.taken out.new ≡ T.taken out.old) × IsCreated P.keeps P.tells keeper result.1 text.now }
     ensures written { result.0 ≡ 3 → GrewByFront (T.taken out.old) (T.taken out.new)
         (IsInitText (HasSomeRow P.keeps P.tells keeper result.1) (Some text.now))
         × HasItsRows P.keeps keeper result.1 }
-    ensures unopened { result.0 ≡ 4 → (T.taken out.new ≡ T.taken out.old) × HasItsRows P.keeps keeper result.1 }
-    ensures memory { result.0 ≡ 6 → (T.taken out.new ≡ T.taken out.old) × HasItsRows P.keeps keeper result.1 }
-    ensures setup { result.0 ≡ 8 → GrewBy (T.taken out.old) (T.taken out.new) (IsSetupText (Some text.now))
+    ensures unopened { result.0 ≡ 4
+        → (T.taken out.new ≡ T.taken out.old) × HasItsRows P.keeps keeper result.1 }
+    ensures memory { result.0 ≡ 6
+        → (T.taken out.new ≡ T.taken out.old) × HasItsRows P.keeps keeper result.1 }
+    ensures setup { result.0 ≡ 8
+        → GrewBy (T.taken out.old) (T.taken out.new) (IsSetupText (Some text.now))
         × HasItsRows P.keeps keeper result.1 }
     ensures held { result.0 ≡ 9 → Appends (T.taken out.old) (T.taken out.new) held
         × HasSomeRow P.keeps P.tells keeper result.1 × HasItsRows P.keeps keeper result.1 }
     ensures write_cause { result.0 ≡ 3 → Rose (T.faults out.old) (T.faults out.new) }
     ensures keeper_cause { result.0 ≡ 4 → Rose (P.faults keeper) (P.faults result.1) }
     ensures write_later { T.faults out.old ≤ T.faults out.new }
-    ensures statuses { (result.0 ≡ 0) ⊎ (result.0 ≡ 3) ⊎ (result.0 ≡ 4) ⊎ (result.0 ≡ 6) ⊎ (result.0 ≡ 8) ⊎ (result.0 ≡ 9) }
+    ensures statuses { (result.0 ≡ 0) ⊎ (result.0 ≡ 3) ⊎ (result.0 ≡ 4) ⊎ (result.0 ≡ 6)
+        ⊎ (result.0 ≡ 8) ⊎ (result.0 ≡ 9) }
 {
     match Setup::read(alloc, text) {
         Ok(setup) => create(alloc, setup, out, keeper),
@@ -90,15 +102,19 @@ fn create<T: Sink, P: Keeper + Drop>(alloc: Global, setup: Setup, out: &mut T, k
     ensures done { result.0 ≡ 0 → (T.taken out.new ≡ T.taken out.old)
         × (P.keeps keeper no_rows → P.keeps result.1 (rows_of (opening setup.text (parts setup))))
         × ((rows : Rows) → P.keeps keeper rows → P.tells result.1 → HasNoRow rows) }
-    ensures written { result.0 ≡ 3 → GrewByFront (T.taken out.old) (T.taken out.new) (λ due. due ≡ held)
+    ensures written { result.0 ≡ 3
+        → GrewByFront (T.taken out.old) (T.taken out.new) (λ due. due ≡ held)
         × HasSomeRow P.keeps P.tells keeper result.1 }
     ensures unwritten { (result.0 ≡ 4) ⊎ (result.0 ≡ 6) → T.taken out.new ≡ T.taken out.old }
-    ensures held { result.0 ≡ 9 → Appends (T.taken out.old) (T.taken out.new) held × HasSomeRow P.keeps P.tells keeper result.1 }
+    ensures held { result.0 ≡ 9
+        → Appends (T.taken out.old) (T.taken out.new) held
+        × HasSomeRow P.keeps P.tells keeper result.1 }
     ensures same { result.0 ≢ 0 → HasItsRows P.keeps keeper result.1 }
     ensures write_cause { result.0 ≡ 3 → Rose (T.faults out.old) (T.faults out.new) }
     ensures keeper_cause { result.0 ≡ 4 → Rose (P.faults keeper) (P.faults result.1) }
     ensures write_later { T.faults out.old ≤ T.faults out.new }
-    ensures statuses { (result.0 ≡ 0) ⊎ (result.0 ≡ 3) ⊎ (result.0 ≡ 4) ⊎ (result.0 ≡ 6) ⊎ (result.0 ≡ 9) }
+    ensures statuses { (result.0 ≡ 0) ⊎ (result.0 ≡ 3) ⊎ (result.0 ≡ 4) ⊎ (result.0 ≡ 6)
+        ⊎ (result.0 ≡ 9) }
 {
     match Desk::create(alloc, keeper, setup) {
         Ok(desk) => (0, desk.close()),
@@ -111,7 +127,9 @@ fn create<T: Sink, P: Keeper + Drop>(alloc: Global, setup: Setup, out: &mut T, k
 
 // Writes why the text is no setup: 8, or 3 where the sink failed on it, or 6 where there was no memory and nothing was written.
 fn tell_fault<T: Sink>(alloc: Global, out: &mut T, fault: SetupFault) -> u8
-    ensures told { result ≡ 8 → (fault ≢ SetupFault.Memory) × Appends (T.taken out.old) (T.taken out.new) (setup_line fault) }
+    ensures told { result ≡ 8
+        → (fault ≢ SetupFault.Memory)
+        × Appends (T.taken out.old) (T.taken out.new) (setup_line fault) }
     ensures written { result ≡ 3 → (fault ≢ SetupFault.Memory)
         × GrewByFront (T.taken out.old) (T.taken out.new) (λ due. due ≡ setup_line fault) }
     ensures memory { result ≡ 6 → T.taken out.new ≡ T.taken out.old }

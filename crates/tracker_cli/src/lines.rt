@@ -29,28 +29,46 @@ pub(crate) fn run_lines<S: Source, T: Sink, P: Keeper + Drop>(
 ) -> (u8, P)
     requires command { IsOfLines (map string_bytes words.now) }
     requires check { IsTrue is_check ↔ IsCheck (map string_bytes words.now) }
-    ensures done { result.0 ≡ 0 → IfSome (S.left input.old) (λ bytes. IsAtEnd (S.left input.new) × AreWithinLimits (lines bytes)
-        × GrewBy (T.taken out.old) (T.taken out.new) (AreRepliesOf (BeginsIn P.keeps P.tells BUILT_IN.now keeper result.1)
-        (HasRowsOf P.keeps P.tells P.faults keeper result.1) (map string_bytes words.now) (lines bytes))) }
-    ensures read { result.0 ≡ 2 → IfSome (S.left input.old) (λ bytes. (read : List ℕ) × Consumes (Some bytes) (S.left input.new) read
+    ensures done { result.0 ≡ 0
+        → IfSome (S.left input.old) (λ bytes. IsAtEnd (S.left input.new)
+        × AreWithinLimits (lines bytes)
+        × GrewBy (T.taken out.old) (T.taken out.new)
+        (AreRepliesOf (BeginsIn P.keeps P.tells BUILT_IN.now keeper result.1)
+        (HasRowsOf P.keeps P.tells P.faults keeper result.1) (map string_bytes words.now)
+        (lines bytes))) }
+    ensures read { result.0 ≡ 2
+        → IfSome (S.left input.old) (λ bytes. (read : List ℕ)
+        × Consumes (Some bytes) (S.left input.new) read
         × AreWithinLimits (whole_lines read)
-        × GrewBy (T.taken out.old) (T.taken out.new) (AreRepliesOf (BeginsIn P.keeps P.tells BUILT_IN.now keeper result.1)
-        (HasRowsOf P.keeps P.tells P.faults keeper result.1) (map string_bytes words.now) (whole_lines read))) }
+        × GrewBy (T.taken out.old) (T.taken out.new)
+        (AreRepliesOf (BeginsIn P.keeps P.tells BUILT_IN.now keeper result.1)
+        (HasRowsOf P.keeps P.tells P.faults keeper result.1) (map string_bytes words.now)
+        (whole_lines read))) }
     ensures written { result.0 ≡ 3 → IfSome (S.left input.old) (λ bytes.
-        GrewBy (T.taken out.old) (T.taken out.new) (AreCutRepliesOf (BeginsIn P.keeps P.tells BUILT_IN.now keeper result.1)
-        (HasRowsOf P.keeps P.tells P.faults keeper result.1) (HasItsRows P.keeps keeper result.1) (map string_bytes words.now) bytes)
-        ⊎ GrewBy (T.taken out.old) (T.taken out.new) (IsCutLimitText (AreRepliesOf (BeginsIn P.keeps P.tells BUILT_IN.now keeper result.1)
+        GrewBy (T.taken out.old) (T.taken out.new)
+        (AreCutRepliesOf (BeginsIn P.keeps P.tells BUILT_IN.now keeper result.1)
+        (HasRowsOf P.keeps P.tells P.faults keeper result.1) (HasItsRows P.keeps keeper result.1)
+        (map string_bytes words.now) bytes)
+        ⊎ GrewBy (T.taken out.old) (T.taken out.new)
+        (IsCutLimitText (AreRepliesOf (BeginsIn P.keeps P.tells BUILT_IN.now keeper result.1)
         (HasRowsOf P.keeps P.tells P.faults keeper result.1) (map string_bytes words.now)) bytes))
-        ⊎ (GrewByFront (T.taken out.old) (T.taken out.new) (IsKeptText (HasBadRow P.keeps P.tells keeper result.1))
+        ⊎ (GrewByFront (T.taken out.old) (T.taken out.new)
+        (IsKeptText (HasBadRow P.keeps P.tells keeper result.1))
         × HasItsRows P.keeps keeper result.1) }
-    ensures unopened { result.0 ≡ 4 → (T.taken out.new ≡ T.taken out.old) × HasItsRows P.keeps keeper result.1 }
-    ensures bad { result.0 ≡ 5 → GrewBy (T.taken out.old) (T.taken out.new) (IsKeptText (HasBadRow P.keeps P.tells keeper result.1))
+    ensures unopened { result.0 ≡ 4
+        → (T.taken out.new ≡ T.taken out.old) × HasItsRows P.keeps keeper result.1 }
+    ensures bad { result.0 ≡ 5
+        → GrewBy (T.taken out.old) (T.taken out.new)
+        (IsKeptText (HasBadRow P.keeps P.tells keeper result.1))
         × HasItsRows P.keeps keeper result.1 }
     ensures opens { (result.0 ≡ 4) ⊎ (result.0 ≡ 5) → IsExec (map string_bytes words.now) }
-    ensures memory { result.0 ≡ 6 → IfSome (S.left input.old) (λ bytes. GrewBy (T.taken out.old) (T.taken out.new)
-        (AreCutRepliesOf (BeginsIn P.keeps P.tells BUILT_IN.now keeper result.1) (HasRowsOf P.keeps P.tells P.faults keeper result.1)
+    ensures memory { result.0 ≡ 6
+        → IfSome (S.left input.old) (λ bytes. GrewBy (T.taken out.old) (T.taken out.new)
+        (AreCutRepliesOf (BeginsIn P.keeps P.tells BUILT_IN.now keeper result.1)
+        (HasRowsOf P.keeps P.tells P.faults keeper result.1)
         (HasItsRows P.keeps keeper result.1) (map string_bytes words.now) bytes)) }
-    ensures limit { result.0 ≡ 7 → IfSome (S.left input.old) (λ bytes. GrewBy (T.taken out.old) (T.taken out.new)
+    ensures limit { result.0 ≡ 7
+        → IfSome (S.left input.old) (λ bytes. GrewBy (T.taken out.old) (T.taken out.new)
         (IsLimitText (AreRepliesOf (BeginsIn P.keeps P.tells BUILT_IN.now keeper result.1)
         (HasRowsOf P.keeps P.tells P.faults keeper result.1) (map string_bytes words.now)) bytes)) }
     ensures no_desk { ¬ (IsExec (map string_bytes words.now)) → HasItsRows P.keeps keeper result.1 }
@@ -97,18 +115,24 @@ fn carry_out<L: Ledger, S: Source, T: Sink, P: Keeper + Drop>(
     requires parts { blank.parts ≡ L.parts }
     requires some { 0 < L.parts }
     ensures run { IfOk result (λ r. IfSome (S.left input.old) (λ bytes. EndsRun
-        (AreRepliesOf (BeginsIn P.keeps P.tells BUILT_IN.now keeper r.1) (HasRowsOf P.keeps P.tells P.faults keeper r.1) (map string_bytes words.now))
-        (AreCutRepliesOf (BeginsIn P.keeps P.tells BUILT_IN.now keeper r.1) (HasRowsOf P.keeps P.tells P.faults keeper r.1)
+        (AreRepliesOf (BeginsIn P.keeps P.tells BUILT_IN.now keeper r.1)
+        (HasRowsOf P.keeps P.tells P.faults keeper r.1) (map string_bytes words.now))
+        (AreCutRepliesOf (BeginsIn P.keeps P.tells BUILT_IN.now keeper r.1)
+        (HasRowsOf P.keeps P.tells P.faults keeper r.1)
         (HasItsRows P.keeps keeper r.1) (map string_bytes words.now))
         bytes (S.left input.new) (T.taken out.old) (T.taken out.new) r.0)) }
     ensures unwritten { IfErr result (λ e. T.taken out.new ≡ T.taken out.old) }
     ensures exec { IfErr result (λ e. IsExec (map string_bytes words.now)) }
     ensures same { IfErr result (λ e. HasItsRows P.keeps keeper e.1) }
     ensures fault { IfErr result (λ e. IsOpenFault (HasBadRow P.keeps P.tells keeper e.1) e.0) }
-    ensures no_desk { ¬ (IsExec (map string_bytes words.now)) → IfOk result (λ r. HasItsRows P.keeps keeper r.1) }
-    ensures keeper_cause { IfErr result (λ e. e.0 ≡ OpenFault.Keeper → Rose (P.faults keeper) (P.faults e.1)) }
-    ensures read_cause { IfOk result (λ r. r.0 ≡ End.ReadFault → Rose (S.faults input.old) (S.faults input.new)) }
-    ensures write_cause { IfOk result (λ r. r.0 ≡ End.WriteFault → Rose (T.faults out.old) (T.faults out.new)) }
+    ensures no_desk { ¬ (IsExec (map string_bytes words.now))
+        → IfOk result (λ r. HasItsRows P.keeps keeper r.1) }
+    ensures keeper_cause { IfErr result
+        (λ e. e.0 ≡ OpenFault.Keeper → Rose (P.faults keeper) (P.faults e.1)) }
+    ensures read_cause { IfOk result
+        (λ r. r.0 ≡ End.ReadFault → Rose (S.faults input.old) (S.faults input.new)) }
+    ensures write_cause { IfOk result
+        (λ r. r.0 ≡ End.WriteFault → Rose (T.faults out.old) (T.faults out.new)) }
     ensures read_later { S.faults input.old ≤ S.faults input.new }
     ensures write_later { T.faults out.old ≤ T.faults out.new }
 {
@@ -131,16 +155,21 @@ fn exec<L: Ledger, S: Source, T: Sink, P: Keeper + Drop>(
     requires parts { blank.parts ≡ L.parts }
     requires some { 0 < L.parts }
     ensures run { IfOk result (λ r. IfSome (S.left input.old) (λ bytes. EndsRun
-        (AreReplies (BeginsIn P.keeps P.tells BUILT_IN.now keeper r.1) (HasRowsOf P.keeps P.tells P.faults keeper r.1))
-        (AreCutReplies (BeginsIn P.keeps P.tells BUILT_IN.now keeper r.1) (HasRowsOf P.keeps P.tells P.faults keeper r.1)
+        (AreReplies (BeginsIn P.keeps P.tells BUILT_IN.now keeper r.1)
+        (HasRowsOf P.keeps P.tells P.faults keeper r.1))
+        (AreCutReplies (BeginsIn P.keeps P.tells BUILT_IN.now keeper r.1)
+        (HasRowsOf P.keeps P.tells P.faults keeper r.1)
         (HasItsRows P.keeps keeper r.1))
         bytes (S.left input.new) (T.taken out.old) (T.taken out.new) r.0)) }
     ensures unwritten { IfErr result (λ e. T.taken out.new ≡ T.taken out.old) }
     ensures same { IfErr result (λ e. HasItsRows P.keeps keeper e.1) }
     ensures fault { IfErr result (λ e. IsOpenFault (HasBadRow P.keeps P.tells keeper e.1) e.0) }
-    ensures keeper_cause { IfErr result (λ e. e.0 ≡ OpenFault.Keeper → Rose (P.faults keeper) (P.faults e.1)) }
-    ensures read_cause { IfOk result (λ r. r.0 ≡ End.ReadFault → Rose (S.faults input.old) (S.faults input.new)) }
-    ensures write_cause { IfOk result (λ r. r.0 ≡ End.WriteFault → Rose (T.faults out.old) (T.faults out.new)) }
+    ensures keeper_cause { IfErr result
+        (λ e. e.0 ≡ OpenFault.Keeper → Rose (P.faults keeper) (P.faults e.1)) }
+    ensures read_cause { IfOk result
+        (λ r. r.0 ≡ End.ReadFault → Rose (S.faults input.old) (S.faults input.new)) }
+    ensures write_cause { IfOk result
+        (λ r. r.0 ≡ End.WriteFault → Rose (T.faults out.old) (T.faults out.new)) }
     ensures read_later { S.faults input.old ≤ S.faults input.new }
     ensures write_later { T.faults out.old ≤ T.faults out.new }
 {

@@ -50,7 +50,8 @@ pub fn serve<R: Wait, K: Links, P: Keeper + Drop>(
     // rows the keeper has on, or from a new one.
     ensures ended { result.0 ≡ 0 → IsSome (K.ahead links) → K.ahead result.1 ≡ Some [] }
     ensures link_cause { result.0 ≡ 2 → Rose (K.faults links) (K.faults result.1) }
-    ensures served { (result.0 ≡ 0) ⊎ (result.0 ≡ 2) → HasServed P.keeps P.tells P.faults BUILT_IN.now keeper result.2 }
+    ensures served { (result.0 ≡ 0) ⊎ (result.0 ≡ 2)
+        → HasServed P.keeps P.tells P.faults BUILT_IN.now keeper result.2 }
 
     // No desk was opened, and the keeper has the rows that it had.
     ensures keeper_cause { result.0 ≡ 4 → Rose (P.faults keeper) (P.faults result.2) }
@@ -80,7 +81,8 @@ fn serve_desk<L: Ledger, R: Wait, K: Links, P: Keeper + Drop>(
     ensures words { result.0 ≢ 1 }
     ensures ended { result.0 ≡ 0 → IsSome (K.ahead links) → K.ahead result.1 ≡ Some [] }
     ensures link_cause { result.0 ≡ 2 → Rose (K.faults links) (K.faults result.1) }
-    ensures served { (result.0 ≡ 0) ⊎ (result.0 ≡ 2) → HasServed P.keeps P.tells P.faults BUILT_IN.now keeper result.2 }
+    ensures served { (result.0 ≡ 0) ⊎ (result.0 ≡ 2)
+        → HasServed P.keeps P.tells P.faults BUILT_IN.now keeper result.2 }
     ensures keeper_cause { result.0 ≡ 4 → Rose (P.faults keeper) (P.faults result.2) }
     ensures bad { result.0 ≡ 5 →
         (kind : ℕ) × (number : ℕ) × HasBadRow P.keeps P.tells keeper result.2 kind number }

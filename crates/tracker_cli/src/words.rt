@@ -31,7 +31,8 @@ pub(crate) fn command_in<'a>(
     alloc: Global,
     words: &'a [String],
 ) -> Result<Option<Command<'a>>, AllocError>
-    ensures { IfOk result (λ command. MatchOption command (¬ (IsCommand (map string_bytes words.now)))
+    ensures { IfOk result (λ command. MatchOption command
+        (¬ (IsCommand (map string_bytes words.now)))
         (λ c. Asks c (map string_bytes words.now))) }
 {
     // `clap` would take a word that begins with a hyphen for an option.

@@ -43,7 +43,8 @@ HasNoRow rows = (kind number : ℕ) → rows kind number ≡ None
 
 -- a new tracker of the setup that this text is
 abbrev pub IsNew : List ℕ → Machine → Type 0
-IsNew setup_text m = (setup : Parts) × (setup_in setup_text ≡ Ok setup) × (m ≡ opening setup_text setup)
+IsNew setup_text m =
+    (setup : Parts) × (setup_in setup_text ≡ Ok setup) × (m ≡ opening setup_text setup)
 
 -- the tracker that these rows make, of whichever format they are
 abbrev pub IsMadeOf : List Row → Machine → Type 0
@@ -63,7 +64,8 @@ IsBadIn rows kind number = (list : List Row) × IsListing rows list × IsFirstBa
 
 -- a keeper that told its rows has that bad row among them
 abbrev pub HasBadRow : {P : Type 0} → (P → Rows → Type 0) → (P → Type 0) → P → P → ℕ → ℕ → Type 0
-HasBadRow keeps tells old new kind number = (rows : Rows) → keeps old rows → tells new → IsBadIn rows kind number
+HasBadRow keeps tells old new kind number =
+    (rows : Rows) → keeps old rows → tells new → IsBadIn rows kind number
 
 -- a fault that rows have no part in
 abbrev pub IsKeepersOwn : OpenFault → Type 0

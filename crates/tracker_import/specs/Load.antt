@@ -58,7 +58,9 @@ first_filter = record { 0 = 1 }
 
 -- an issue with points from 0 to 7
 abbrev pub create : ℕ → Call
-create i = call.Create (codes "OPS") (codes "Task") (codes "load " ++ decimal i) (with_value (codes "points") (given.Text (decimal (i % 8)))) None
+create i =
+    call.Create (codes "OPS") (codes "Task") (codes "load " ++ decimal i)
+    (with_value (codes "points") (given.Text (decimal (i % 8)))) None
 
 abbrev pub into_sprint : ℕ → Call
 into_sprint i = call.Edit (key i) (with_value (codes "sprint") (given.Number 1))
@@ -138,7 +140,8 @@ refused_in m (c ∷ cs) = refused_at m c + refused_in (next_of m loader c) cs
 
 -- how many issues a filter shows its owner; none where it isn't there
 abbrev pub members_of : Machine → FilterNo → ℕ
-members_of m filter_no = option_map_or (λ f. length (shown m f.owner.0 f)) (filter_numbered m filter_no) 0
+members_of m filter_no =
+    option_map_or (λ f. length (shown m f.owner.0 f)) (filter_numbered m filter_no) 0
 
 -- the number of calls, and of those that were refused; and of a tracker the members of its first filter, what is left of its first
 -- sprint, and the bucket in which its ranks are, or to which they go
@@ -161,14 +164,16 @@ load_summary n m = summary_of (length (load_calls n)) (refused_in m (load_calls 
 -- ---- how it ends
 
 -- the calls were made, and so many of them were refused
-pub record HasMade {P : Type 0} (keeps : P → Rows → Type 0) (tells : P → Type 0) (faults : P → ℕ) (old : DeskParts P) (calls : List Call) (counts : CallCounts) (new : DeskParts P) : Type 0 where
+pub record HasMade {P : Type 0} (keeps : P → Rows → Type 0) (tells : P → Type 0) (faults : P → ℕ)
+    (old : DeskParts P) (calls : List Call) (counts : CallCounts) (new : DeskParts P) : Type 0 where
   pub calls_are : counts.calls ≡ length calls
   pub refused_are : counts.refused ≡ refused_in old.machine calls
   pub machine_is : new.machine ≡ end_of old.machine calls
   pub kept : HasKept keeps tells faults old new 0
 
 -- the first of the calls were made, and no other one
-pub record HasMadeFront {P : Type 0} (keeps : P → Rows → Type 0) (tells : P → Type 0) (faults : P → ℕ) (calls : List Call) (old new : DeskParts P) (failures : ℕ) : Type 0 where
+pub record HasMadeFront {P : Type 0} (keeps : P → Rows → Type 0) (tells : P → Type 0)
+    (faults : P → ℕ) (calls : List Call) (old new : DeskParts P) (failures : ℕ) : Type 0 where
   pub done : List Call
   pub rest : List Call
   pub calls_are : calls ≡ done ++ rest
@@ -176,33 +181,46 @@ pub record HasMadeFront {P : Type 0} (keeps : P → Rows → Type 0) (tells : P 
   pub kept : HasKept keeps tells faults old new failures
 
 -- the load was made, and the summary is what it comes to
-pub record HasMadeLoad {P : Type 0} (keeps : P → Rows → Type 0) (tells : P → Type 0) (faults : P → ℕ) (n : ℕ) (old : DeskParts P) (summary : LoadSummary) (new : DeskParts P) : Type 0 where
+pub record HasMadeLoad {P : Type 0} (keeps : P → Rows → Type 0) (tells : P → Type 0)
+    (faults : P → ℕ) (n : ℕ) (old : DeskParts P) (summary : LoadSummary)
+    (new : DeskParts P) : Type 0 where
   pub summary_is : summary ≡ load_summary n old.machine
   pub machine_is : new.machine ≡ loaded n old.machine
   pub kept : HasKept keeps tells faults old new 0
 
 -- all calls were made; or the keeper failed at the one behind those that were made; or memory lacked
-abbrev pub EndsLoad : {P : Type 0} → (P → Rows → Type 0) → (P → Type 0) → (P → ℕ) → ℕ → DeskParts P → LoadEnd → DeskParts P → Type 0
-EndsLoad keeps tells faults n old (end.Done summary) new = HasMadeLoad keeps tells faults n old summary new
-EndsLoad keeps tells faults n old end.KeeperFault new = HasMadeFront keeps tells faults (load_calls n) old new 1
-EndsLoad keeps tells faults n old end.Memory new = HasMadeFront keeps tells faults (load_calls n) old new 0
+abbrev pub EndsLoad : {P : Type 0} → (P → Rows → Type 0) → (P → Type 0) → (P → ℕ) → ℕ → DeskParts P
+    → LoadEnd → DeskParts P → Type 0
+EndsLoad keeps tells faults n old (end.Done summary) new =
+    HasMadeLoad keeps tells faults n old summary new
+EndsLoad keeps tells faults n old end.KeeperFault new =
+    HasMadeFront keeps tells faults (load_calls n) old new 1
+EndsLoad keeps tells faults n old end.Memory new =
+    HasMadeFront keeps tells faults (load_calls n) old new 0
 
 -- ---- on the way
 
 -- a call was answered and made; or it wasn't, since the keeper failed or memory lacked, and the tracker is as it was
-pub record IsMadeInLoad {P : Type 0} (keeps : P → Rows → Type 0) (tells : P → Type 0) (faults : P → ℕ) (old : DeskParts P) (c : Call) (refused : Bool) (new : DeskParts P) : Type 0 where
+pub record IsMadeInLoad {P : Type 0} (keeps : P → Rows → Type 0) (tells : P → Type 0)
+    (faults : P → ℕ) (old : DeskParts P) (c : Call) (refused : Bool)
+    (new : DeskParts P) : Type 0 where
   pub refused_is : refused ≡ is_refused (reply_of old.machine loader c)
   pub machine_is : new.machine ≡ next_of old.machine loader c
   pub kept : HasKept keeps tells faults old new 0
 
-pub record IsLeftInLoad {P : Type 0} (keeps : P → Rows → Type 0) (tells : P → Type 0) (faults : P → ℕ) (old new : DeskParts P) (failures : ℕ) : Type 0 where
+pub record IsLeftInLoad {P : Type 0} (keeps : P → Rows → Type 0) (tells : P → Type 0)
+    (faults : P → ℕ) (old new : DeskParts P) (failures : ℕ) : Type 0 where
   pub machine_is : new.machine ≡ old.machine
   pub kept : HasKept keeps tells faults old new failures
 
-abbrev pub MakesInLoad : {P : Type 0} → (P → Rows → Type 0) → (P → Type 0) → (P → ℕ) → DeskParts P → Call → Result Bool LoadFault → DeskParts P → Type 0
-MakesInLoad keeps tells faults old c (Ok refused) new = IsMadeInLoad keeps tells faults old c refused new
-MakesInLoad keeps tells faults old c (Err fault.Keeper) new = IsLeftInLoad keeps tells faults old new 1
-MakesInLoad keeps tells faults old c (Err fault.Memory) new = IsLeftInLoad keeps tells faults old new 0
+abbrev pub MakesInLoad : {P : Type 0} → (P → Rows → Type 0) → (P → Type 0) → (P → ℕ) → DeskParts P
+    → Call → Result Bool LoadFault → DeskParts P → Type 0
+MakesInLoad keeps tells faults old c (Ok refused) new =
+    IsMadeInLoad keeps tells faults old c refused new
+MakesInLoad keeps tells faults old c (Err fault.Keeper) new =
+    IsLeftInLoad keeps tells faults old new 1
+MakesInLoad keeps tells faults old c (Err fault.Memory) new =
+    IsLeftInLoad keeps tells faults old new 0
 
 -- whether a call was refused; none goes on behind a keeper's fault or want of memory
 abbrev pub outcome_of : Reply → Result Bool LoadFault
@@ -212,7 +230,11 @@ outcome_of (reply.Refused refusal.Memory) = Err fault.Memory
 outcome_of (reply.Refused r) = Ok true
 
 -- all of these calls were made, or only the first of them
-abbrev pub MakesEach : {P : Type 0} → (P → Rows → Type 0) → (P → Type 0) → (P → ℕ) → DeskParts P → List Call → Result CallCounts LoadFault → DeskParts P → Type 0
-MakesEach keeps tells faults old calls (Ok counts) new = HasMade keeps tells faults old calls counts new
-MakesEach keeps tells faults old calls (Err fault.Keeper) new = HasMadeFront keeps tells faults calls old new 1
-MakesEach keeps tells faults old calls (Err fault.Memory) new = HasMadeFront keeps tells faults calls old new 0
+abbrev pub MakesEach : {P : Type 0} → (P → Rows → Type 0) → (P → Type 0) → (P → ℕ) → DeskParts P
+    → List Call → Result CallCounts LoadFault → DeskParts P → Type 0
+MakesEach keeps tells faults old calls (Ok counts) new =
+    HasMade keeps tells faults old calls counts new
+MakesEach keeps tells faults old calls (Err fault.Keeper) new =
+    HasMadeFront keeps tells faults calls old new 1
+MakesEach keeps tells faults old calls (Err fault.Memory) new =
+    HasMadeFront keeps tells faults calls old new 0

@@ -39,8 +39,10 @@ calls_left n stage.StartSprint = behind_edits n
 calls_left n stage.SaveFilter = behind_sprint n
 calls_left n (stage.LaterTick k) = flat_map (worked_on n) (multiples 2 k (n / 2)) ++ behind_work n
 calls_left n (stage.Start k) =
-    start (2 * k) ∷ (finished (2 * k) ++ flat_map (worked_on n) (multiples 2 (k + 1) (n / 2))) ++ behind_work n
-calls_left n (stage.Finish k) = finish (2 * k) ∷ flat_map (worked_on n) (multiples 2 (k + 1) (n / 2)) ++ behind_work n
+    start (2 * k) ∷ (finished (2 * k) ++ flat_map (worked_on n) (multiples 2 (k + 1) (n / 2)))
+    ++ behind_work n
+calls_left n (stage.Finish k) =
+    finish (2 * k) ∷ flat_map (worked_on n) (multiples 2 (k + 1) (n / 2)) ++ behind_work n
 calls_left n (stage.Move k) = map move_up (multiples 5 k (n / 5)) ++ behind_moves n
 calls_left n stage.RebalanceStart = behind_moves n
 calls_left n (stage.RebalanceStep k) = map (λ _. step) (numbers k (steps_for n)) ++ behind_steps n
