@@ -3,16 +3,19 @@
 
 usage: python3 bench/search.py PROGRAM [ISSUES]
 
-PROGRAM is the built tracker, as crates/tracker/out/tracker after `rt run` there. Each kind is timed by the processor time of runs of its
-own (user and system) over the same issues, less that of runs without searches; of three runs the fastest counts. Peak memory is that of
-the run.
+PROGRAM is the built tracker, as crates/tracker/out/tracker after `rt run` there. One run has all searches, the kinds in turns of 20; each
+turn is timed by the processor time that the run took meanwhile (Linux's schedstat). Told are the mean of a kind's searches, and the median of
+its turns, which a machine that is slow for a while moves less. Peak memory is that of the run.
 """
 import json
 import os
+import statistics
+import subprocess
 import sys
-import tempfile
+import threading
 
 EACH = 200
+IN_TURN = 20
 START = 1_709_251_200
 
 KINDS = [
@@ -47,41 +50,52 @@ def load(issues):
         yield line('root', 'edit', issue=key, set={'labels': ['web', 'desk'] if number % 2 else None})
 
 
-def run(program, lines):
-    """The processor seconds and the peak memory, in megabytes, of a run over these lines."""
-    with tempfile.TemporaryFile() as source, tempfile.TemporaryFile() as out:
-        source.write('\n'.join(lines).encode())
-        source.seek(0)
-        child = os.fork()
-        if child == 0:
-            os.dup2(source.fileno(), 0)
-            os.dup2(out.fileno(), 1)
-            os.execv(program, [program, ':memory:', 'exec'])
-        _, status, used = os.wait4(child, 0)
-        out.seek(0)
-        text = out.read()
-        if status or text.count(b'\n') != len(lines) or b'refused' in text:
-            sys.exit(f'status {status}, {text.count(bytes([10]))} replies to {len(lines)} lines, or one was refused')
-        return used.ru_utime + used.ru_stime, used.ru_maxrss / 1024
+class Run:
+    """A run of the program that answers lines as they come."""
 
+    def __init__(self, program):
+        self.child = subprocess.Popen([program, ':memory:', 'exec'], stdin=subprocess.PIPE, stdout=subprocess.PIPE)
 
-def fastest(program, lines):
-    runs = [run(program, lines) for _ in range(3)]
-    return min(it[0] for it in runs), max(it[1] for it in runs)
+    def spent(self):
+        """The processor seconds so far."""
+        with open(f'/proc/{self.child.pid}/schedstat', encoding='ascii') as it:
+            return int(it.read().split()[0]) / 1e9
+
+    def answer(self, lines):
+        """Has the lines answered, each of which must be, and returns the processor seconds that it took."""
+        begin = self.spent()
+        text = ''.join(f'{it}\n' for it in lines).encode()
+        writer = threading.Thread(target=lambda: (self.child.stdin.write(text), self.child.stdin.flush()))
+        writer.start()
+        for line in lines:
+            reply = self.child.stdout.readline()
+            if not reply or b'refused' in reply:
+                sys.exit(f'{line} is answered by {reply}')
+        writer.join()
+        return self.spent() - begin
+
+    def end(self):
+        """The peak memory in megabytes."""
+        self.child.stdin.close()
+        _, _, used = os.wait4(self.child.pid, 0)
+        return used.ru_maxrss / 1024
 
 
 def main():
-    program = sys.argv[1]
     number = int(sys.argv[2]) if len(sys.argv) > 2 else 10_000
     issues = list(load(number))
-    alone, memory = fastest(program, issues)
-    print(f'{len(issues)} lines for {number} issues: {alone:.2f} s of processor time, {len(issues) / alone:,.0f} lines a second; {memory:.0f} MB at most')
-    total = 0
-    for jql in KINDS:
-        took, memory = fastest(program, issues + [line('cy', 'search', jql=jql)] * EACH)
-        total += took - alone
-        print(f'{1e3 * (took - alone) / EACH:.2f} ms a search, {memory:.0f} MB at most: {jql or "(all)"}')
-    print(f'{1e3 * total / EACH / len(KINDS):.2f} ms a search in the mean')
+    run = Run(sys.argv[1])
+    took = run.answer(issues)
+    print(f'{len(issues)} lines for {number} issues: {took:.2f} s of processor time, {len(issues) / took:,.0f} lines a second')
+    turns = {jql: [] for jql in KINDS}
+    for _ in range(EACH // IN_TURN):
+        for jql in KINDS:
+            lines = [line('cy', 'search', jql=jql)] * IN_TURN
+            turns[jql].append(1e3 * run.answer(lines) / IN_TURN)
+    for jql, each in turns.items():
+        print(f'{statistics.mean(each):.2f} ms a search, {statistics.median(each):.2f} by the median: {jql or "(all)"}')
+    mean, median = (statistics.mean(of(it) for it in turns.values()) for of in (statistics.mean, statistics.median))
+    print(f'{mean:.2f} ms a search in the mean, {median:.2f} by the medians; {run.end():.0f} MB at most')
 
 
 if __name__ == '__main__':
