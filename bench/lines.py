@@ -2,22 +2,25 @@
 """Times request lines: 50,000 creates, and 50,000 edits, shows and histories of 5,000 issues; 10,000 moves of 10,000 issues; and 10,000
 creates behind 1,000 issues and behind 40,000.
 
-usage: python3 bench/lines.py PROGRAM [LINES]
+usage: python3 bench/lines.py PROGRAM.. [LINES]
 
-PROGRAM is the built tracker, as crates/tracker/out/tracker after `rt run` there. Each kind is timed by the processor time of runs of its own
-(user and system), less that of runs without its lines; of three runs the fastest counts. The lines have about 120 bytes. Peak memory is
-that of the run. How often a line has memory allocated is counted in runs of their own, by a library in front of the C library's, which
+PROGRAM is the built tracker, as crates/tracker/out/tracker after `rt run` there; several take turns, and the later ones are also told as
+shares of the first one's time. Each kind is timed by the processor time of runs of its own (user and system), less that of runs without its
+lines right before; of seven such times the median counts. The lines have about 120 bytes. Peak memory is that of the run. How often a line has memory allocated is counted in runs of their own, by a library in front of the C library's, which
 takes a C compiler (`cc`).
 """
 import json
 import os
 import pathlib
 import random
+import statistics
 import subprocess
 import sys
 import tempfile
 
-LINES = int(sys.argv[2]) if len(sys.argv) > 2 else 50_000
+PROGRAMS = [it for it in sys.argv[1:] if not it.isdigit()]
+LINES = int(sys.argv[-1]) if sys.argv[-1].isdigit() else 50_000
+TURNS = 7
 ISSUES = 5_000
 
 
@@ -112,9 +115,15 @@ with tempfile.TemporaryDirectory() as place:
     (folder / 'counter.c').write_text(COUNTER)
     subprocess.run(['cc', '-O1', '-fno-builtin', '-shared', '-fPIC', '-o', folder / 'counter.so', folder / 'counter.c'], check=True)
     for name, load, lines in KINDS:
-        base = min(run(sys.argv[1], load)[0] for _ in range(3)) if load else 0
-        runs = [run(sys.argv[1], load + lines) for _ in range(3)]
-        took = min(it[0] for it in runs) - base
-        calls = allocations(sys.argv[1], load + lines, folder) - allocations(sys.argv[1], load, folder)
-        print(f'{name}: {len(lines) / took:,.0f} lines a second of processor time, {1e6 * took / len(lines):.1f} us and {calls / len(lines):.1f} allocations each; '
-              f'{runs[0][1]:.0f} MB at most')
+        times, most = {it: [] for it in PROGRAMS}, 0
+        for _ in range(TURNS):
+            for program in PROGRAMS:
+                base = run(program, load)[0] if load else 0
+                spent, memory = run(program, load + lines)
+                times[program].append((spent - base) / len(lines))
+                most = max(most, memory)
+        for program in PROGRAMS:
+            took, first = statistics.median(times[program]), statistics.median(times[PROGRAMS[0]])
+            calls = (allocations(program, load + lines, folder) - allocations(program, load, folder)) / len(lines)
+            share = '' if program == PROGRAMS[0] else f', {took / first:.2f} of the first'
+            print(f'{name}: {1 / took:,.0f} lines a second of processor time, {1e6 * took:.1f} us and {calls:.1f} allocations each{share}; {most:.0f} MB at most')
