@@ -6,8 +6,8 @@ usage: python3 bench/lines.py PROGRAM.. [LINES]
 
 PROGRAM is the built tracker, as crates/tracker/out/tracker after `rt run` there; several take turns, and the later ones are also told as
 shares of the first one's time. Each kind is timed by the processor time of runs of its own (user and system), less that of runs without its
-lines right before; of seven such times the median counts. The lines have about 120 bytes. Peak memory is that of the run. How often a line has memory allocated is counted in runs of their own, by a library in front of the C library's, which
-takes a C compiler (`cc`).
+lines right before; of seven such times the median counts. The lines have about 120 bytes. Peak memory is the most of all runs. How often a
+line has memory allocated is counted in runs of their own, by a library in front of the C library's, which takes a C compiler (`cc`).
 """
 import json
 import os

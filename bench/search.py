@@ -77,7 +77,9 @@ class Run:
     def end(self):
         """The peak memory in megabytes."""
         self.child.stdin.close()
-        _, _, used = os.wait4(self.child.pid, 0)
+        _, status, used = os.wait4(self.child.pid, 0)
+        if status:
+            sys.exit(f'the run ended with {status}')
         return used.ru_maxrss / 1024
 
 

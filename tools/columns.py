@@ -3,7 +3,8 @@
 
 usage: python3 tools/columns.py FILE..
 
-A FILE is of src/ (.rt) or of specs/ (.antt). Only white space changes, and no line of code, comment or import. `rt fmt` keeps the breaks.
+A FILE is of src/ (.rt) or of specs/ (.antt). Only white space changes, and no line of code, comment or import. Run `rt fmt` afterwards, which
+keeps the breaks but of records, whose fields it lays out a line each, with a semicolon behind the last. A few lines want a hand's break.
 """
 import pathlib
 import re
