@@ -18,7 +18,8 @@ issues_before (i ∷ is) issue = if i.0 == issue then 0 else suc (issues_before 
 -- all issues but this one
 abbrev pub other_issues : ℕ → List IssueNo → List IssueNo
 other_issues issue [] = []
-other_issues issue (i ∷ is) = if i.0 == issue then other_issues issue is else i ∷ other_issues issue is
+other_issues issue (i ∷ is) =
+    if i.0 == issue then other_issues issue is else i ∷ other_issues issue is
 
 -- how many issues stand above a place
 abbrev pub issues_above : List IssueNo → Place → ℕ
@@ -28,7 +29,8 @@ issues_above rest Last = length rest
 
 -- the issue taken out, and put in at the place among the others; a new issue is put in alone
 abbrev pub issues_moved : IssueNo → Place → List IssueNo → List IssueNo
-issues_moved issue place is = insert (other_issues issue.0 is) (issues_above (other_issues issue.0 is) place) issue
+issues_moved issue place is =
+    insert (other_issues issue.0 is) (issues_above (other_issues issue.0 is) place) issue
 
 -- places are the same in two orders, whatever their ranks
 pub record HaveSamePlaces (ps qs : List Pair) : Type 0 where
@@ -37,5 +39,7 @@ pub record HaveSamePlaces (ps qs : List Pair) : Type 0 where
   pub places : (issue : ℕ) → place_in ps issue ≡ place_in qs issue
   pub neighbours : (place : Option ℕ) → beside ps place ≡ beside qs place
   pub gaps : (asked : Option IssueNo) (place : Place) → gap ps asked place ≡ gap qs asked place
-  pub stands : (asked : Option IssueNo) (place : Place) → stands_at ps asked place ≡ stands_at qs asked place
-  pub named : (asked : Option IssueNo) (place : Place) → AreNamed ps asked place → AreNamed qs asked place
+  pub stands : (asked : Option IssueNo) (place : Place)
+      → stands_at ps asked place ≡ stands_at qs asked place
+  pub named : (asked : Option IssueNo) (place : Place) → AreNamed ps asked place
+      → AreNamed qs asked place

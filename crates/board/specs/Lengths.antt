@@ -13,7 +13,8 @@ AreCountsOf ps counts = (bytes : ℕ) → slice_index counts bytes ≡ times_lon
 
 -- one more is counted of this length
 abbrev pub CountsOneMore : List ℕ → List ℕ → ℕ → Type 0
-CountsOneMore old new bytes = (n : ℕ) → slice_index new n ≡ slice_index old n + (if bytes == n then 1 else 0)
+CountsOneMore old new bytes =
+    (n : ℕ) → slice_index new n ≡ slice_index old n + (if bytes == n then 1 else 0)
 
 -- the greatest length that is counted, or 0 where none is
 pub record IsLongest (counts : List ℕ) (bytes : ℕ) : Type 0 where

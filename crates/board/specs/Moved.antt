@@ -20,7 +20,8 @@ or_sides sides (Some rank) = Ok rank
 -- the rank that is chosen in a bucket between the neighbours that are in it
 abbrev pub rank_in_bucket : ℕ → Option RankParts → Option RankParts → Result RankParts Sides
 rank_in_bucket bucket low high =
-    or_sides (if_in bucket low, if_in bucket high) (chosen_between (if_in bucket low) (if_in bucket high) bucket)
+    or_sides (if_in bucket low, if_in bucket high)
+    (chosen_between (if_in bucket low) (if_in bucket high) bucket)
 
 abbrev pub rank_beside : Option RankParts → Option RankParts → ℕ → Result RankParts Sides
 rank_beside low high empty = rank_in_bucket (bucket_beside low high empty) low high
@@ -35,7 +36,8 @@ own_rank ps (Some issue) = rank_in ps issue.0
 unfoldable pub rank_given : List Pair → Option IssueNo → Place → ℕ → Result RankParts Sides
 rank_given ps asked place empty =
     if stands_at ps asked place then or_sides (None, None) (own_rank ps asked)
-    else rank_beside (rank_above (others ps asked) (gap ps asked place)) (rank_below (others ps asked) (gap ps asked place)) empty
+    else rank_beside (rank_above (others ps asked) (gap ps asked place))
+    (rank_below (others ps asked) (gap ps asked place)) empty
 
 abbrev pub with_rank : List Pair → IssueNo → Result RankParts Sides → Result (List Pair) Sides
 with_rank ps issue (Ok rank) = Ok (put_in (rank, issue) (without issue.0 ps))

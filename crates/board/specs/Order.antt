@@ -30,7 +30,8 @@ IsIn ps issue = places_before ps issue < length ps
 
 -- its place from 0, and none where it doesn't stand there
 abbrev pub place_in : List Pair → ℕ → Option ℕ
-place_in ps issue = if nat_lt (places_before ps issue) (length ps) then Some (places_before ps issue) else None
+place_in ps issue =
+    if nat_lt (places_before ps issue) (length ps) then Some (places_before ps issue) else None
 
 -- its rank, and none where it doesn't stand there
 abbrev pub rank_in : List Pair → ℕ → Option RankParts
@@ -44,7 +45,8 @@ pair_before ps (suc place) = slice_get ps place
 -- the issues before and behind a place; none where there is no place
 abbrev pub beside : List Pair → Option ℕ → Option IssueNo × Option IssueNo
 beside ps None = (None, None)
-beside ps (Some place) = (option_map (λ p. p.1) (pair_before ps place), option_map (λ p. p.1) (slice_get ps (place + 1)))
+beside ps (Some place) =
+    (option_map (λ p. p.1) (pair_before ps place), option_map (λ p. p.1) (slice_get ps (place + 1)))
 
 -- all pairs but the issue's
 abbrev pub without : ℕ → List Pair → List Pair

@@ -65,12 +65,14 @@ if_in bucket (Some r) = if r.bucket == bucket then Some r else None
 -- the rank that is chosen between the neighbours of a place, of which those in its bucket decide
 abbrev pub IsChosenBeside : Option RankParts → Option RankParts → ℕ → RankParts → Type 0
 IsChosenBeside low high empty rank =
-    IsChosen (if_in (bucket_beside low high empty) low) (if_in (bucket_beside low high empty) high) (bucket_beside low high empty) rank
+    IsChosen (if_in (bucket_beside low high empty) low) (if_in (bucket_beside low high empty) high)
+    (bucket_beside low high empty) rank
 
 -- why there is none: no rank of the bucket lies between the neighbours that decide
 abbrev pub ExplainsBeside : Option RankParts → Option RankParts → ℕ → RankFault → Type 0
 ExplainsBeside low high empty fault =
-    ExplainsFault (if_in (bucket_beside low high empty) low) (if_in (bucket_beside low high empty) high) (bucket_beside low high empty) fault
+    ExplainsFault (if_in (bucket_beside low high empty) low)
+    (if_in (bucket_beside low high empty) high) (bucket_beside low high empty) fault
 
 -- the other issue that a place names
 abbrev pub named_by : Place → Option IssueNo
@@ -86,14 +88,18 @@ pub record AreNamed (ps : List Pair) (issue : Option IssueNo) (place : Place) : 
 
 -- the rank puts the issue there: it is the one that the issue has where it stands there, and else the one that is chosen between
 -- those of the other issues that are beside the place
-pub record IsRankFor (ps : List Pair) (issue : Option IssueNo) (place : Place) (empty : ℕ) (rank : RankParts) : Type 0 where
-  pub kept : (i : IssueNo) → issue ≡ Some i → stands_at ps issue place ≡ true → rank_in ps i.0 ≡ Some rank
+pub record IsRankFor (ps : List Pair) (issue : Option IssueNo) (place : Place) (empty : ℕ)
+    (rank : RankParts) : Type 0 where
+  pub kept : (i : IssueNo) → issue ≡ Some i → stands_at ps issue place ≡ true
+      → rank_in ps i.0 ≡ Some rank
   pub moved : stands_at ps issue place ≡ false →
-      IsChosenBeside (rank_above (others ps issue) (gap ps issue place)) (rank_below (others ps issue) (gap ps issue place)) empty rank
+      IsChosenBeside (rank_above (others ps issue) (gap ps issue place))
+      (rank_below (others ps issue) (gap ps issue place)) empty rank
 
 -- no rank is given where the issue doesn't stand there and none lies between the neighbours that decide
 abbrev pub ExplainsNoRank : List Pair → Option IssueNo → Place → ℕ → RankFault → Type 0
 ExplainsNoRank ps issue place empty (Exhausted low high) =
     (stands_at ps issue place ≡ false) ×
-    ExplainsBeside (rank_above (others ps issue) (gap ps issue place)) (rank_below (others ps issue) (gap ps issue place)) empty (Exhausted low high)
+    ExplainsBeside (rank_above (others ps issue) (gap ps issue place))
+    (rank_below (others ps issue) (gap ps issue place)) empty (Exhausted low high)
 ExplainsNoRank ps issue place empty Memory = Unit {0}

@@ -31,10 +31,12 @@ pub zero_and_two : bucket_between 0 2 ≡ 0
 zero_and_two = refl
 
 -- the first one moves behind the second, and then stands before the third
-pub moved_behind : put_in (rank 0 7, issue 1) (without 1 three) ≡ (rank 0 5, issue 2) ∷ (rank 0 7, issue 1) ∷ (rank 0 9, issue 3) ∷ []
+pub moved_behind : put_in (rank 0 7, issue 1) (without 1 three)
+    ≡ (rank 0 5, issue 2) ∷ (rank 0 7, issue 1) ∷ (rank 0 9, issue 3) ∷ []
 moved_behind = refl
 
-pub stands_behind : stands_at (put_in (rank 0 7, issue 1) (without 1 three)) (Some (issue 1)) (Before (issue 3)) ≡ true
+pub stands_behind : stands_at (put_in (rank 0 7, issue 1) (without 1 three)) (Some (issue 1))
+    (Before (issue 3)) ≡ true
 stands_behind = refl
 
 pub stood_elsewhere : stands_at three (Some (issue 1)) (After (issue 2)) ≡ false
@@ -50,7 +52,8 @@ pub not_there : place_in three 9 ≡ None
 not_there = refl
 
 -- the first one moves behind the second, to the rank halfway to the third
-pub computed_behind : moved three (Some (issue 1)) (issue 1) (After (issue 2)) 0 ≡ Ok ((rank 0 5, issue 2) ∷ (rank 0 7, issue 1) ∷ (rank 0 9, issue 3) ∷ [])
+pub computed_behind : moved three (Some (issue 1)) (issue 1) (After (issue 2)) 0
+    ≡ Ok ((rank 0 5, issue 2) ∷ (rank 0 7, issue 1) ∷ (rank 0 9, issue 3) ∷ [])
 unfolding rank_given chosen_between
 computed_behind = refl
 
@@ -60,16 +63,19 @@ unfolding rank_given
 computed_there = refl
 
 -- a new one goes last, 8,192 behind the third
-pub computed_last : rank_given three None Last 0 ≡ Ok (record { bucket = 0; front = 18 ∷ 0 ∷ 0 ∷ 6 ∷ 11 ∷ 29 ∷ []; further = [] })
+pub computed_last : rank_given three None Last 0
+    ≡ Ok (record { bucket = 0; front = 18 ∷ 0 ∷ 0 ∷ 6 ∷ 11 ∷ 29 ∷ []; further = [] })
 unfolding rank_given chosen_between
 computed_last = refl
 
 -- and where there is none yet, in the bucket that is given
-pub computed_first : rank_given [] None Last 2 ≡ Ok (record { bucket = 2; front = 18 ∷ 0 ∷ 0 ∷ 0 ∷ 0 ∷ 0 ∷ []; further = [] })
+pub computed_first : rank_given [] None Last 2
+    ≡ Ok (record { bucket = 2; front = 18 ∷ 0 ∷ 0 ∷ 0 ∷ 0 ∷ 0 ∷ []; further = [] })
 unfolding rank_given chosen_between
 computed_first = refl
 
-pub issues_behind : issues_moved (issue 1) (After (issue 2)) (issue 1 ∷ issue 2 ∷ issue 3 ∷ []) ≡ issue 2 ∷ issue 1 ∷ issue 3 ∷ []
+pub issues_behind : issues_moved (issue 1) (After (issue 2)) (issue 1 ∷ issue 2 ∷ issue 3 ∷ [])
+    ≡ issue 2 ∷ issue 1 ∷ issue 3 ∷ []
 issues_behind = refl
 
 pub rows_are_in_order : board_rows three (issue 3 ∷ issue 9 ∷ issue 1 ∷ []) ≡ issue 1 ∷ issue 3 ∷ []

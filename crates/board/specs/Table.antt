@@ -18,10 +18,12 @@ IsTableOf ps table = (issue : ℕ) → slice_index_or table issue None ≡ place
 -- the table has the places from one place up to another, and is otherwise as before
 pub record Mended (ps : List Pair) (from to : ℕ) (old new : List (Option ℕ)) : Type 0 where
   pub inside : (k : ℕ) → from ≤ k → k < to → slice_index_or new (number_at ps k) None ≡ Some k
-  pub others : (issue : ℕ) → ((k : ℕ) → from ≤ k → k < to → number_at ps k ≢ issue) → slice_index_or new issue None ≡ slice_index_or old issue None
+  pub others : (issue : ℕ) → ((k : ℕ) → from ≤ k → k < to → number_at ps k ≢ issue)
+      → slice_index_or new issue None ≡ slice_index_or old issue None
 
 -- what is kept beside the pairs: the table, the counts of ranks by length, and room for a pair by each number of the table
-pub record IsKept (ps : List Pair) (table : List (Option ℕ)) (counts : List ℕ) (slots : ℕ) : Type 0 where
+pub record IsKept (ps : List Pair) (table : List (Option ℕ)) (counts : List ℕ)
+    (slots : ℕ) : Type 0 where
   pub order : IsOrder ps
   pub places : IsTableOf ps table
   pub counted : AreCountsOf ps counts
@@ -29,7 +31,8 @@ pub record IsKept (ps : List Pair) (table : List (Option ℕ)) (counts : List �
   pub enough : length table ≤ slots + 1
 
 -- a pair of the issue stands at a place, the other pairs stand in their order, and table and counts follow
-pub record HasPairAt (ps : List Pair) (issue : ℕ) (x : Pair) (new : List Pair) (table : List (Option ℕ)) (counts : List ℕ) (place : ℕ) : Type 0 where
+pub record HasPairAt (ps : List Pair) (issue : ℕ) (x : Pair) (new : List Pair)
+    (table : List (Option ℕ)) (counts : List ℕ) (place : ℕ) : Type 0 where
   pub in_range : place < length new
   pub place_is : place ≡ places_before ps issue
   pub stands : slice_index_or new place nothing ≡ x

@@ -45,7 +45,8 @@ fn bucket_between(low: u8, high: u8) -> u8
 /// The bucket of a place between these ranks.
 fn bucket_beside(low: Option<&Rank>, high: Option<&Rank>, empty_bucket: u8) -> u8
     requires { empty_bucket < 3 }
-    ensures bucket { result ≡ bucket_beside (option_copied low.entry) (option_copied high.entry) empty_bucket }
+    ensures bucket { result
+        ≡ bucket_beside (option_copied low.entry) (option_copied high.entry) empty_bucket }
     ensures in_circle { result < 3 }
 {
     match (low, high) {
@@ -74,9 +75,12 @@ pub(crate) fn rank_between(
     empty_bucket: u8,
 ) -> Result<Rank, RankFault>
     requires bucket { empty_bucket < 3 }
-    requires in_order { IfSome (option_copied low) (λ l. IfSome (option_copied high) (λ h. IsBelow l h)) }
-    ensures chosen { IfOk result (IsChosenBeside (option_copied low.entry) (option_copied high.entry) empty_bucket) }
-    ensures fault { IfErr result (ExplainsBeside (option_copied low.entry) (option_copied high.entry) empty_bucket) }
+    requires in_order { IfSome (option_copied low)
+        (λ l. IfSome (option_copied high) (λ h. IsBelow l h)) }
+    ensures chosen { IfOk result (IsChosenBeside (option_copied low.entry)
+        (option_copied high.entry) empty_bucket) }
+    ensures fault { IfErr result (ExplainsBeside (option_copied low.entry)
+        (option_copied high.entry) empty_bucket) }
 {
     let bucket = bucket_beside(low, high, empty_bucket);
     between(alloc, if_in(bucket, low), if_in(bucket, high), bucket)
@@ -91,8 +95,10 @@ pub(crate) fn rank_at_gap(
 ) -> Result<Rank, RankFault>
     requires bucket { empty_bucket < 3 }
     requires order { IsOrder pairs.now }
-    ensures chosen { IfOk result (IsChosenBeside (rank_above pairs.now above) (rank_below pairs.now above) empty_bucket) }
-    ensures fault { IfErr result (ExplainsBeside (rank_above pairs.now above) (rank_below pairs.now above) empty_bucket) }
+    ensures chosen { IfOk result (IsChosenBeside (rank_above pairs.now above)
+        (rank_below pairs.now above) empty_bucket) }
+    ensures fault { IfErr result (ExplainsBeside (rank_above pairs.now above)
+        (rank_below pairs.now above) empty_bucket) }
 {
     let low = rank_above(pairs, above);
     let high = rank_below(pairs, above);

@@ -22,7 +22,8 @@ pub(crate) fn length_of(rank: &Rank) -> usize
 
 /// Makes an entry for each length.
 pub(crate) fn room_for_lengths(counts: &mut Vec<usize>) -> Result<(), Memory>
-    ensures same { (bytes : ℕ) → slice_index counts.new.items bytes ≡ slice_index counts.old.items bytes }
+    ensures same { (bytes : ℕ)
+        → slice_index counts.new.items bytes ≡ slice_index counts.old.items bytes }
     ensures more { vec_len counts.old ≤ vec_len counts.new }
     ensures ok { OnOk result (255 ≤ vec_len counts.new) }
 {

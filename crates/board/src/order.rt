@@ -37,7 +37,8 @@ impl Model for Order {
 
     ghost view = { λ o. record { pairs = o.pairs.items; room = vec_len o.places - 1 } };
 
-    ghost invariant = { λ o. IsKept o.pairs.items o.places.items o.counts.items (vec_capacity o.pairs) };
+    ghost invariant = { λ o. IsKept o.pairs.items o.places.items o.counts.items
+        (vec_capacity o.pairs) };
 }
 
 impl Order {
@@ -72,7 +73,8 @@ impl Order {
     pub fn put(&mut self, issue: IssueNo, rank: Rank)
         requires free { IsFreeFor self.old.pairs issue.0 rank }
         requires room { place_in self.old.pairs issue.0 ≡ None → HasRoomFor self.old issue.0 }
-        ensures { self.new ≡ record self.old { pairs = put_in (rank, issue) (without issue.0 self.old.pairs) } }
+        ensures { self.new
+            ≡ record self.old { pairs = put_in (rank, issue) (without issue.0 self.old.pairs) } }
     {
         put_pair(
             &mut self.pairs,
@@ -116,8 +118,10 @@ impl Order {
         requires bucket { empty_bucket < 3 }
         ensures rank { IfOk result (IsRankFor self.now.pairs issue place empty_bucket) }
         ensures fault { IfErr result (ExplainsNoRank self.now.pairs issue place empty_bucket) }
-        ensures computed { IfOk result (λ r. rank_given self.now.pairs issue place empty_bucket ≡ Ok r) }
-        ensures refused { IfErr result (IsRefusalOf (rank_given self.now.pairs issue place empty_bucket)) }
+        ensures computed { IfOk result (λ r. rank_given self.now.pairs issue place empty_bucket
+            ≡ Ok r) }
+        ensures refused { IfErr result (IsRefusalOf
+            (rank_given self.now.pairs issue place empty_bucket)) }
     {
         match self.standing_at(issue, place) {
             Some(own) => Ok(self.pairs[own].0.copy(self.alloc)?),
@@ -133,7 +137,9 @@ impl Order {
     /// The issue's place, where it stands just there.
     fn standing_at(&self, issue: Option<IssueNo>, place: Place) -> Option<usize>
         requires { AreNamed self.now.pairs issue place }
-        ensures { MatchOption result (stands_at self.now.pairs issue place ≡ false) (λ own. (stands_at self.now.pairs issue place ≡ true) × (own_place self.now.pairs issue ≡ Some own)) }
+        ensures { MatchOption result (stands_at self.now.pairs issue place ≡ false)
+            (λ own. (stands_at self.now.pairs issue place ≡ true)
+            × (own_place self.now.pairs issue ≡ Some own)) }
     {
         // The proof needs what is kept of the pairs.
         let _ = &self.pairs;
@@ -176,7 +182,9 @@ impl Order {
 
     /// Whether the rank is above all of the order's, which is to be above the last one's.
     pub fn is_above_all(&self, rank: &Rank) -> bool
-        ensures { IsTrue result ↔ IfSome (rank_above self.now.pairs (length self.now.pairs)) (λ last. IsBelow last rank.now) }
+        ensures { IsTrue result
+            ↔ IfSome (rank_above self.now.pairs (length self.now.pairs))
+            (λ last. IsBelow last rank.now) }
     {
         match rank_above(&self.pairs, self.pairs.len()) {
             Some(last) => last.cmp(rank).is_lt(),

@@ -65,9 +65,11 @@ pub(crate) fn give_rank(
     rank: Rank,
 ) -> usize
     requires kept { IsKept pairs.old.items table.old counts.old (vec_capacity pairs.old) }
-    requires room { place_in pairs.old.items issue.0 ≡ None → vec_len pairs.old < vec_capacity pairs.old }
+    requires room { place_in pairs.old.items issue.0 ≡ None
+        → vec_len pairs.old < vec_capacity pairs.old }
     requires number { issue.0 < length table.old }
-    ensures pair { HasPairAt pairs.old.items issue.0 (rank, issue) pairs.new.items table.new counts.new result }
+    ensures pair { HasPairAt pairs.old.items issue.0
+        (rank, issue) pairs.new.items table.new counts.new result }
     ensures capacity { vec_capacity pairs.new ≡ vec_capacity pairs.old }
 {
     match place_by(table, issue) {
@@ -100,7 +102,8 @@ pub(crate) fn put_pair(
 )
     requires kept { IsKept pairs.old.items table.old counts.old (vec_capacity pairs.old) }
     requires free { IsFreeFor pairs.old.items issue.0 rank }
-    requires room { place_in pairs.old.items issue.0 ≡ None → vec_len pairs.old < vec_capacity pairs.old }
+    requires room { place_in pairs.old.items issue.0 ≡ None
+        → vec_len pairs.old < vec_capacity pairs.old }
     requires number { issue.0 < length table.old }
     ensures pairs { pairs.new.items ≡ put_in (rank, issue) (without issue.0 pairs.old.items) }
     ensures kept { IsKept pairs.new.items table.new counts.new (vec_capacity pairs.new) }

@@ -19,7 +19,8 @@ pub(crate) fn place_by(table: &[Option<usize>], issue: IssueNo) -> Option<usize>
 
 /// Makes an entry for each number up to this one.
 pub(crate) fn room_for_numbers(table: &mut Vec<Option<usize>>, most: usize) -> Result<(), Memory>
-    ensures same { (issue : ℕ) → slice_index_or table.new.items issue None ≡ slice_index_or table.old.items issue None }
+    ensures same { (issue : ℕ)
+        → slice_index_or table.new.items issue None ≡ slice_index_or table.old.items issue None }
     ensures ok { OnOk result (most < vec_len table.new) }
     ensures more { vec_len table.old ≤ vec_len table.new }
     ensures no_more { vec_len table.new ≤ max (vec_len table.old) (most + 1) }

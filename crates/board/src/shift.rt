@@ -9,7 +9,8 @@ use rank_strings::Rank;
 fn move_pair(pairs: &mut [(Rank, IssueNo)], from: usize, to: usize)
     requires from { from < length pairs.old }
     requires to { to < length pairs.old }
-    ensures { pairs.new ≡ insert (remove pairs.old from) to (slice_index_or pairs.old from nothing) }
+    ensures { pairs.new
+        ≡ insert (remove pairs.old from) to (slice_index_or pairs.old from nothing) }
 {
     if from < to {
         pairs[from..=to].rotate_left(1);
@@ -42,7 +43,8 @@ pub(crate) fn shift(
     requires to { to < length pairs.old }
     requires once { AllPairs (λ p q. p.1.0 ≢ q.1.0) pairs.old }
     requires table { IsTableOf pairs.old table.old }
-    ensures pairs { pairs.new ≡ insert (remove pairs.old from) to (slice_index_or pairs.old from nothing) }
+    ensures pairs { pairs.new
+        ≡ insert (remove pairs.old from) to (slice_index_or pairs.old from nothing) }
     ensures table { IsTableOf pairs.new table.new }
 {
     move_pair(pairs, from, to);

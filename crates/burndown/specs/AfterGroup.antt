@@ -24,7 +24,8 @@ share_then reading h n = if nat_lt n h.change then None else Some (reading (valu
 -- remaining work of a sprint after group n: the sum of what all issues counted for as they were then
 abbrev pub remaining_then : ((FieldNo → Value) → Share) → List History → ℕ → ℕ → ℤ
 remaining_then reading [] s n = pos 0
-remaining_then reading (h ∷ hs) s n = counted_before s (share_then reading h n) +ℤ remaining_then reading hs s n
+remaining_then reading (h ∷ hs) s n =
+    counted_before s (share_then reading h n) +ℤ remaining_then reading hs s n
 
 -- the moment of the entries of group n, if there are any
 abbrev pub moment_among : List Entry → ℕ → Option ℕ

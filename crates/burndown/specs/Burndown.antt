@@ -44,8 +44,11 @@ pub record TellsGroup (old new : List TrackedSprint) (group : Group) : Type 0 wh
   pub room : (s : ℕ) → slots_of new s ≡ slots_of old s
 
 -- this sprint takes the group in, if it is one
-pub record TellsNamed (old new : List TrackedSprint) (sprint : Option SprintNo) (group : Group) : Type 0 where
-  pub courses : (s : ℕ) → course_of new s ≡ (if names sprint s then after_group s group (course_of old s) else course_of old s)
+pub record TellsNamed (old new : List TrackedSprint) (sprint : Option SprintNo)
+    (group : Group) : Type 0 where
+  pub courses : (s : ℕ)
+      → course_of new s
+      ≡ (if names sprint s then after_group s group (course_of old s) else course_of old s)
   pub room : (s : ℕ) → slots_of new s ≡ slots_of old s
 
 -- room may grow, and all else stands

@@ -28,7 +28,9 @@ abbrev pub rows_between : ((FieldNo → Value) → Share) → List History → �
 rows_between reading hs s low zero = []
 rows_between reading hs s low (suc n) =
     if nat_lt low (suc n)
-    then rows_between reading hs s low n ++ row_of_group (group_numbered hs (suc n)) (suc n) (remaining_then reading hs s n) (remaining_then reading hs s (suc n))
+    then rows_between reading hs s low n
+    ++ row_of_group (group_numbered hs (suc n)) (suc n) (remaining_then reading hs s n)
+    (remaining_then reading hs s (suc n))
     else []
 
 -- the numbers between which groups have rows: from the start on, and up to the close, or to the last group now; a future sprint has no rows
@@ -51,7 +53,8 @@ abbrev pub left_by : ((FieldNo → Value) → Share) → List History → ℕ �
 left_by reading hs s state now = remaining_then reading hs s (last_number state now)
 
 abbrev pub rows_by : ((FieldNo → Value) → Share) → List History → ℕ → SprintState → ℕ → List BurnRow
-rows_by reading hs s state now = rows_between reading hs s (first_number state now) (last_number state now)
+rows_by reading hs s state now =
+    rows_between reading hs s (first_number state now) (last_number state now)
 
 -- a stage is a sprint's state with what remained at the start
 abbrev pub stage_by : SprintState → ℤ → Stage
@@ -73,6 +76,7 @@ IsPast now (Active _ change) = change ≤ now
 IsPast now (Closed _ start_change _ change) = (start_change ≤ now) × (change ≤ now)
 
 -- a burndown is that of these histories up to group number `now`, with the sprints in these states
-pub record IsBurndownOf (reading : (FieldNo → Value) → Share) (hs : List History) (states : ℕ → SprintState) (now : ℕ) (b : List TrackedSprint) : Type 0 where
+pub record IsBurndownOf (reading : (FieldNo → Value) → Share) (hs : List History)
+    (states : ℕ → SprintState) (now : ℕ) (b : List TrackedSprint) : Type 0 where
   pub past : (s : ℕ) → IsPast now (states s)
   pub courses : (s : ℕ) → course_of b s ≡ course_by reading hs s (states s) now

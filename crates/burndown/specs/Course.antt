@@ -29,13 +29,20 @@ total_after s group total = (total -ℤ counted_before s group.before) +ℤ coun
 abbrev pub row_where_changed : Group → ℤ → ℤ → List BurnRow
 row_where_changed group was left =
     if int_eq left was then []
-    else record { at = group.at; change = group.change; issue = group.issue; by = left -ℤ was; left = left } ∷ []
+    else record {
+      at = group.at;
+      change = group.change;
+      issue = group.issue;
+      by = left -ℤ was;
+      left = left;
+    } ∷ []
 
 -- only a running sprint gets rows, and an ended one stays as it is
 abbrev pub told_in : Stage → ℕ → Group → Course → Course
 told_in Ahead s group c = record c { total = total_after s group c.total }
 told_in (Running start) s group c =
-    record c { total = total_after s group c.total; rows = c.rows ++ row_where_changed group c.total (total_after s group c.total) }
+    record c
+    { total = total_after s group c.total; rows = c.rows ++ row_where_changed group c.total (total_after s group c.total) }
 told_in (Ended start) s group c = c
 
 abbrev pub after_group : ℕ → Group → Course → Course

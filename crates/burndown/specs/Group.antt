@@ -22,4 +22,5 @@ abbrev pub second_sprint : Group → Option SprintNo
 second_sprint group = other_than (first_sprint group) group.after.sprint
 
 abbrev pub group_of : ℕ → ℕ → IssueNo → Option Share → Share → Group
-group_of change at issue before after = record { change = change; at = at; issue = issue; before = before; after = after }
+group_of change at issue before after =
+    record { change = change; at = at; issue = issue; before = before; after = after }

@@ -31,7 +31,15 @@ abbrev first_holds : FieldNo → Value → Change
 first_holds field to = record { field = field; to = to }
 
 abbrev entry : ℕ → FieldNo → Value → Value → Entry
-entry change field from to = record { change = change; at = 10 * change; author = record { 0 = 0 }; field = field; from = from; to = to }
+entry change field from to =
+    record {
+      change = change;
+      at = 10 * change;
+      author = record { 0 = 0 };
+      field = field;
+      from = from;
+      to = to;
+    }
 
 -- 3 points in sprint 1, then 5 points, started, done and opened again
 abbrev reopened : History
@@ -41,7 +49,8 @@ reopened = record {
   change = 1;
   at = 10;
   author = record { 0 = 0 };
-  opening = first_holds status (to_status 0) ∷ first_holds points (of_points (pos 3000)) ∷ first_holds sprint (in_sprint 1) ∷ [];
+  opening = first_holds status (to_status 0) ∷ first_holds points (of_points (pos 3000))
+      ∷ first_holds sprint (in_sprint 1) ∷ [];
   entries =
       entry 2 points (of_points (pos 3000)) (of_points (pos 5000)) ∷
       entry 3 status (to_status 0) (to_status 1) ∷
@@ -67,7 +76,8 @@ abbrev issues : List History
 issues = reopened ∷ drawn_in ∷ []
 
 abbrev row : ℕ → ℕ → ℤ → ℤ → BurnRow
-row change issue by left = record { at = 10 * change; change = change; issue = record { 0 = issue }; by = by; left = left }
+row change issue by left =
+    record { at = 10 * change; change = change; issue = record { 0 = issue }; by = by; left = left }
 
 -- a sprint that began after the first group
 abbrev active : SprintState
@@ -78,7 +88,8 @@ start_of_the_active = refl
 
 pub rows_of_the_active :
     rows_by (share_of is_done) issues 1 active 8
-    ≡ row 2 1 (pos 2000) (pos 5000) ∷ row 4 1 (negsuc 4999) (pos 0) ∷ row 5 1 (pos 5000) (pos 5000) ∷ row 8 2 (pos 2000) (pos 7000) ∷ []
+    ≡ row 2 1 (pos 2000) (pos 5000) ∷ row 4 1 (negsuc 4999) (pos 0) ∷ row 5 1 (pos 5000) (pos 5000)
+    ∷ row 8 2 (pos 2000) (pos 7000) ∷ []
 rows_of_the_active = refl
 
 pub left_of_the_active : left_by (share_of is_done) issues 1 active 8 ≡ pos 7000
@@ -88,7 +99,8 @@ left_of_the_active = refl
 abbrev closed : SprintState
 closed = Closed 10 1 40 4
 
-pub rows_of_the_closed : rows_by (share_of is_done) issues 1 closed 8 ≡ row 2 1 (pos 2000) (pos 5000) ∷ row 4 1 (negsuc 4999) (pos 0) ∷ []
+pub rows_of_the_closed : rows_by (share_of is_done) issues 1 closed 8
+    ≡ row 2 1 (pos 2000) (pos 5000) ∷ row 4 1 (negsuc 4999) (pos 0) ∷ []
 rows_of_the_closed = refl
 
 pub left_of_the_closed : left_by (share_of is_done) issues 1 closed 8 ≡ pos 0

@@ -21,4 +21,6 @@ CoursesAreSums =
 
 -- room that is made changes nothing of this
 abbrev pub RoomChangesNothing : Type 0
-RoomChangesNothing = (events : List Event) (old new : List TrackedSprint) → IsAfter events old → GrowsInRoom old new → IsAfter events new
+RoomChangesNothing =
+    (events : List Event) (old new : List TrackedSprint) → IsAfter events old → GrowsInRoom old new
+    → IsAfter events new

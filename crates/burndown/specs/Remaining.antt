@@ -23,7 +23,8 @@ before_end s (Ends t ∷ past) = if t == s then Some past else before_end s past
 -- the sum of what each issue counts for in the sprint, as it was last told
 abbrev pub sum_of_shares : List ℕ → ℕ → List Event → ℤ
 sum_of_shares [] s events = pos 0
-sum_of_shares (issue ∷ issues) s events = counted_before s (last_told events issue) +ℤ sum_of_shares issues s events
+sum_of_shares (issue ∷ issues) s events =
+    counted_before s (last_told events issue) +ℤ sum_of_shares issues s events
 
 -- remaining work is that sum now, or where the sprint has ended, at its end
 abbrev pub remaining : List ℕ → ℕ → List Event → ℤ
@@ -38,6 +39,8 @@ abbrev pub rows : List ℕ → ℕ → List Event → List BurnRow
 rows issues s [] = []
 rows issues s (Changes group ∷ past) =
     rows issues s past ++
-    (if is_some (before_begin s past) then row_where_changed group (remaining issues s past) (remaining issues s (Changes group ∷ past)) else [])
+    (if is_some (before_begin s past)
+    then row_where_changed group (remaining issues s past)
+    (remaining issues s (Changes group ∷ past)) else [])
 rows issues s (Begins t ∷ past) = rows issues s past
 rows issues s (Ends t ∷ past) = rows issues s past

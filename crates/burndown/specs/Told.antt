@@ -27,10 +27,12 @@ HaveNumbersUpTo high hs = All (λ h. (h.change ≤ high) × All (λ e. e.change 
 pub record IsGroupAt (hs : List History) (place : ℕ) (h : History) (n at : ℕ) : Type 0 where
   pub there : slice_get hs place ≡ Some h
   pub made : moment_in h n ≡ Some at
-  pub alone : (other : ℕ) (o : History) → slice_get hs other ≡ Some o → other ≢ place → moment_in o n ≡ None
+  pub alone : (other : ℕ) (o : History) → slice_get hs other ≡ Some o → other ≢ place
+      → moment_in o n ≡ None
 
 -- a group of the histories, with the shares that its issue had before and after it
-pub record IsGroupOf (reading : (FieldNo → Value) → Share) (hs : List History) (group : Group) : Type 0 where
+pub record IsGroupOf (reading : (FieldNo → Value) → Share) (hs : List History)
+    (group : Group) : Type 0 where
   pub place : ℕ
   pub issue : History
   pub number : ℕ
@@ -50,12 +52,15 @@ ArePoints x = (neg_ℤ (pos (10 ^ 12)) ≤ℤ x) × (x ≤ℤ pos (10 ^ 12))
 
 -- whenever an issue had a share, its points were no more than that
 abbrev pub HavePoints : ((FieldNo → Value) → Share) → List History → Type 0
-HavePoints reading hs = All (λ h. (n : ℕ) → IfSome (share_then reading h n) (λ share. ArePoints share.points)) hs
+HavePoints reading hs =
+    All (λ h. (n : ℕ) → IfSome (share_then reading h n) (λ share. ArePoints share.points)) hs
 
 -- a burndown may be told of a group: each total stays in range, and then it is that of these histories up to number `now`
-pub record MayBeTold (reading : (FieldNo → Value) → Share) (hs : List History) (states : ℕ → SprintState) (now : ℕ) (b : List TrackedSprint) (group : Group) : Type 0 where
+pub record MayBeTold (reading : (FieldNo → Value) → Share) (hs : List History)
+    (states : ℕ → SprintState) (now : ℕ) (b : List TrackedSprint) (group : Group) : Type 0 where
   pub fits : AreFew hs → HavePoints reading hs → (s : ℕ) → FitsAfter b s group
-  pub told : (new : List TrackedSprint) → TellsGroup b new group → IsBurndownOf reading hs states now new
+  pub told : (new : List TrackedSprint) → TellsGroup b new group
+      → IsBurndownOf reading hs states now new
 
 -- one sprint goes to another state
 pub record GoesTo (old new : ℕ → SprintState) (s : ℕ) (state : SprintState) : Type 0 where
@@ -77,18 +82,23 @@ pub record Closes (old new : ℕ → SprintState) (s now : ℕ) : Type 0 where
   pub goes : GoesTo old new s (Closed start_moment start_change moment now)
 
 -- a burndown may begin a sprint, and then it is that of the new states
-pub record MayBegin (reading : (FieldNo → Value) → Share) (hs : List History) (states : ℕ → SprintState) (now : ℕ) (b : List TrackedSprint) (s : ℕ) : Type 0 where
+pub record MayBegin (reading : (FieldNo → Value) → Share) (hs : List History)
+    (states : ℕ → SprintState) (now : ℕ) (b : List TrackedSprint) (s : ℕ) : Type 0 where
   pub ahead : (course_of b s).stage ≡ Ahead
-  pub begins : (new : List TrackedSprint) → ChangesOnly b new s (begun (course_of b s)) → IsBurndownOf reading hs states now new
+  pub begins : (new : List TrackedSprint) → ChangesOnly b new s (begun (course_of b s))
+      → IsBurndownOf reading hs states now new
 
 -- a burndown may end a sprint, and then it is that of the new states
-pub record MayEnd (reading : (FieldNo → Value) → Share) (hs : List History) (states : ℕ → SprintState) (now : ℕ) (b : List TrackedSprint) (s : ℕ) : Type 0 where
+pub record MayEnd (reading : (FieldNo → Value) → Share) (hs : List History)
+    (states : ℕ → SprintState) (now : ℕ) (b : List TrackedSprint) (s : ℕ) : Type 0 where
   pub running : IsRunning (course_of b s).stage
-  pub ends : (new : List TrackedSprint) → ChangesOnly b new s (ended (course_of b s)) → IsBurndownOf reading hs states now new
+  pub ends : (new : List TrackedSprint) → ChangesOnly b new s (ended (course_of b s))
+      → IsBurndownOf reading hs states now new
 
 -- These events, the latest first, tell the groups of the histories up to number `now`, each once and by rising numbers, and between them
 -- the starts and closes that led to the sprints' states, each behind just the groups up to its number.
-abbrev pub AreTold : ((FieldNo → Value) → Share) → List History → List Event → (ℕ → SprintState) → ℕ → Type 0
+abbrev pub AreTold : ((FieldNo → Value) → Share) → List History → List Event → (ℕ → SprintState) → ℕ
+    → Type 0
 AreTold reading hs [] states now = HaveNoneBetween hs 0 now × ((s : ℕ) → states s ≡ Future)
 AreTold reading hs (Changes group ∷ past) states now =
     (group.change ≤ now) × HaveNoneBetween hs group.change now

@@ -114,8 +114,10 @@ impl Burndown {
     )
         requires room_before { IfSome (sprint_before before) (λ s. HasRoom self.old s.0) }
         requires room_after { IfSome after.sprint (λ s. HasRoom self.old s.0) }
-        requires total_before { IfSome (sprint_before before) (λ s. FitsAfter self.old s.0 (group_of change at issue before after)) }
-        requires total_after { IfSome after.sprint (λ s. FitsAfter self.old s.0 (group_of change at issue before after)) }
+        requires total_before { IfSome (sprint_before before)
+            (λ s. FitsAfter self.old s.0 (group_of change at issue before after)) }
+        requires total_after { IfSome after.sprint
+            (λ s. FitsAfter self.old s.0 (group_of change at issue before after)) }
         ensures { TellsGroup self.old self.new (group_of change at issue before after) }
     {
         let group = Group {
@@ -185,7 +187,8 @@ impl Burndown {
     fn tell(&mut self, sprint: SprintNo, group: &Group)
         requires room { HasRoom self.old sprint.0 }
         requires totals { FitsAfter self.old sprint.0 group.now }
-        ensures { ChangesOnly self.old self.new sprint.0 (after_group sprint.0 group.now (course_of self.old sprint.0)) }
+        ensures { ChangesOnly self.old self.new sprint.0
+            (after_group sprint.0 group.now (course_of self.old sprint.0)) }
     {
         let Ok(place) = place_of(&self.totals, sprint) else {
             return;

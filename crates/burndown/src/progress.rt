@@ -39,7 +39,8 @@ impl Progress {
         requires room { vec_len self.old.rows < vec_capacity self.old.rows }
         requires total { IsTotal total }
         requires fits { IsTotal (after_group sprint.0 group.now (course total self.old)).total }
-        ensures course { course result self.new ≡ after_group sprint.0 group.now (course total self.old) }
+        ensures course { course result self.new
+            ≡ after_group sprint.0 group.now (course total self.old) }
         ensures room { vec_capacity self.new.rows ≡ vec_capacity self.old.rows }
     {
         if let Stage::Ended { .. } = self.stage {
@@ -57,7 +58,8 @@ impl Progress {
         requires room { vec_len self.old.rows < vec_capacity self.old.rows }
         requires total { IsTotal total }
         requires left { IsTotal left }
-        ensures rows { self.new.rows.items ≡ self.old.rows.items ++ row_where_changed group.now total left }
+        ensures rows { self.new.rows.items
+            ≡ self.old.rows.items ++ row_where_changed group.now total left }
         ensures room { vec_capacity self.new.rows ≡ vec_capacity self.old.rows }
         ensures stage { self.new.stage ≡ self.old.stage }
     {

@@ -70,7 +70,8 @@ fn told(
     before: Option<Share>,
     after: Share,
 ) -> Result<(), Memory>
-    ensures stages { OnOk result ((s : ℕ) → (course_of burndown.new s).stage ≡ (course_of burndown.old s).stage) }
+    ensures stages { OnOk result ((s : ℕ)
+        → (course_of burndown.new s).stage ≡ (course_of burndown.old s).stage) }
 {
     let first = sprint_of(&before);
     room_for(burndown, first)?;

@@ -6,7 +6,8 @@ use Rattle.change_history.specs.declared.entry.Entry.{Entry}
 -- the place of the last of these entries that changes the field, the first of which stands at `place`; or else the one found so far
 abbrev pub last_from : Option ℕ → ℕ → List Entry → FieldNo → Option ℕ
 last_from found place [] f = found
-last_from found place (e ∷ es) f = last_from (if e.field.0 == f.0 then Some place else found) (place + 1) es f
+last_from found place (e ∷ es) f =
+    last_from (if e.field.0 == f.0 then Some place else found) (place + 1) es f
 
 -- the place of the last entry that changes a field, if there is one
 abbrev pub last_of : List Entry → FieldNo → Option ℕ

@@ -51,7 +51,8 @@ values_after values (e ∷ es) f = values_after (put_value values e) es f
 -- each entry changes the value that its field had then
 abbrev pub AreChanges : (FieldNo → Value) → List Entry → Type 0
 AreChanges values [] = Unit {0}
-AreChanges values (e ∷ es) = (e.from ≡ values e.field) × (e.from ≢ e.to) × AreChanges (put_value values e) es
+AreChanges values (e ∷ es) =
+    (e.from ≡ values e.field) × (e.from ≢ e.to) × AreChanges (put_value values e) es
 
 -- the second entry may stand after the first: in one group by rising field number, or in a later group
 abbrev pub MayFollow : Entry → Entry → Type 0
@@ -77,7 +78,8 @@ pub record IsHistory (h : History) : Type 0 where
 abbrev pub AreGroupEntries : (FieldNo → Value) → ℕ → ℕ → ℕ → UserNo → List Entry → Type 0
 AreGroupEntries values low change at author [] = Unit {0}
 AreGroupEntries values low change at author (e ∷ es) =
-    (low ≤ e.field.0) × (e.change ≡ change) × (e.at ≡ at) × (e.author ≡ author) × (e.from ≡ values e.field) × (e.from ≢ e.to)
+    (low ≤ e.field.0) × (e.change ≡ change) × (e.at ≡ at) × (e.author ≡ author)
+    × (e.from ≡ values e.field) × (e.from ≢ e.to)
     × AreGroupEntries values (e.field.0 + 1) change at author es
 
 -- the moment of the last change
@@ -93,7 +95,8 @@ last_change change [] = change
 last_change change (e ∷ es) = last_change e.change es
 
 -- a group that may be added
-pub record MayAdd (h : History) (change at : ℕ) (author : UserNo) (entries : List Entry) : Type 0 where
+pub record MayAdd (h : History) (change at : ℕ) (author : UserNo)
+    (entries : List Entry) : Type 0 where
   pub some : 0 < length entries
   pub later : updated h ≤ at
   pub greater : last_change h.change h.entries < change

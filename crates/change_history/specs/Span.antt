@@ -24,5 +24,15 @@ end_of h f k = option_map (λ e. e.at) (slice_get (entries_of h.entries f) k)
 -- span 0 begins at the creation, and span k at the field's k-th entry; each ends at the field's next entry
 abbrev pub span_of : History → FieldNo → ℕ → Option SpanOf
 span_of h f k =
-    if k == 0 then Some (record { begin = h.at; end = end_of h f 0; author = h.author; value = opening_value h.opening f })
-    else option_map (λ e. record { begin = e.at; end = end_of h f k; author = e.author; value = e.to }) (slice_get (entries_of h.entries f) (k - 1))
+    if k == 0 then Some (record {
+      begin = h.at;
+      end = end_of h f 0;
+      author = h.author;
+      value = opening_value h.opening f;
+    })
+    else option_map (λ e. record {
+      begin = e.at;
+      end = end_of h f k;
+      author = e.author;
+      value = e.to;
+    }) (slice_get (entries_of h.entries f) (k - 1))

@@ -19,4 +19,5 @@ TextIsReadBack = (day : ℤ) → is_day day ≡ true → day_of (date_text day) 
 -- a text that is read as a day is the text of that day, which is of these years
 abbrev pub EachDayHasOneText : Type 0
 EachDayHasOneText =
-    (text : List ℕ) (day : ℤ) → day_of text ≡ Some day → (is_day day ≡ true) × (text ≡ date_text day)
+    (text : List ℕ) (day : ℤ) → day_of text ≡ Some day
+    → (is_day day ≡ true) × (text ≡ date_text day)

@@ -9,7 +9,8 @@ use Rattle.civil_dates.specs.DateText.{hyphen}
 -- the number that so many digits from a place on write
 abbrev pub part_of : ℕ → ℕ → List ℕ → Option ℕ
 part_of from count text =
-    if list_all is_digit (take count (drop from text)) then Some (read_on 0 (take count (drop from text))) else None
+    if list_all is_digit (take count (drop from text))
+    then Some (read_on 0 (take count (drop from text))) else None
 
 -- the day of a year from 1970 to 2099, a month and a day of the month, if the calendar has it
 abbrev pub day_by : Option ℕ → Option ℕ → Option ℕ → Option ℤ
@@ -21,9 +22,11 @@ day_by _ _ _ = None
 
 -- ten bytes with hyphens at their places
 abbrev pub has_date_form : List ℕ → Bool
-has_date_form text = (length text == 10) && ((slice_index text 4 == hyphen) && (slice_index text 7 == hyphen))
+has_date_form text =
+    (length text == 10) && ((slice_index text 4 == hyphen) && (slice_index text 7 == hyphen))
 
 -- the day that a text writes
 unfoldable pub day_of : List ℕ → Option ℤ
 day_of text =
-    if has_date_form text then day_by (part_of 0 4 text) (part_of 5 2 text) (part_of 8 2 text) else None
+    if has_date_form text then day_by (part_of 0 4 text) (part_of 5 2 text) (part_of 8 2 text)
+    else None

@@ -37,7 +37,8 @@ fn push_date(text: &mut String, year: u16, month: u8, day: u8) -> Result<(), All
     requires year { year < 10_000 }
     requires month { month < 100 }
     requires day { day < 100 }
-    ensures { OnOk result (string_bytes text.new ≡ string_bytes text.old ++ text_of_date year month day) }
+    ensures { OnOk result (string_bytes text.new
+        ≡ string_bytes text.old ++ text_of_date year month day) }
 {
     push_four_digits(text, year)?;
     text.push('-')?;

@@ -18,7 +18,8 @@ module _ {A T : Type 0} where
 
   -- A call was entered. What is seen now begins with what had been seen and ends with the call.
   -- Of the caller's calls it has just the own ones, each once, and this one is the last of them
-  pub record IsEntered (call : Entry A T) (seen own seen_now own_now : List (Entry A T)) : Type 0 where
+  pub record IsEntered (call : Entry A T)
+      (seen own seen_now own_now : List (Entry A T)) : Type 0 where
     pub between : List (Entry A T)
     pub ends : seen_now ≡ (seen ++ between) ++ call ∷ []
     pub grows : own_now ≡ own ++ call ∷ []
@@ -26,7 +27,8 @@ module _ {A T : Type 0} where
 
   -- The history begins with what was seen. It is, caller by caller, just the first pass's own calls
   -- and the lists of the joined passes, each under a number of its own
-  pub record IsAccountedFor (history seen own : List (Entry A T)) (lists : List (ℕ × List (Entry A T))) : Type 0 where
+  pub record IsAccountedFor (history seen own : List (Entry A T))
+      (lists : List (ℕ × List (Entry A T))) : Type 0 where
     pub begins : StartsWith history seen
     pub first : calls_by 0 history ≡ own
     pub joined : All (λ j. (0 < j.0) × (calls_by j.0 history ≡ j.1)) lists

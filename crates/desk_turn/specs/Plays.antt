@@ -10,7 +10,8 @@ module _ {A T O : Type 0} where
   -- a call was entered: the history begins with what had been seen, ends with it, and has of the seat's number just its own calls
   pub record Told (v : View A T O) (e : Entry A T) (w : View A T O) : Type 0 where
     pub between : List (Entry A T)
-    pub after : w ≡ record (passed v) { seen = (v.seen ++ between) ++ e ∷ []; mine = v.mine ++ e ∷ [] }
+    pub after : w
+        ≡ record (passed v) { seen = (v.seen ++ between) ++ e ∷ []; mine = v.mine ++ e ∷ [] }
     pub own : calls_by v.caller ((v.seen ++ between) ++ e ∷ []) ≡ v.mine ++ e ∷ []
 
 module _ {A T O S : Type 0} where
@@ -47,7 +48,8 @@ module _ {A T O V : Type 0} (history : V → List (Entry A T)) (origin : V → O
     pub source : m.0.origin ≡ Some (origin value)
 
   -- where it is the seat's turn it takes the value, and else nothing happens
-  pub record Looks (st : Step (Option V)) (m : Me (Option V) (View A T O)) (n : ℕ) (w : Me (Option V) (View A T O)) : Type 0 where
+  pub record Looks (st : Step (Option V)) (m : Me (Option V) (View A T O)) (n : ℕ)
+      (w : Me (Option V) (View A T O)) : Type 0 where
     pub turn : m.0.ticket ≡ Some n → Takes m w
     pub wait : m.0.ticket ≢ Some n → w ≡ m
     pub below : n < 4294967296
@@ -61,7 +63,8 @@ module _ {A T O V : Type 0} (history : V → List (Entry A T)) (origin : V → O
     pub longer : history value ≡ m.0.held ++ entry ∷ []
     pub after : w ≡ (entering m.0 (history value) entry, m.1)
 
-  abbrev pub Enters : Step (Option V) → Me (Option V) (View A T O) → ℕ → Me (Option V) (View A T O) → Type 0
+  abbrev pub Enters : Step (Option V) → Me (Option V) (View A T O) → ℕ → Me (Option V) (View A T O)
+      → Type 0
   Enters st m n w = EntersBy m w
 
   -- the seat has the turn and holds the value, which is of the turn's origin

@@ -88,7 +88,8 @@ module _ {A T O : Type 0} where
 
 module _ {A T O V : Type 0} (history : V → List (Entry A T)) (origin : V → O) where
   -- the value is in its slot, and has this history and origin
-  pub record AtHome (o : O) (log : List (Entry A T)) (homes : List (rules.Option (Option V))) : Type 0 where
+  pub record AtHome (o : O) (log : List (Entry A T))
+      (homes : List (rules.Option (Option V))) : Type 0 where
     pub value : V
     pub home : homes ≡ rules.some (Some value) ∷ []
     pub whole : history value ≡ log
@@ -100,7 +101,8 @@ module _ {A T O V : Type 0} (history : V → List (Entry A T)) (origin : V → O
   Shelf o log false homes = AtHome o log homes
 
   -- The whole rule. No word comes near its last value, since the tickets drawn and the calls left are at most the calls that were allowed
-  pub record Standing (most : ℕ) (o : O) (s : State (Option V) (View A T O)) (given : ℕ) (p : Account A T) : Type 0 where
+  pub record Standing (most : ℕ) (o : O) (s : State (Option V) (View A T O)) (given : ℕ)
+      (p : Account A T) : Type 0 where
     pub words : s.words ≡ words_of given p
     pub reached : p.turn ≤ p.drawn
     pub next : p.out ≡ true → p.turn < p.drawn

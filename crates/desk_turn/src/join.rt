@@ -16,7 +16,8 @@ impl<V: Kept> Turn<V> {
         requires turn { IsPassOf self.now first.old × IsPassOf self.now other }
         requires numbers { (caller_of first.old ≡ 0) × (0 < caller_of other) }
         ensures turn { IsPassOf self.now first.new }
-        ensures seen { StartsWith (seen first.new) (seen first.old) × StartsWith (seen first.new) (seen other) }
+        ensures seen { StartsWith (seen first.new) (seen first.old)
+            × StartsWith (seen first.new) (seen other) }
         ensures receipt { listed result ≡ own other }
         ensures lists { lists first.new ≡ lists first.old ++ (caller_of other, own other) ∷ [] }
         ensures out { out_of first.old ≡ out_of first.new + 1 }

@@ -40,6 +40,8 @@ pub trait Kept {
         ensures told { IfTold result (λ told. history self.new
             ≡ history self.old ++ record { by = caller; ask = ask.now; told = told } ∷ []) }
         ensures look { IfNothing result (is_look ask.now ≡ true) }
-        ensures nothing { IfNothing result ((history self.new ≡ history self.old) × (state self.new ≡ state self.old)) }
-        ensures memory { OnErr result ((history self.new ≡ history self.old) × (state self.new ≡ state self.old)) };
+        ensures nothing { IfNothing result
+            ((history self.new ≡ history self.old) × (state self.new ≡ state self.old)) }
+        ensures memory { OnErr result ((history self.new ≡ history self.old)
+            × (state self.new ≡ state self.old)) };
 }

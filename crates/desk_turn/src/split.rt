@@ -16,10 +16,13 @@ impl<V: Kept> Turn<V> {
         requires first { (caller_of first.old ≡ 0) × (1 ≤ part) × (part ≤ left_of first.old) }
         ensures succeeds { IsOk result }
         ensures turn { IsPassOf self.now first.new × IfOk result (IsPassOf self.now) }
-        ensures new { IfOk result (λ pass. (caller_of pass ≡ made_of first.old + 1) × (left_of pass ≡ part)) }
-        ensures knows { IfOk result (λ pass. (seen pass ≡ seen first.old) × (own pass ≡ []) × (lists pass ≡ [])) }
+        ensures new { IfOk result (λ pass. (caller_of pass ≡ made_of first.old + 1)
+            × (left_of pass ≡ part)) }
+        ensures knows { IfOk result (λ pass. (seen pass ≡ seen first.old) × (own pass ≡ [])
+            × (lists pass ≡ [])) }
         ensures gave { (left_of first.new ≡ left_of first.old - part)
-            × (made_of first.new ≡ made_of first.old + 1) × (out_of first.new ≡ out_of first.old + 1) }
+            × (made_of first.new ≡ made_of first.old + 1)
+            × (out_of first.new ≡ out_of first.old + 1) }
         ensures stands { (caller_of first.new ≡ 0) × (seen first.new ≡ seen first.old)
             × (own first.new ≡ own first.old) × (lists first.new ≡ lists first.old) }
     {

@@ -37,7 +37,8 @@ impl<V: Kept> Turn<V> {
         requires table { seat.old.table_id ≡ self.now.table.shared.table_id }
         requires waits { (0 < seat.old.me.0.parts) × (seat.old.me.0.holds ≡ false) }
         ensures same { (seat.new.table_id ≡ seat.old.table_id) × (seat.new.id ≡ seat.old.id) }
-        ensures turn { seat.old.me.0.ticket ≡ Some result → Takes V.history V.origin seat.old.me seat.new.me }
+        ensures turn { seat.old.me.0.ticket ≡ Some result
+            → Takes V.history V.origin seat.old.me seat.new.me }
         ensures wait { seat.old.me.0.ticket ≢ Some result → seat.new.me ≡ seat.old.me }
         ensures below { result < 2 ^ 32 }
     {
@@ -66,7 +67,8 @@ impl<V: Kept> Turn<V> {
         requires table { seat.old.table_id ≡ self.now.table.shared.table_id }
         requires held { (value : V) × (seat.old.me.1 ≡ (0, Some value) ∷ []) }
         ensures same { (seat.new.table_id ≡ seat.old.table_id) × (seat.new.id ≡ seat.old.id) }
-        ensures taken { (seat.old.me.1 ≡ (0, Some result) ∷ []) × (seat.new.me ≡ (seat.old.me.0, (0, None) ∷ [])) }
+        ensures taken { (seat.old.me.1 ≡ (0, Some result) ∷ [])
+            × (seat.new.me ≡ (seat.old.me.0, (0, None) ∷ [])) }
     {
         let Some(value) = self.table.shared.exchange(seat, 0, None) else {
             unreachable!()
@@ -88,7 +90,8 @@ impl<V: Kept> Turn<V> {
     pub(crate) fn enter_call(&self, seat: &mut SeatOf<V>)
         requires table { seat.old.table_id ≡ self.now.table.shared.table_id }
         requires entered { (value : V) × (e : _) × Holds V.history V.origin seat.old.me value
-            × (V.history value ≡ seat.old.me.0.held ++ e ∷ []) × (e.by ≡ seat.old.me.0.caller) × (seat.old.me.0.fresh ≡ 1) }
+            × (V.history value ≡ seat.old.me.0.held ++ e ∷ []) × (e.by ≡ seat.old.me.0.caller)
+            × (seat.old.me.0.fresh ≡ 1) }
         ensures same { (seat.new.table_id ≡ seat.old.table_id) × (seat.new.id ≡ seat.old.id) }
         ensures entered { EntersBy V.history V.origin seat.old.me seat.new.me }
     {
@@ -97,7 +100,8 @@ impl<V: Kept> Turn<V> {
 
     pub(crate) fn pass_on(&self, seat: &mut SeatOf<V>)
         requires table { seat.old.table_id ≡ self.now.table.shared.table_id }
-        requires whole { (value : V) × Holds V.history V.origin seat.old.me value × (V.history value ≡ seat.old.me.0.held) }
+        requires whole { (value : V) × Holds V.history V.origin seat.old.me value
+            × (V.history value ≡ seat.old.me.0.held) }
         ensures same { (seat.new.table_id ≡ seat.old.table_id) × (seat.new.id ≡ seat.old.id) }
         ensures left { seat.new.me ≡ (leaving seat.old.me.0, rest seat.old.me.1) }
     {
@@ -117,22 +121,27 @@ impl<V: Kept> Turn<V> {
         requires table { seat.old.table_id ≡ self.now.table.shared.table_id }
         requires first { Rests seat.old.me.0 × (seat.old.me.0.caller ≡ 0) }
         requires room { (1 < seat.old.me.0.parts) × (seat.old.me.0.named ≤ seat.old.me.0.left) }
-        ensures same { (seat.new.table_id ≡ seat.old.table_id) × (seat.new.id ≡ seat.old.id) × (result.table_id ≡ seat.old.table_id) }
-        ensures cut { (seat.new.me ≡ (splitter seat.old.me.0, seat.old.me.1)) × (result.me ≡ (newcomer seat.old.me.0, [])) }
+        ensures same { (seat.new.table_id ≡ seat.old.table_id) × (seat.new.id ≡ seat.old.id)
+            × (result.table_id ≡ seat.old.table_id) }
+        ensures cut { (seat.new.me ≡ (splitter seat.old.me.0, seat.old.me.1))
+            × (result.me ≡ (newcomer seat.old.me.0, [])) }
     {
         self.table.shared.split_seat::<Part>(seat)
     }
 
     pub(crate) fn note(&self, seat: &mut SeatOf<V>) -> SeatOf<V>
         requires table { seat.old.table_id ≡ self.now.table.shared.table_id }
-        ensures same { (seat.new.table_id ≡ seat.old.table_id) × (seat.new.id ≡ seat.old.id) × (result.table_id ≡ seat.old.table_id) }
-        ensures noted { (seat.new.me ≡ seat.old.me) × (result.me ≡ (receipt_view seat.old.me.0, [])) }
+        ensures same { (seat.new.table_id ≡ seat.old.table_id) × (seat.new.id ≡ seat.old.id)
+            × (result.table_id ≡ seat.old.table_id) }
+        ensures noted { (seat.new.me ≡ seat.old.me)
+            × (result.me ≡ (receipt_view seat.old.me.0, [])) }
     {
         self.table.shared.split_seat::<Note>(seat)
     }
 
     pub(crate) fn gather(&self, seat: &mut SeatOf<V>, other: SeatOf<V>)
-        requires table { (seat.old.table_id ≡ self.now.table.shared.table_id) × (other.table_id ≡ self.now.table.shared.table_id) }
+        requires table { (seat.old.table_id ≡ self.now.table.shared.table_id)
+            × (other.table_id ≡ self.now.table.shared.table_id) }
         requires first { Rests seat.old.me.0 × (seat.old.me.0.caller ≡ 0) }
         requires other { Rests other.me.0 × (other.me.0.joined ≡ []) × (other.me.1 ≡ []) }
         ensures same { (seat.new.table_id ≡ seat.old.table_id) × (seat.new.id ≡ seat.old.id) }

@@ -22,7 +22,8 @@ impl<V: Kept> Turn<V> {
         requires table { seat.old.table_id ≡ self.now.table.shared.table_id }
         requires rests { Rests seat.old.me.0 × (seat.old.me.1 ≡ []) }
         requires may { (seat.old.me.0.caller ≡ caller) × (0 < seat.old.me.0.left) }
-        ensures same { (seat.new.table_id ≡ seat.old.table_id) × (seat.new.id ≡ seat.old.id) × (seat.new.me.1 ≡ []) }
+        ensures same { (seat.new.table_id ≡ seat.old.table_id) × (seat.new.id ≡ seat.old.id)
+            × (seat.new.me.1 ≡ []) }
         ensures told { IfTold result (λ told. Told
             seat.old.me.0 (record { by = caller; ask = ask.now; told = told }) seat.new.me.0) }
         ensures look { IfNothing result (V.is_look ask.now ≡ true) }
@@ -74,9 +75,12 @@ impl<V: Kept> Turn<V> {
             (record { by = caller_of pass.old; ask = ask.now; told = told })
             (seen pass.old) (own pass.old) (seen pass.new) (own pass.new)) }
         ensures look { IfNothing result (V.is_look ask.now ≡ true) }
-        ensures nothing { IfNothing result ((seen pass.new ≡ seen pass.old) × (own pass.new ≡ own pass.old)) }
-        ensures memory { OnErr result ((seen pass.new ≡ seen pass.old) × (own pass.new ≡ own pass.old)) }
-        ensures stands { (caller_of pass.new ≡ caller_of pass.old) × (made_of pass.new ≡ made_of pass.old)
+        ensures nothing { IfNothing result
+            ((seen pass.new ≡ seen pass.old) × (own pass.new ≡ own pass.old)) }
+        ensures memory { OnErr result ((seen pass.new ≡ seen pass.old)
+            × (own pass.new ≡ own pass.old)) }
+        ensures stands { (caller_of pass.new ≡ caller_of pass.old)
+            × (made_of pass.new ≡ made_of pass.old)
             × (out_of pass.new ≡ out_of pass.old) × (lists pass.new ≡ lists pass.old) }
     {
         let answer = self.call(rt, &mut pass.seat, pass.caller, ask);

@@ -27,7 +27,8 @@ pub record IdList : Type 0 where
   pub room : ℕ
 
 -- what external ids keep true of themselves: numbers rise, ids are own ones, and the index finds what a walk would find
-pub record AreExternalIds {S : Type 0} (es : List ExternalId) (by_id : HashMap (String Global) IssueNo S) (room len capacity : ℕ) : Type 0 where
+pub record AreExternalIds {S : Type 0} (es : List ExternalId)
+    (by_id : HashMap (String Global) IssueNo S) (room len capacity : ℕ) : Type 0 where
   pub rising : RiseFrom external_number 1 es
   pub own : HaveOwnIds es
   pub found : (id : List ℕ) → get_by_text by_id id ≡ option_map (λ e. e.no) (external_named id es)

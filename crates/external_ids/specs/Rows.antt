@@ -27,5 +27,7 @@ pub without : by_number external_number 2 imported ≡ None
 without = refl
 
 -- a fourth one comes behind them
-pub behind : put_by_number external_number (external_of 4 (codes "OLD-9")) imported ≡ external_of 1 (codes "OLD-1007") ∷ external_of 3 (codes "OLD-12") ∷ external_of 4 (codes "OLD-9") ∷ []
+pub behind : put_by_number external_number (external_of 4 (codes "OLD-9")) imported
+    ≡ external_of 1 (codes "OLD-1007") ∷ external_of 3 (codes "OLD-12")
+    ∷ external_of 4 (codes "OLD-9") ∷ []
 behind = refl

@@ -7,14 +7,17 @@ use Rattle.field_forms.specs.Names.{is_among}
 -- the fields 1 to 13, in this order
 abbrev pub field_names : List (List ℕ)
 field_names =
-    codes "type" ∷ codes "summary" ∷ codes "description" ∷ codes "status" ∷ codes "assignee" ∷ codes "reporter"
-    ∷ codes "priority" ∷ codes "resolution" ∷ codes "fixVersion" ∷ codes "labels" ∷ codes "due" ∷ codes "points"
+    codes "type" ∷ codes "summary" ∷ codes "description" ∷ codes "status" ∷ codes "assignee"
+    ∷ codes "reporter"
+    ∷ codes "priority" ∷ codes "resolution" ∷ codes "fixVersion" ∷ codes "labels" ∷ codes "due"
+    ∷ codes "points"
     ∷ codes "sprint" ∷ []
 
 -- the other words that stand for a field in a query
 abbrev pub query_words : List (List ℕ)
 query_words =
-    codes "issuetype" ∷ codes "duedate" ∷ codes "project" ∷ codes "key" ∷ codes "issue" ∷ codes "issuekey"
+    codes "issuetype" ∷ codes "duedate" ∷ codes "project" ∷ codes "key" ∷ codes "issue"
+    ∷ codes "issuekey"
     ∷ codes "statusCategory" ∷ codes "created" ∷ codes "updated" ∷ codes "rank" ∷ []
 
 -- the name of a field that every tracker has, or another word for a field

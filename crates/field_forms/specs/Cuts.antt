@@ -17,4 +17,5 @@ onto_first b (piece ∷ pieces) = (b ∷ piece) ∷ pieces
 -- the pieces between such bytes
 abbrev pub pieces_at : ℕ → List ℕ → List (List ℕ)
 pieces_at mark [] = [] ∷ []
-pieces_at mark (b ∷ text) = if b == mark then [] ∷ pieces_at mark text else onto_first b (pieces_at mark text)
+pieces_at mark (b ∷ text) =
+    if b == mark then [] ∷ pieces_at mark text else onto_first b (pieces_at mark text)

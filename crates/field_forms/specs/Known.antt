@@ -62,7 +62,8 @@ own_field_named fields name = find (λ f. str_eq_ignore_ascii_case f.name name) 
 
 -- the number of the field of that name
 unfoldable pub field_named : List Field → List ℕ → Option ℕ
-field_named fields name = option_or (built_in_no name) (option_map (λ f. f.number.0) (own_field_named fields name))
+field_named fields name =
+    option_or (built_in_no name) (option_map (λ f. f.number.0) (own_field_named fields name))
 
 -- the form of what a field of the setup's own holds
 abbrev pub form_by : FieldKind → Form
@@ -75,7 +76,8 @@ form_by kind.Date = Date
 -- the form of what the field holds, if there is such a field
 unfoldable pub form_of : List Field → ℕ → Option Form
 form_of fields n =
-    if (n == number.TYPE.0) || (n == number.STATUS.0) || (n == number.PRIORITY.0) || (n == number.RESOLUTION.0) then Some Choice
+    if (n == number.TYPE.0) || (n == number.STATUS.0) || (n == number.PRIORITY.0)
+    || (n == number.RESOLUTION.0) then Some Choice
     else if n == number.SUMMARY.0 then Some (Line 255)
     else if n == number.DESCRIPTION.0 then Some (Prose 4096)
     else if (n == number.ASSIGNEE.0) || (n == number.REPORTER.0) then Some User
@@ -106,11 +108,13 @@ choices_of names n =
 
 -- the value that a text stands for in the field
 unfoldable pub value_of : Names → ℕ → List ℕ → Option Value
-value_of names n text = option_and_then (λ form. value_in form (choices_of names n) text) (form_of names.fields n)
+value_of names n text =
+    option_and_then (λ form. value_in form (choices_of names n) text) (form_of names.fields n)
 
 -- the value that a list of texts stands for in the field
 unfoldable pub listed_value_of : Names → ℕ → List (List ℕ) → Option Value
-listed_value_of names n texts = option_and_then (λ form. listed_in form (choices_of names n) texts) (form_of names.fields n)
+listed_value_of names n texts =
+    option_and_then (λ form. listed_in form (choices_of names n) texts) (form_of names.fields n)
 
 -- type, summary and status are never empty
 abbrev pub may_be_empty : ℕ → Bool
@@ -123,4 +127,5 @@ fits_form n names value form = is_of_form form names value
 
 -- the field may hold the value
 unfoldable pub fits : Names → ℕ → Value → Bool
-fits names n value = option_map_or (fits_form n (choices_of names n) value) (form_of names.fields n) false
+fits names n value =
+    option_map_or (fits_form n (choices_of names n) value) (form_of names.fields n) false

@@ -12,7 +12,8 @@ use Rattle.field_values.specs.Digits.{is_digit}
 abbrev pub is_numbered_field : List ℕ → Bool
 is_numbered_field name =
     nat_le 5 (length name) && (str_eq_ignore_ascii_case (take 3 name) (codes "cf[")
-    && ((slice_index name (length name - 1) == 93) && list_all is_digit (slice_range name 3 (length name - 1))))
+    && ((slice_index name (length name - 1) == 93)
+    && list_all is_digit (slice_range name 3 (length name - 1))))
 
 -- a text that has the form of such a name; a resolution isn't called Unresolved, and a field of the setup's own
 -- neither as a field that every tracker has nor as another word for a field

@@ -15,7 +15,8 @@ whole_of digits = if is_numeral 9 digits then Some (1000 * read_on 0 digits) els
 
 -- digits after the point, as thousandths: the first counts hundreds of them
 abbrev pub fraction_of : List ℕ → Option ℕ
-fraction_of digits = if is_numeral 3 digits then Some (read_on 0 digits * 10 ^ (3 - length digits)) else None
+fraction_of digits =
+    if is_numeral 3 digits then Some (read_on 0 digits * 10 ^ (3 - length digits)) else None
 
 -- the sum of two parts that are both there
 abbrev pub sum_of : Option ℕ → Option ℕ → Option ℕ
@@ -24,11 +25,15 @@ sum_of _ _ = None
 
 -- digits with at most one point among them
 unfoldable pub size_of : List ℕ → Option ℕ
-size_of text = option_map_or (λ place. sum_of (whole_of (take place text)) (fraction_of (drop 1 (drop place text)))) (position (λ b. b == 46) text) (whole_of text)
+size_of text =
+    option_map_or (λ place. sum_of (whole_of (take place text))
+    (fraction_of (drop 1 (drop place text)))) (position (λ b. b == 46) text) (whole_of text)
 
 -- the number that a text writes, in thousandths
 unfoldable pub number_of : List ℕ → Option ℤ
-number_of text = if slice_index text 0 == 45 then option_map (λ n. neg_ℤ (pos n)) (size_of (drop 1 text)) else option_map pos (size_of text)
+number_of text =
+    if slice_index text 0 == 45 then option_map (λ n. neg_ℤ (pos n)) (size_of (drop 1 text))
+    else option_map pos (size_of text)
 
 -- thousandths after the point, without zeros at their end, and no point where there are none
 abbrev pub fraction_text : ℕ → List ℕ
@@ -43,7 +48,8 @@ sign_of z = if int_lt z (pos 0) then codes "-" else []
 
 -- the shortest text that writes the number
 unfoldable pub number_text : ℤ → List ℕ
-number_text z = sign_of z ++ (decimal (unsigned_abs z / 1000) ++ fraction_text (unsigned_abs z % 1000))
+number_text z =
+    sign_of z ++ (decimal (unsigned_abs z / 1000) ++ fraction_text (unsigned_abs z % 1000))
 
 -- less than a thousand million on either side of zero
 abbrev pub is_number : ℤ → Bool

@@ -12,11 +12,13 @@ use Rattle.field_forms.specs.ValueTexts.{chosen_names}
 abbrev pub SetsAreReadBack : Type 0
 SetsAreReadBack =
     (names : List (List ℕ)) (choices : List ChoiceNo) →
-    AreDistinct names → is_set (length names) choices ≡ true → chosen 0 names (chosen_names names choices) ≡ choices
+    AreDistinct names → is_set (length names) choices ≡ true
+    → chosen 0 names (chosen_names names choices) ≡ choices
 
 -- labels in the order of their bytes, each once, stay as they are
 abbrev pub LabelsAreReadBack : Type 0
-LabelsAreReadBack = (labels : List (List ℕ)) → is_label_list labels ≡ true → with_labels [] labels ≡ labels
+LabelsAreReadBack =
+    (labels : List (List ℕ)) → is_label_list labels ≡ true → with_labels [] labels ≡ labels
 
 -- the texts that tell a set, whose names are these, or labels
 abbrev pub IsListOf : List (List ℕ) → Value → List (List ℕ) → Type 0
@@ -28,5 +30,6 @@ IsListOf names _ texts = ⊥
 abbrev pub ListedValuesAreReadBack : Type 0
 ListedValuesAreReadBack =
     (names : Names) (n : ℕ) (value : Value) (texts : List (List ℕ)) →
-    AreDistinct (choices_of names n) → fits names n value ≡ true → IsListOf (choices_of names n) value texts →
+    AreDistinct (choices_of names n) → fits names n value ≡ true
+    → IsListOf (choices_of names n) value texts →
     listed_value_of names n texts ≡ Some value

@@ -31,7 +31,8 @@ permission_of name =
 
 abbrev pub named_test : Names → List ℕ → List ℕ → Option CallerTest
 named_test names word rest =
-    if bytes_eq word (codes "group") then option_map (λ k. InGroup (record { 0 = k + 1 })) (place_named rest names.groups)
+    if bytes_eq word (codes "group")
+    then option_map (λ k. InGroup (record { 0 = k + 1 })) (place_named rest names.groups)
     else if bytes_eq word (codes "permission") then option_map HasPermission (permission_of rest)
     else None
 
@@ -45,11 +46,14 @@ test_of names text =
 -- the tests of texts that are all tests
 abbrev pub all_tests : Names → List (List ℕ) → Option (List CallerTest)
 all_tests names [] = Some []
-all_tests names (text ∷ texts) = option_and_then (λ test. option_map (λ rest. test ∷ rest) (all_tests names texts)) (test_of names text)
+all_tests names (text ∷ texts) =
+    option_and_then (λ test. option_map (λ rest. test ∷ rest) (all_tests names texts))
+    (test_of names text)
 
 abbrev pub any_of : Names → List ℕ → List ℕ → Option (List CallerTest)
 any_of names word rest =
-    if bytes_eq word (codes "any") then all_tests names (pieces_at 124 rest) else option_map (λ test. test ∷ []) (named_test names word rest)
+    if bytes_eq word (codes "any") then all_tests names (pieces_at 124 rest)
+    else option_map (λ test. test ∷ []) (named_test names word rest)
 
 -- one such test, or `any:` and one or more of them with `|` between
 unfoldable pub tests_of : Names → List ℕ → Option (List CallerTest)
@@ -63,8 +67,10 @@ condition_of names text = option_map (λ tests. record { any_of = tests }) (test
 
 abbrev pub named_validator : Names → List ℕ → List ℕ → Option Validator
 named_validator names word rest =
-    if bytes_eq word (codes "required") then option_map (λ n. Required (record { 0 = n })) (field_named names.fields rest)
-    else if bytes_eq word (codes "changed") then option_map (λ n. Changed (record { 0 = n })) (field_named names.fields rest)
+    if bytes_eq word (codes "required")
+    then option_map (λ n. Required (record { 0 = n })) (field_named names.fields rest)
+    else if bytes_eq word (codes "changed")
+    then option_map (λ n. Changed (record { 0 = n })) (field_named names.fields rest)
     else if bytes_eq word (codes "permission") then option_map PermissionOf (permission_of rest)
     else None
 
@@ -75,14 +81,19 @@ validator_of names text =
 
 -- type, summary, status and sprint are set by no post function
 abbrev pub is_settable : ℕ → Bool
-is_settable n = not ((n == number.TYPE.0) || (n == number.SUMMARY.0) || (n == number.STATUS.0) || (n == number.SPRINT.0))
+is_settable n =
+    not ((n == number.TYPE.0) || (n == number.SUMMARY.0) || (n == number.STATUS.0)
+    || (n == number.SPRINT.0))
 
 abbrev pub settable_named : Names → List ℕ → Option ℕ
-settable_named names name = option_and_then (λ n. if is_settable n then Some n else None) (field_named names.fields name)
+settable_named names name =
+    option_and_then (λ n. if is_settable n then Some n else None) (field_named names.fields name)
 
 -- FIELD=TEXT, where the text is one of the field's
 abbrev pub setting_of : Names → List ℕ → List ℕ → Option PostFunction
-setting_of names name text = option_and_then (λ n. option_map (Set (record { 0 = n })) (value_of names n text)) (settable_named names name)
+setting_of names name text =
+    option_and_then (λ n. option_map (Set (record { 0 = n })) (value_of names n text))
+    (settable_named names name)
 
 abbrev pub assignee_of : List ℕ → Option PostFunction
 assignee_of word =
@@ -93,10 +104,13 @@ assignee_of word =
 
 abbrev pub named_post : Names → List ℕ → List ℕ → Option PostFunction
 named_post names word rest =
-    if bytes_eq word (codes "set") then option_and_then (λ parts. setting_of names parts.0 parts.1) (cut_at 61 rest)
-    else if bytes_eq word (codes "clear") then option_map (λ n. Clear (record { 0 = n })) (settable_named names rest)
+    if bytes_eq word (codes "set")
+    then option_and_then (λ parts. setting_of names parts.0 parts.1) (cut_at 61 rest)
+    else if bytes_eq word (codes "clear")
+    then option_map (λ n. Clear (record { 0 = n })) (settable_named names rest)
     else if bytes_eq word (codes "assign") then assignee_of rest
-    else if bytes_eq word (codes "resolution") then option_map (λ k. Resolution (record { 0 = k })) (place_named rest names.resolutions)
+    else if bytes_eq word (codes "resolution")
+    then option_map (λ k. Resolution (record { 0 = k })) (place_named rest names.resolutions)
     else None
 
 -- `set:FIELD=TEXT`, `clear:FIELD`, `assign:caller`, `assign:reporter`, `assign:lead` or `resolution:NAME`

@@ -49,12 +49,14 @@ post_is_sound names _ = true
 abbrev pub rules_are_sound : Names → Transition → Bool
 rules_are_sound names t =
     list_all (condition_is_sound (length names.groups)) t.conditions
-    && (list_all (validator_is_sound names.fields) t.validators && list_all (post_is_sound names) t.post)
+    && (list_all (validator_is_sound names.fields) t.validators
+    && list_all (post_is_sound names) t.post)
 
 abbrev pub ConditionsAreSound : Type 0
 ConditionsAreSound =
     (names : Names) (text : List ℕ) (condition : Condition) →
-    condition_of names text ≡ Some condition → condition_is_sound (length names.groups) condition ≡ true
+    condition_of names text ≡ Some condition
+    → condition_is_sound (length names.groups) condition ≡ true
 
 abbrev pub ValidatorsAreSound : Type 0
 ValidatorsAreSound =

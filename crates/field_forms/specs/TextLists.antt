@@ -9,7 +9,8 @@ use Rattle.serde_json.specs.Written.{compact_text}
 -- the texts of items that are all texts
 abbrev pub all_texts : Items → Option (List (List ℕ))
 all_texts no_items = Some []
-all_texts (item d ds) = option_and_then (λ s. option_map (λ rest. s ∷ rest) (all_texts ds)) (as_str d)
+all_texts (item d ds) =
+    option_and_then (λ s. option_map (λ rest. s ∷ rest) (all_texts ds)) (as_str d)
 
 abbrev pub texts_of : Data → Option (List (List ℕ))
 texts_of d = option_and_then all_texts (as_array d)

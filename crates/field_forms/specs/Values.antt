@@ -22,18 +22,21 @@ is_line most text = is_from_to 1 most (length text) && list_all (λ b. nat_le 32
 
 -- the same, but tabs and line feeds may stand in it
 abbrev pub is_prose : ℕ → List ℕ → Bool
-is_prose most text = is_from_to 1 most (length text) && list_all (λ b. nat_le 32 b || (b == 9) || (b == 10)) text
+is_prose most text =
+    is_from_to 1 most (length text) && list_all (λ b. nat_le 32 b || (b == 9) || (b == 10)) text
 
 -- 1 to 64 bytes without spaces and control characters
 abbrev pub is_label : List ℕ → Bool
-is_label text = is_from_to 1 64 (length text) && (not (list_any (λ b. b == 32) text) && not (has_controls text))
+is_label text =
+    is_from_to 1 64 (length text) && (not (list_any (λ b. b == 32) text) && not (has_controls text))
 
 abbrev pub is_before : List ℕ → List ℕ → Bool
 is_before one other = is_lt (slice_cmp nat_cmp one other)
 
 -- the place of the first label that isn't before a new one, or the end
 abbrev pub place_for : List (List ℕ) → List ℕ → ℕ
-place_for labels label = unwrap_or (position (λ other. not (is_before other label)) labels) (length labels)
+place_for labels label =
+    unwrap_or (position (λ other. not (is_before other label)) labels) (length labels)
 
 -- the labels with one more at its place, unless it is there
 abbrev pub with_label : List (List ℕ) → List ℕ → List (List ℕ)
@@ -68,15 +71,19 @@ set_value (choice ∷ choices) = SetValue (choice ∷ choices)
 -- a number from 0 to 4,294,967,295 in digits, with no zero before them
 abbrev pub sprint_of : List ℕ → Option ℕ
 sprint_of text =
-    if is_numeral 10 text && ((not (slice_index text 0 == 48) || (length text == 1)) && nat_le (read_on 0 text) 4_294_967_295)
+    if is_numeral 10 text
+    && ((not (slice_index text 0 == 48) || (length text == 1))
+    && nat_le (read_on 0 text) 4_294_967_295)
     then Some (read_on 0 text) else None
 
 abbrev pub points_of : List ℕ → Option Value
-points_of text = option_and_then (λ z. if int_le (pos 0) z then Some (NumberValue z) else None) (number_of text)
+points_of text =
+    option_and_then (λ z. if int_le (pos 0) z then Some (NumberValue z) else None) (number_of text)
 
 -- the set of the choices that the texts name
 abbrev pub listed_set : List (List ℕ) → List (List ℕ) → Option Value
-listed_set names texts = if list_all (is_among names) texts then Some (set_value (chosen 0 names texts)) else None
+listed_set names texts =
+    if list_all (is_among names) texts then Some (set_value (chosen 0 names texts)) else None
 
 -- the labels that the texts are
 abbrev pub listed_labels : List (List ℕ) → Option Value
@@ -100,7 +107,8 @@ value_in (Line most) names text = if is_line most text then Some (TextValue text
 value_in (Prose most) names text = if is_prose most text then Some (TextValue text) else None
 value_in Number names text = option_map NumberValue (number_of text)
 value_in Points names text = points_of text
-value_in Choice names text = option_map (λ k. ChoiceValue (record { 0 = k })) (place_named text names)
+value_in Choice names text =
+    option_map (λ k. ChoiceValue (record { 0 = k })) (place_named text names)
 value_in User names text = option_map (λ k. UserValue (record { 0 = k })) (place_named text names)
 value_in Set names text = set_in names text
 value_in Labels names text = label_list_of text
@@ -117,7 +125,8 @@ is_set count (choice ∷ next ∷ choices) = nat_lt choice.0 next.0 && is_set co
 abbrev pub is_label_list : List (List ℕ) → Bool
 is_label_list [] = true
 is_label_list (label ∷ []) = is_label label
-is_label_list (label ∷ next ∷ labels) = (is_label label && is_before label next) && is_label_list (next ∷ labels)
+is_label_list (label ∷ next ∷ labels) =
+    (is_label label && is_before label next) && is_label_list (next ∷ labels)
 
 -- a value that isn't empty may stand in a field of this form
 abbrev pub is_of_form : Form → List (List ℕ) → Value → Bool
@@ -128,7 +137,8 @@ is_of_form Points names (NumberValue z) = int_le (pos 0) z && is_number z
 is_of_form Choice names (ChoiceValue choice) = nat_lt choice.0 (length names)
 is_of_form User names (UserValue user) = nat_lt user.0 (length names)
 is_of_form Set names (SetValue choices) = nat_lt 0 (length choices) && is_set (length names) choices
-is_of_form Labels names (LabelsValue labels) = is_from_to 1 16 (length labels) && is_label_list labels
+is_of_form Labels names (LabelsValue labels) =
+    is_from_to 1 16 (length labels) && is_label_list labels
 is_of_form Date names (DateValue day) = is_day day.0
 is_of_form Sprint names (SprintValue sprint) = true
 is_of_form _ _ _ = false

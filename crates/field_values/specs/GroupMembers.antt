@@ -9,7 +9,8 @@ use Rattle.field_values.specs.declared.parts.Group.{Group}
 -- the group at a place has these members
 abbrev pub with_members : List Group → ℕ → List UserNo → List Group
 with_members [] place members = []
-with_members (group ∷ groups) zero members = record { name = group.name; members = members } ∷ groups
+with_members (group ∷ groups) zero members =
+    record { name = group.name; members = members } ∷ groups
 with_members (group ∷ groups) (suc place) members = group ∷ with_members groups place members
 
 -- each is one of so many users, and they rise
@@ -32,4 +33,5 @@ is_member members user = list_any (λ member. member.0 == user) members
 
 -- the group has the user
 abbrev pub has_member : List Group → ℕ → GroupNo → Bool
-has_member groups user group = option_map_or (λ g. is_member g.members user) (slice_get groups (group.0 - 1)) false
+has_member groups user group =
+    option_map_or (λ g. is_member g.members user) (slice_get groups (group.0 - 1)) false

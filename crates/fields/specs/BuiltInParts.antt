@@ -79,8 +79,17 @@ reopen = record {
 
 abbrev built_in_transitions : List Transition
 built_in_transitions =
-    record { name = codes "Start"; from = choice_no 0 ∷ []; to = choice_no 1; conditions = []; validators = []; post = AssignCaller ∷ [] }
-    ∷ record { name = codes "Review"; from = choice_no 1 ∷ []; to = choice_no 2; conditions = []; validators = []; post = [] }
+    record
+    { name = codes "Start"; from = choice_no 0 ∷ []; to = choice_no 1; conditions = []; validators = []; post = AssignCaller ∷ [] }
+    ∷ record {
+      name = codes "Review";
+      from = choice_no 1
+          ∷ [];
+      to = choice_no 2;
+      conditions = [];
+      validators = [];
+      post = [];
+    }
     ∷ finish
     ∷ reopen
     ∷ []

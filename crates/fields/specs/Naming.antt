@@ -27,7 +27,9 @@ field_numbers fields = built_in_numbers ++ map (λ f. f.number.0) fields
 
 -- the name of a field as the setup spells it
 abbrev pub field_name : List Field → ℕ → List ℕ
-field_name fields n = unwrap_or (option_or (slice_get field_names (n - 1)) (option_map (λ f. f.name) (own_field fields n))) []
+field_name fields n =
+    unwrap_or (option_or (slice_get field_names (n - 1))
+    (option_map (λ f. f.name) (own_field fields n))) []
 
 -- the key of an issue: its project's, a hyphen and a number
 abbrev pub key_of : List ℕ → ℕ → List ℕ
@@ -36,7 +38,8 @@ key_of project number = project ++ 45 ∷ decimal number
 -- these are the numbers for whose values there is a form
 abbrev pub NumbersAreFields : Type 0
 NumbersAreFields =
-    (fields : List Field) (n : ℕ) → list_any (λ k. k == n) (field_numbers fields) ≡ is_field fields n
+    (fields : List Field) (n : ℕ)
+    → list_any (λ k. k == n) (field_numbers fields) ≡ is_field fields n
 
 -- a field's name is that field's alone
 abbrev pub FieldsAreFound : Type 0
@@ -60,7 +63,8 @@ UsersAreFound =
 abbrev pub GroupsAreFound : Type 0
 GroupsAreFound =
     (parts : Parts) (place : ℕ) (group : Group) → IsSound parts →
-    slice_get parts.group place ≡ Some group → place_named group.name (map (λ g. g.name) parts.group) ≡ Some place
+    slice_get parts.group place ≡ Some group
+    → place_named group.name (map (λ g. g.name) parts.group) ≡ Some place
 
 abbrev pub TransitionsAreFound : Type 0
 TransitionsAreFound =

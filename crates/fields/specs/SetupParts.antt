@@ -64,8 +64,10 @@ groups_in _ (Some project) = []
 abbrev pub groups_with : Parts → Permission → Option ℕ → List GroupNo
 groups_with setup Plan place = setup.plan
 groups_with setup Administer place = setup.administer
-groups_with setup permission place = groups_in permission (option_and_then (slice_get setup.project) place)
+groups_with setup permission place =
+    groups_in permission (option_and_then (slice_get setup.project) place)
 
 -- one of the permission's groups has the user
 abbrev pub may : Parts → ℕ → Permission → Option ℕ → Bool
-may setup user permission place = list_any (has_member setup.group user) (groups_with setup permission place)
+may setup user permission place =
+    list_any (has_member setup.group user) (groups_with setup permission place)

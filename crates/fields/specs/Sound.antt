@@ -34,7 +34,8 @@ pub record HasOptions (field : Field) : Type 0 where
 
 -- it goes from some of so many statuses to one of them
 abbrev pub goes_inside : ℕ → Transition → Bool
-goes_inside count transition = nat_lt transition.to.0 count && list_all (λ status. nat_lt status.0 count) transition.from
+goes_inside count transition =
+    nat_lt transition.to.0 count && list_all (λ status. nat_lt status.0 count) transition.from
 
 -- it goes from at least one status
 abbrev pub has_start : Transition → Bool
@@ -50,7 +51,8 @@ have_tests transition = list_all has_tests transition.conditions
 -- at most twenty conditions, validators and post functions
 abbrev pub has_few_rules : Transition → Bool
 has_few_rules t =
-    nat_le (length t.conditions) 20 && (nat_le (length t.validators) 20 && nat_le (length t.post) 20)
+    nat_le (length t.conditions) 20
+    && (nat_le (length t.validators) 20 && nat_le (length t.post) 20)
 
 -- its members are some of so many users, in their order
 abbrev pub has_members_in : ℕ → Group → Bool
@@ -59,8 +61,10 @@ has_members_in count group = is_user_list count group.members
 -- its lead is one of so many users, and the groups with its permissions are there
 abbrev pub project_is_sound : ℕ → ℕ → Project → Bool
 project_is_sound users groups p =
-    nat_lt p.lead.0 users && (list_all (is_group groups) p.browse && (list_all (is_group groups) p.create
-    && (list_all (is_group groups) p.edit && (list_all (is_group groups) p.transition && list_all (is_group groups) p.rank))))
+    nat_lt p.lead.0 users
+    && (list_all (is_group groups) p.browse && (list_all (is_group groups) p.create
+    && (list_all (is_group groups) p.edit
+    && (list_all (is_group groups) p.transition && list_all (is_group groups) p.rank))))
 
 -- the names that a value or a rule may name
 abbrev pub part_names : Parts → Names
@@ -95,7 +99,8 @@ pub record IsSound (parts : Parts) : Type 0 where
   pub plan : list_all (is_group (length parts.group)) parts.plan ≡ true
   pub administer : list_all (is_group (length parts.group)) parts.administer ≡ true
   pub members : list_all (has_members_in (length parts.users)) parts.group ≡ true
-  pub projects : list_all (project_is_sound (length parts.users) (length parts.group)) parts.project ≡ true
+  pub projects : list_all (project_is_sound (length parts.users) (length parts.group)) parts.project
+      ≡ true
   pub transitions : list_all (goes_inside (length parts.status)) parts.transition ≡ true
   pub starts : list_all has_start parts.transition ≡ true
   pub tests : list_all have_tests parts.transition ≡ true

@@ -42,7 +42,8 @@ is_there v f = list_any (nat_eq f) (filters v)
 -- the issues of which a list of cells holds, the first cell being that of this number
 abbrev pub members_from : ℕ → List Cell → List IssueNo
 members_from n [] = []
-members_from n (c ∷ cs) = if c.holds then record { 0 = n } ∷ members_from (n + 1) cs else members_from (n + 1) cs
+members_from n (c ∷ cs) =
+    if c.holds then record { 0 = n } ∷ members_from (n + 1) cs else members_from (n + 1) cs
 
 -- the issues of which the filter holds, by number
 abbrev pub issues_held : Views → ℕ → List IssueNo

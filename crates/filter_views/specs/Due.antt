@@ -6,7 +6,9 @@ use Rattle.filter_views.specs.declared.due.Due.{Due}
 
 -- by moment, then by filter, then by issue
 abbrev pub due_cmp : Due → Due → Ordering
-due_cmp a b = ordering_then (nat_cmp a.end b.end) (ordering_then (nat_cmp a.filter.0 b.filter.0) (nat_cmp a.issue.0 b.issue.0))
+due_cmp a b =
+    ordering_then (nat_cmp a.end b.end)
+    (ordering_then (nat_cmp a.filter.0 b.filter.0) (nat_cmp a.issue.0 b.issue.0))
 
 unfoldable pub is_before : Due → Due → Bool
 is_before a b = is_lt (due_cmp a b)

@@ -21,7 +21,14 @@ abbrev pub table : List Due → List RowParts → List FilterCells
 table ds rs = map (filter_cells ds) rs
 
 abbrev pub views : List RowParts → List RowParts → List Due → ℕ → ℕ → Views
-views rs spare ds issues room = record { table = table ds rs; issues = issues; filter_room = length rs + length spare; issue_room = room }
+views rs spare ds issues room =
+    record {
+      table = table ds rs;
+      issues = issues;
+      filter_room = length rs
+          + length spare;
+      issue_room = room;
+    }
 
 -- a row but for what stands in it
 pub record Size : Type 0 where
@@ -31,7 +38,8 @@ pub record Size : Type 0 where
   pub room : ℕ
 
 abbrev pub size : RowParts → Size
-size r = record { filter = r.filter; truths = length r.truths; places = length r.places; room = r.room }
+size r =
+    record { filter = r.filter; truths = length r.truths; places = length r.places; room = r.room }
 
 abbrev pub sizes : List RowParts → List Size
 sizes rs = map size rs
@@ -39,7 +47,8 @@ sizes rs = map size rs
 -- each row has a cell for each issue, and room
 abbrev pub AllFit : ℕ → ℕ → List Size → Type 0
 AllFit issues room [] = Unit {0}
-AllFit issues room (s ∷ ss) = (s.truths ≡ issues) × (s.places ≡ issues) × (room ≤ s.room) × AllFit issues room ss
+AllFit issues room (s ∷ ss) =
+    (s.truths ≡ issues) × (s.places ≡ issues) × (room ≤ s.room) × AllFit issues room ss
 
 -- a row whose cells are new
 pub record IsBlank (r : RowParts) : Type 0 where
@@ -51,7 +60,8 @@ AllBlank [] = Unit {0}
 AllBlank (r ∷ rs) = IsBlank r × AllBlank rs
 
 -- the rows, the rows that are ready for filters to come, and the heap, which has room for the ends of all cells
-pub record IsKept (rs spare : List RowParts) (ds : List Due) (row_slots due_slots issues room : ℕ) : Type 0 where
+pub record IsKept (rs spare : List RowParts) (ds : List Due)
+    (row_slots due_slots issues room : ℕ) : Type 0 where
   pub agree : Agree ds rs
   pub heap : IsHeap ds
   pub fit : AllFit issues room (sizes rs)
@@ -88,7 +98,8 @@ AllHaveRoom most (r ∷ rs) = (most ≤ r.room) × AllHaveRoom most rs
 -- the issues that are true, the first one being of this number
 abbrev pub holders_from : ℕ → List Bool → List IssueNo
 holders_from n [] = []
-holders_from n (t ∷ ts) = if t then record { 0 = n } ∷ holders_from (n + 1) ts else holders_from (n + 1) ts
+holders_from n (t ∷ ts) =
+    if t then record { 0 = n } ∷ holders_from (n + 1) ts else holders_from (n + 1) ts
 
 -- each row has room for one more cell
 abbrev pub AllAreShort : List RowParts → Type 0
@@ -106,7 +117,8 @@ abbrev pub room_at : List RowParts → ℕ → ℕ
 room_at rs k = let r = slice_index_or rs k no_row in r.room
 
 -- one cell becomes this one, and all other cells stay
-pub record WritesCell (ds : List Due) (rs : List RowParts) (es : List Due) (ss : List RowParts) (f issue : ℕ) (holds : Bool) (end : Option ℕ) : Type 0 where
+pub record WritesCell (ds : List Due) (rs : List RowParts) (es : List Due) (ss : List RowParts)
+    (f issue : ℕ) (holds : Bool) (end : Option ℕ) : Type 0 where
   pub agree : Agree es ss
   pub heap : IsHeap es
   pub same : sizes ss ≡ sizes rs

@@ -11,10 +11,12 @@ abbrev issue : ℕ → IssueNo
 issue n = record { 0 = n }
 
 abbrev second : FilterCells
-second = record { filter = 2; cells = cell true (Some 5) ∷ cell false None ∷ cell true (Some 9) ∷ [] }
+second =
+    record { filter = 2; cells = cell true (Some 5) ∷ cell false None ∷ cell true (Some 9) ∷ [] }
 
 abbrev seventh : FilterCells
-seventh = record { filter = 7; cells = cell false (Some 9) ∷ cell true (Some 3) ∷ cell false None ∷ [] }
+seventh =
+    record { filter = 7; cells = cell false (Some 9) ∷ cell true (Some 3) ∷ cell false None ∷ [] }
 
 -- filters 2 and 7 over three issues
 abbrev two : Views

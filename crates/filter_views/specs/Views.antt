@@ -15,7 +15,13 @@ pub record Shape : Type 0 where
   pub issue_room : ℕ
 
 abbrev pub shape : Views → Shape
-shape v = record { filters = filters v; issues = v.issues; filter_room = v.filter_room; issue_room = v.issue_room }
+shape v =
+    record {
+      filters = filters v;
+      issues = v.issues;
+      filter_room = v.filter_room;
+      issue_room = v.issue_room;
+    }
 
 -- one cell becomes this one, and all else stands
 pub record Settles (old new : Views) (f issue : ℕ) (cell : Cell) : Type 0 where
@@ -48,25 +54,36 @@ pub record AddsIssue (old new : Views) : Type 0 where
 pub record RemovesFilter (old new : Views) (f : ℕ) : Type 0 where
   pub gone : (j : ℕ) → cell_of new f j ≡ unset
   pub others : (g j : ℕ) → (g ≡ f → ⊥) → cell_of new g j ≡ cell_of old g j
-  pub same : shape new ≡ record (shape old) { filters = without_filter f (filters old); filter_room = old.filter_room - 1 }
+  pub same : shape new
+      ≡ record (shape old) {
+        filters = without_filter f (filters old);
+        filter_room = old.filter_room
+            - 1;
+      }
 
 -- the end of this cell
 abbrev pub end_of_cell : ℕ → ℕ → ℕ → Due
-end_of_cell end f issue = record { end = end; filter = record { 0 = f }; issue = record { 0 = issue } }
+end_of_cell end f issue =
+    record { end = end; filter = record { 0 = f }; issue = record { 0 = issue } }
 
 -- this is the end of a cell, and no cell's end comes before it: ends are in order by moment, then by filter, then by issue
 pub record IsLeastEnd (v : Views) (d : Due) : Type 0 where
   pub there : (cell_of v d.filter.0 d.issue.0).end ≡ Some d.end
-  pub least : (f issue end : ℕ) → (cell_of v f issue).end ≡ Some end → is_before (end_of_cell end f issue) d ≡ false
+  pub least : (f issue end : ℕ) → (cell_of v f issue).end ≡ Some end
+      → is_before (end_of_cell end f issue) d ≡ false
 
 -- the least end; there is none exactly where no cell has an end
 abbrev pub IsNextDue : Views → Option (ℕ × FilterNo × IssueNo) → Type 0
 IsNextDue v result =
-    MatchOption result ((f issue : ℕ) → (cell_of v f issue).end ≡ None) (λ next. IsLeastEnd v (record { end = next.0; filter = next.1; issue = next.2 }))
+    MatchOption result ((f issue : ℕ) → (cell_of v f issue).end ≡ None)
+    (λ next. IsLeastEnd v (record { end = next.0; filter = next.1; issue = next.2 }))
 
 -- the heap has each cell that has an end, once, with its end, and nothing else, and is in order
 pub record IsHeapOf (v : Views) (ds : List Due) : Type 0 where
   pub order : IsHeap ds
-  pub only : (k : ℕ) → k < length ds → let d = due_at ds k in (cell_of v d.filter.0 d.issue.0).end ≡ Some d.end
-  pub each : (f issue end : ℕ) → (cell_of v f issue).end ≡ Some end → (k : ℕ) × (k < length ds) × (due_at ds k ≡ end_of_cell end f issue)
-  pub once : (j k : ℕ) → j < k → k < length ds → (due_at ds j).filter.0 ≡ (due_at ds k).filter.0 → (due_at ds j).issue.0 ≡ (due_at ds k).issue.0 → ⊥
+  pub only : (k : ℕ) → k < length ds
+      → let d = due_at ds k in (cell_of v d.filter.0 d.issue.0).end ≡ Some d.end
+  pub each : (f issue end : ℕ) → (cell_of v f issue).end ≡ Some end
+      → (k : ℕ) × (k < length ds) × (due_at ds k ≡ end_of_cell end f issue)
+  pub once : (j k : ℕ) → j < k → k < length ds → (due_at ds j).filter.0 ≡ (due_at ds k).filter.0
+      → (due_at ds j).issue.0 ≡ (due_at ds k).issue.0 → ⊥

@@ -30,7 +30,8 @@ fn add_end(heap: &mut Vec<Due>, rows: &mut [FilterRow], due: Due)
     requires there { IsCell rows.old due.filter.0 due.issue.0 }
     requires none { vec_len heap.old ≤ place_in rows.old due.filter.0 due.issue.0 }
     requires room { vec_len heap.old < vec_capacity heap.old }
-    ensures put { PutsEnd heap.old.items rows.old heap.new.items rows.new due.filter.0 due.issue.0 (Some due.end) }
+    ensures put { PutsEnd heap.old.items rows.old heap.new.items rows.new due.filter.0 due.issue.0
+        (Some due.end) }
     ensures capacity { vec_capacity heap.new ≡ vec_capacity heap.old }
 {
     let last = heap.len();
@@ -93,8 +94,10 @@ fn give_end(heap: &mut Vec<Due>, rows: &mut [FilterRow], due: Due)
     requires agree { Agree heap.old.items rows.old }
     requires heap { IsHeap heap.old.items }
     requires there { IsCell rows.old due.filter.0 due.issue.0 }
-    requires room { vec_len heap.old ≤ place_in rows.old due.filter.0 due.issue.0 → vec_len heap.old < vec_capacity heap.old }
-    ensures put { PutsEnd heap.old.items rows.old heap.new.items rows.new due.filter.0 due.issue.0 (Some due.end) }
+    requires room { vec_len heap.old ≤ place_in rows.old due.filter.0 due.issue.0
+        → vec_len heap.old < vec_capacity heap.old }
+    ensures put { PutsEnd heap.old.items rows.old heap.new.items rows.new due.filter.0 due.issue.0
+        (Some due.end) }
     ensures capacity { vec_capacity heap.new ≡ vec_capacity heap.old }
 {
     if place_in(rows, due.filter, due.issue) < heap.len() {
@@ -115,7 +118,8 @@ fn put_end(
     requires agree { Agree heap.old.items rows.old }
     requires heap { IsHeap heap.old.items }
     requires there { IsCell rows.old filter.0 issue.0 }
-    requires room { vec_len heap.old ≤ place_in rows.old filter.0 issue.0 → vec_len heap.old < vec_capacity heap.old }
+    requires room { vec_len heap.old ≤ place_in rows.old filter.0 issue.0
+        → vec_len heap.old < vec_capacity heap.old }
     ensures put { PutsEnd heap.old.items rows.old heap.new.items rows.new filter.0 issue.0 end }
     ensures capacity { vec_capacity heap.new ≡ vec_capacity heap.old }
 {
@@ -138,8 +142,10 @@ pub(crate) fn write_cell(
     requires heap { IsHeap heap.old.items }
     requires truth { HasNumber issue.0 (length (row_of rows.old filter.0).truths) }
     requires there { IsCell rows.old filter.0 issue.0 }
-    requires room { vec_len heap.old ≤ place_in rows.old filter.0 issue.0 → vec_len heap.old < vec_capacity heap.old }
-    ensures written { WritesCell heap.old.items rows.old heap.new.items rows.new filter.0 issue.0 holds end }
+    requires room { vec_len heap.old ≤ place_in rows.old filter.0 issue.0
+        → vec_len heap.old < vec_capacity heap.old }
+    ensures written { WritesCell heap.old.items rows.old heap.new.items rows.new filter.0 issue.0
+        holds end }
     ensures capacity { vec_capacity heap.new ≡ vec_capacity heap.old }
 {
     set_truth(rows, filter, issue, holds);

@@ -26,7 +26,12 @@ impl Model for FilterRow {
 
     ghost Value = { RowParts };
 
-    ghost view = { λ r. record { filter = r.filter.0; truths = r.truths.items; places = r.places.items; room = r.room } };
+    ghost view = { λ r. record {
+      filter = r.filter.0;
+      truths = r.truths.items;
+      places = r.places.items;
+      room = r.room;
+    } };
 
     ghost invariant = { λ r. (r.room ≤ vec_capacity r.truths) × (r.room ≤ vec_capacity r.places) };
 }
@@ -34,7 +39,13 @@ impl Model for FilterRow {
 impl FilterRow {
     /// A row without a number, whose cells are false and have no end, with room for these issues.
     pub(crate) fn blank(alloc: Global, issues: usize) -> Result<FilterRow, Memory>
-        ensures { IfOk result (λ row. row ≡ record { filter = 0; truths = replicate issues false; places = replicate issues no_place; room = issues }) }
+        ensures { IfOk result (λ row. row
+            ≡ record {
+              filter = 0;
+              truths = replicate issues false;
+              places = replicate issues no_place;
+              room = issues;
+            }) }
     {
         Ok(FilterRow {
             filter: FilterNo(0),
@@ -63,7 +74,12 @@ impl FilterRow {
     pub(crate) fn add_issue(&mut self)
         requires truths { length self.old.truths < self.old.room }
         requires places { length self.old.places < self.old.room }
-        ensures { self.new ≡ record self.old { truths = self.old.truths ++ false ∷ []; places = self.old.places ++ no_place ∷ [] } }
+        ensures { self.new
+            ≡ record self.old {
+              truths = self.old.truths ++ false ∷ [];
+              places = self.old.places
+                  ++ no_place ∷ [];
+            } }
     {
         self.truths.push_reserved(false);
         self.places.push_reserved(NO_PLACE);
@@ -112,7 +128,8 @@ impl FilterRow {
     /// Writes whether the filter holds of the issue.
     pub(crate) fn set_truth(&mut self, issue: IssueNo, holds: bool)
         requires { HasNumber issue.0 (length self.old.truths) }
-        ensures { self.new ≡ record self.old { truths = slice_set self.old.truths (issue.0 - 1) holds } }
+        ensures { self.new
+            ≡ record self.old { truths = slice_set self.old.truths (issue.0 - 1) holds } }
     {
         self.truths[(issue.0 - 1) as usize] = holds;
     }
@@ -120,7 +137,8 @@ impl FilterRow {
     /// Writes the place of the cell's end in the heap.
     pub(crate) fn set_place(&mut self, issue: IssueNo, place: usize)
         requires { HasNumber issue.0 (length self.old.places) }
-        ensures { self.new ≡ record self.old { places = slice_set self.old.places (issue.0 - 1) place } }
+        ensures { self.new
+            ≡ record self.old { places = slice_set self.old.places (issue.0 - 1) place } }
     {
         self.places[(issue.0 - 1) as usize] = place;
     }

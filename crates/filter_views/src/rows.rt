@@ -109,7 +109,8 @@ pub(crate) fn insert_row(rows: &mut Vec<FilterRow>, at: usize, row: FilterRow)
 pub(crate) fn members_in(rows: &[FilterRow], filter: FilterNo, room: &mut Vec<IssueNo>)
     requires rising { AreRising rows.now }
     requires few { length (row_of rows.now filter.0).truths < 2 ^ 32 }
-    requires slots { vec_len room.old + length (row_of rows.now filter.0).truths ≤ vec_capacity room.old }
+    requires slots { vec_len room.old + length (row_of rows.now filter.0).truths
+        ≤ vec_capacity room.old }
     ensures { room.new.items ≡ room.old.items ++ holders_from 1 (row_of rows.now filter.0).truths }
 {
     if let Ok(at) = find(rows, filter) {

@@ -42,7 +42,8 @@ impl Model for FilterViews {
 
     ghost view = { λ v. views v.rows.items v.spare.items v.heap.items v.issues v.room };
 
-    ghost invariant = { λ v. IsKept v.rows.items v.spare.items v.heap.items (vec_capacity v.rows) (vec_capacity v.heap) v.issues v.room };
+    ghost invariant = { λ v. IsKept v.rows.items v.spare.items v.heap.items (vec_capacity v.rows)
+        (vec_capacity v.heap) v.issues v.room };
 }
 
 impl FilterViews {
@@ -64,7 +65,8 @@ impl FilterViews {
     pub fn reserve_filter(&mut self) -> Result<(), Memory>
         ensures room { OnOk result (length self.new.table < self.new.filter_room) }
         ensures more { OnOk result (self.old.filter_room ≤ self.new.filter_room) }
-        ensures same { OnOk result (self.new ≡ record self.old { filter_room = self.new.filter_room }) }
+        ensures same { OnOk result (self.new
+            ≡ record self.old { filter_room = self.new.filter_room }) }
         ensures err { OnErr result (self.new ≡ self.old) }
     {
         if !self.spare.is_empty() {
@@ -81,7 +83,8 @@ impl FilterViews {
     pub fn reserve_issue(&mut self) -> Result<(), Memory>
         ensures room { OnOk result (self.new.issues < self.new.issue_room) }
         ensures more { OnOk result (self.old.issue_room ≤ self.new.issue_room) }
-        ensures same { OnOk result (self.new ≡ record self.old { issue_room = self.new.issue_room }) }
+        ensures same { OnOk result (self.new
+            ≡ record self.old { issue_room = self.new.issue_room }) }
         ensures err { OnErr result (self.new ≡ self.old) }
     {
         if self.issues < self.room {
@@ -138,7 +141,8 @@ impl FilterViews {
     pub fn settle(&mut self, filter: FilterNo, issue: IssueNo, verdict: Verdict)
         requires filter { is_there self.old filter.0 ≡ true }
         requires issue { HasNumber issue.0 self.old.issues }
-        ensures settled { Settles self.old self.new filter.0 issue.0 (record { holds = verdict.holds; end = verdict.until }) }
+        ensures settled { Settles self.old self.new filter.0 issue.0
+            (record { holds = verdict.holds; end = verdict.until }) }
         ensures grid { IsGrid self.new }
     {
         self.write(filter, issue, verdict.holds(), verdict.until());
@@ -154,7 +158,8 @@ impl FilterViews {
     )
         requires filter { is_there self.old filter.0 ≡ true }
         requires issue { HasNumber issue.0 self.old.issues }
-        ensures settled { Settles self.old self.new filter.0 issue.0 (record { holds = holds; end = end }) }
+        ensures settled { Settles self.old self.new filter.0 issue.0
+            (record { holds = holds; end = end }) }
         ensures grid { IsGrid self.new }
     {
         write_cell(&mut self.heap, &mut self.rows, filter, issue, holds, end);

@@ -15,7 +15,8 @@ opposite Inequality.GreaterOrEqual = Inequality.Less
 abbrev pub opposite_operator : Operator → Operator
 opposite_operator (Operator.In operands) = Operator.NotIn operands
 opposite_operator (Operator.NotIn operands) = Operator.In operands
-opposite_operator (Operator.Compares inequality operand) = Operator.Compares (opposite inequality) operand
+opposite_operator (Operator.Compares inequality operand) =
+    Operator.Compares (opposite inequality) operand
 opposite_operator (Operator.Contains words) = Operator.Lacks words
 opposite_operator (Operator.Lacks words) = Operator.Contains words
 opposite_operator Operator.IsEmpty = Operator.IsNotEmpty
@@ -31,7 +32,8 @@ opposite_test (PastTest.Changed endpoints) = PastTest.NotChanged endpoints
 opposite_test (PastTest.NotChanged endpoints) = PastTest.Changed endpoints
 
 abbrev pub opposite_past : PastLeaf → PastLeaf
-opposite_past leaf = record { field = leaf.field; test = opposite_test leaf.test; predicates = leaf.predicates }
+opposite_past leaf =
+    record { field = leaf.field; test = opposite_test leaf.test; predicates = leaf.predicates }
 
 unfoldable mutual
   pub negation : Condition → Condition

@@ -5,7 +5,8 @@ use Rattle.jql_bound.specs.declared.leaf.Word.{Word}
 
 -- a letter or a digit of ASCII, or a byte past ASCII
 abbrev pub is_word_byte : ℕ → Bool
-is_word_byte b = is_in_range 48 57 b || (is_in_range 65 90 b || (is_in_range 97 122 b || nat_le 128 b))
+is_word_byte b =
+    is_in_range 48 57 b || (is_in_range 65 90 b || (is_in_range 97 122 b || nat_le 128 b))
 
 -- a run that has come to its end; an empty one is no word
 abbrev pub ended : List ℕ → Bool → List Word

@@ -23,10 +23,14 @@ fault_reply place kind = codes "fault " ++ (decimal place ++ (32 ∷ decimal kin
 -- A query is answered by its one spelling, and any other text by its first fault. A line that is no text is too long,
 -- or has its fault where the longest front of whole characters ends.
 pub data IsReply (line : List ℕ) : List ℕ → Type 0 where
-  reads : {q : Option Tree} {keys : List SortKey} → IsUtf8 line → IsQuery line q keys → IsReply line (ok_reply (query_text q keys))
-  fails : {place : ℕ} {kind : Kind} → IsUtf8 line → FirstFault line place kind → IsReply line (fault_reply place (number_of_kind kind))
-  is_too_long : (IsUtf8 line → ⊥) → most_bytes < length line → IsReply line (fault_reply most_bytes (number_of_kind TooLong))
-  is_no_text : {place : ℕ} → (IsUtf8 line → ⊥) → length line ≤ most_bytes → IsValidUpTo line place → IsReply line (fault_reply place (number_of_kind Character))
+  reads : {q : Option Tree} {keys : List SortKey} → IsUtf8 line → IsQuery line q keys
+      → IsReply line (ok_reply (query_text q keys))
+  fails : {place : ℕ} {kind : Kind} → IsUtf8 line → FirstFault line place kind
+      → IsReply line (fault_reply place (number_of_kind kind))
+  is_too_long : (IsUtf8 line → ⊥) → most_bytes < length line
+      → IsReply line (fault_reply most_bytes (number_of_kind TooLong))
+  is_no_text : {place : ℕ} → (IsUtf8 line → ⊥) → length line ≤ most_bytes → IsValidUpTo line place
+      → IsReply line (fault_reply place (number_of_kind Character))
 
 -- the reply to the line was written at the end
 pub record Replies (line old new : List ℕ) : Type 0 where

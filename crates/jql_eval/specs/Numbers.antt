@@ -7,7 +7,9 @@ number_in digits = fold (λ number digit. 10 * number + (digit - 48)) 0 digits
 
 -- the digit with so many others behind it, and 0 in front of the first
 abbrev pub digit_before : List ℕ → ℕ → ℕ
-digit_before digits behind = if nat_lt behind (length digits) then slice_index_or digits (length digits - 1 - behind) 0 - 48 else 0
+digit_before digits behind =
+    if nat_lt behind (length digits) then slice_index_or digits (length digits - 1 - behind) 0 - 48
+    else 0
 
 -- the number that digits write without the last ones
 abbrev pub number_before : List ℕ → ℕ → ℕ

@@ -10,7 +10,8 @@ use Rattle.jql_meaning.specs.Ends.{Stays}
 
 -- It tells the query's truth for the issue at the moment. Its end is later than that, and critical; the truth stays until then, or up
 -- to the last moment of all where it has no end.
-pub record IsRight (s : Surroundings) (h : History) (query : Option Condition) (at : ℕ) (holds : Bool) (end : Option ℕ) : Type 0 where
+pub record IsRight (s : Surroundings) (h : History) (query : Option Condition) (at : ℕ)
+    (holds : Bool) (end : Option ℕ) : Type 0 where
   pub truth : holds ≡ query_holds s h at query
   pub stays : Stays (λ t. query_holds s h t query) (λ t. IsCriticalForQuery s h t query) at end
 

@@ -32,19 +32,25 @@ comparison_asked true comparison = opposite_comparison comparison
 unfoldable pub test_asked : Scope → Column → Bool → Test → Result Condition FaultKind
 test_asked scope column denied (Equals item) = equality_in scope column (not denied) item
 test_asked scope column denied (NotEquals item) = equality_in scope column denied item
-test_asked scope column denied (Compares comparison value) = comparison_in scope column (comparison_asked denied comparison) value
+test_asked scope column denied (Compares comparison value) =
+    comparison_in scope column (comparison_asked denied comparison) value
 test_asked scope column denied (In members) = membership_in scope column (not denied) members
 test_asked scope column denied (NotIn members) = membership_in scope column denied members
 test_asked scope column denied IsEmpty = Ok (present column (emptiness (not denied)))
 test_asked scope column denied IsNotEmpty = Ok (present column (emptiness denied))
-test_asked scope column denied (Was item predicates) = was_in scope column (not denied) item predicates
+test_asked scope column denied (Was item predicates) =
+    was_in scope column (not denied) item predicates
 test_asked scope column denied (WasNot item predicates) = was_in scope column denied item predicates
-test_asked scope column denied (WasIn members predicates) = was_among scope column (not denied) members predicates
-test_asked scope column denied (WasNotIn members predicates) = was_among scope column denied members predicates
+test_asked scope column denied (WasIn members predicates) =
+    was_among scope column (not denied) members predicates
+test_asked scope column denied (WasNotIn members predicates) =
+    was_among scope column denied members predicates
 test_asked scope column denied (Changed aspects) = changed_in scope column (not denied) aspects
 
 abbrev pub leaf_asked : Scope → Bool → Leaf → Result Condition FaultKind
-leaf_asked scope denied leaf = and_then (λ column. test_asked scope column denied leaf.test) (column_in scope.names.fields leaf.field)
+leaf_asked scope denied leaf =
+    and_then (λ column. test_asked scope column denied leaf.test)
+    (column_in scope.names.fields leaf.field)
 
 -- whole conditions
 abbrev pub condition_asked : Scope → Bool → ℕ → Tree → Result Condition PlacedFault

@@ -25,8 +25,11 @@ tests_or_none None = 0
 tests_or_none (Some q) = tests q
 
 -- the condition and the sort keys
-abbrev pub bound_in : Scope → Option Tree → List SortKey → Result (Option Condition × List OrderKey) PlacedFault
-bound_in scope q keys = made_of_both (λ c order. (c, order)) (condition_or_none scope q) (keys_in scope.names.fields (tests_or_none q) keys)
+abbrev pub bound_in : Scope → Option Tree → List SortKey
+    → Result (Option Condition × List OrderKey) PlacedFault
+bound_in scope q keys =
+    made_of_both (λ c order. (c, order)) (condition_or_none scope q)
+    (keys_in scope.names.fields (tests_or_none q) keys)
 
 -- the numbers by which faults are told
 abbrev pub number_of_kind : FaultKind → ℕ
@@ -44,4 +47,6 @@ fault_at place (stop.At kind) = Bad place (number_of_kind kind)
 -- the first fault is told by its place and number
 abbrev pub Tells : {A : Type 0} → Result A PlacedFault → BindFault → Type 0
 Tells r Memory = Unit {0}
-Tells r (Bad place number) = (kind : FaultKind) × (r ≡ Err (record { place = place; kind = kind })) × (number ≡ number_of_kind kind)
+Tells r (Bad place number) =
+    (kind : FaultKind) × (r ≡ Err (record { place = place; kind = kind }))
+    × (number ≡ number_of_kind kind)

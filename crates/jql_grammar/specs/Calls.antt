@@ -29,7 +29,8 @@ without x (Some argument) = Err UnknownValue
 -- the user who asks
 abbrev pub user_called : Scope → Call → Result Operand FaultKind
 user_called scope call =
-    if is_named call.name (codes "currentUser") then without (operand.User scope.caller) call.argument else Err UnknownFunction
+    if is_named call.name (codes "currentUser")
+    then without (operand.User scope.caller) call.argument else Err UnknownFunction
 
 abbrev pub term_or_fault : TermCall → Result Term FaultKind
 term_or_fault (Is term) = Ok term
@@ -75,7 +76,9 @@ list_called scope (Sprints phase) argument = without (operand.SprintsIn phase) a
 
 -- a list alone
 abbrev pub list_alone : Scope → ValueKind → Call → Result Operand FaultKind
-list_alone scope kind call = if_some UnknownFunction (λ function. list_called scope function call.argument) (list_function kind call.name)
+list_alone scope kind call =
+    if_some UnknownFunction (λ function. list_called scope function call.argument)
+    (list_function kind call.name)
 
 -- a list or one value
 abbrev pub any_called_by : Scope → ValueKind → Call → Option ListFunction → Result Operand FaultKind

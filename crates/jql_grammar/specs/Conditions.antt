@@ -39,4 +39,5 @@ abbrev mutual
 
   pub conditions_in : Scope → ℕ → Trees → Result Conditions PlacedFault
   conditions_in scope n no_trees = Ok no_conditions
-  conditions_in scope n (tree q qs) = made_of_both condition (condition_in scope n q) (conditions_in scope (n + tests q) qs)
+  conditions_in scope n (tree q qs) = made_of_both condition (condition_in scope n q)
+      (conditions_in scope (n + tests q) qs)

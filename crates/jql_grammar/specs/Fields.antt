@@ -33,10 +33,13 @@ other_named name =
     if is_named name (codes "issuetype") then Some (held number.TYPE.0)
     else (if is_named name (codes "duedate") then Some (held number.DUE.0)
     else (if is_named name (codes "project") then Some (TheSubject Project)
-    else (if is_named name (codes "key") || (is_named name (codes "issue") || is_named name (codes "issuekey")) then Some (TheSubject Key)
+    else (if is_named name (codes "key")
+    || (is_named name (codes "issue") || is_named name (codes "issuekey"))
+    then Some (TheSubject Key)
     else later_named name)))
 
 -- the field that a query names, by its name or, as one of the setup's own, by its number
 abbrev pub field_in : List OwnField → Field → Option SortField
-field_in fields (Named name) = option_or (other_named name) (option_map held (field_named fields name))
+field_in fields (Named name) =
+    option_or (other_named name) (option_map held (field_named fields name))
 field_in fields (Custom n) = option_map (λ field. held field.number.0) (own_field fields n)

@@ -26,7 +26,10 @@ fault_of (Err fault) = Some fault
 -- the first of the tests that has a fault, where the first of them all has this number
 abbrev pub first_at_fault : Scope → ℕ → List Leaf → Option PlacedFault
 first_at_fault scope n [] = None
-first_at_fault scope n (leaf ∷ leaves) = option_or (fault_of (placed n (leaf_in scope leaf))) (first_at_fault scope (n + 1) leaves)
+first_at_fault scope n (leaf ∷ leaves) =
+    option_or (fault_of (placed n (leaf_in scope leaf))) (first_at_fault scope (n + 1) leaves)
 
 abbrev pub TellsTheFirst : Type 0
-TellsTheFirst = (scope : Scope) (q : Tree) → fault_of (condition_in scope 0 q) ≡ first_at_fault scope 0 (leaves q)
+TellsTheFirst =
+    (scope : Scope) (q : Tree)
+    → fault_of (condition_in scope 0 q) ≡ first_at_fault scope 0 (leaves q)

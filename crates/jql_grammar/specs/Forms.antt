@@ -23,11 +23,14 @@ number_in text = if are_digits text then small (read_on 0 text) else None
 
 -- a number from 1 with no zero before it
 abbrev pub is_issue_number : List ℕ → Bool
-is_issue_number text = not (slice_index text 0 == 48) && option_map_or (λ n. true) (number_in text) false
+is_issue_number text =
+    not (slice_index text 0 == 48) && option_map_or (λ n. true) (number_in text) false
 
 -- an issue's key, as OPS-7
 unfoldable pub is_issue_key : List ℕ → Bool
-is_issue_key text = option_map_or (λ parts. is_project_key parts.0 && is_issue_number parts.1) (cut_at 45 text) false
+is_issue_key text =
+    option_map_or (λ parts. is_project_key parts.0 && is_issue_number parts.1)
+    (cut_at 45 text) false
 
 -- the category of that name
 unfoldable pub category_named : List ℕ → Option Category

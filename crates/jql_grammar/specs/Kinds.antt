@@ -54,7 +54,9 @@ value_kind_of fields Updated = Some Date
 
 -- what a comparison looks at: the category of a status is a question to the field status, and rank is never compared
 abbrev pub column_of : List OwnField → SortField → Result Column FaultKind
-column_of fields (TheSubject subject) = made (λ kind. record { subject = subject; kind = kind }) (some_or UnknownField (value_kind_of fields subject))
+column_of fields (TheSubject subject) =
+    made (λ kind. record { subject = subject; kind = kind })
+    (some_or UnknownField (value_kind_of fields subject))
 column_of fields StatusCategory = Ok (record { subject = Held number.STATUS; kind = Category })
 column_of fields Rank = Err OperatorNotForField
 
@@ -83,5 +85,6 @@ has_search _ = false
 -- WAS and CHANGED: status, assignee, reporter, priority, resolution and fixVersion, which are numbered from 4 to 9
 abbrev pub history_field : ValueKind → Subject → Option FieldNo
 history_field Category subject = None
-history_field kind (Held field) = if is_from_to number.STATUS.0 number.FIX_VERSION.0 field.0 then Some field else None
+history_field kind (Held field) =
+    if is_from_to number.STATUS.0 number.FIX_VERSION.0 field.0 then Some field else None
 history_field kind _ = None

@@ -14,11 +14,15 @@ use Rattle.jql_grammar.specs.Binding.{bound_in}
 
 -- NOT of a query is the negation of its condition
 abbrev pub NotIsTheNegation : Type 0
-NotIsTheNegation = (scope : Scope) (n : ℕ) (q : Tree) → condition_in scope n (negation q) ≡ made negated (condition_in scope n q)
+NotIsTheNegation =
+    (scope : Scope) (n : ℕ) (q : Tree)
+    → condition_in scope n (negation q) ≡ made negated (condition_in scope n q)
 
 -- and NOT of NOT is its condition
 abbrev pub DeniesTwice : Type 0
-DeniesTwice = (scope : Scope) (n : ℕ) (q : Tree) → condition_in scope n (negation (negation q)) ≡ condition_in scope n q
+DeniesTwice =
+    (scope : Scope) (n : ℕ) (q : Tree)
+    → condition_in scope n (negation (negation q)) ≡ condition_in scope n q
 
 -- how many comparisons there are
 abbrev mutual
@@ -34,7 +38,9 @@ abbrev mutual
 
 -- a condition has a comparison for each of the query's tests: none is lost, and none is added
 abbrev pub KeepsTests : Type 0
-KeepsTests = (scope : Scope) (n : ℕ) (q : Tree) (c : Condition) → condition_in scope n q ≡ Ok c → comparisons c ≡ tests q
+KeepsTests =
+    (scope : Scope) (n : ℕ) (q : Tree) (c : Condition) → condition_in scope n q ≡ Ok c
+    → comparisons c ≡ tests q
 
 -- a setup whose groups are empty, and else the same
 abbrev pub emptied : Group → Group
@@ -46,5 +52,6 @@ without_members setup = record setup { group = map emptied setup.group }
 -- what a query is bound to doesn't go by who is in a group
 abbrev pub BindsWithoutMembers : Type 0
 BindsWithoutMembers =
-    (one other : Parts) (caller : UserNo) (q : Option Tree) (keys : List SortKey) → without_members one ≡ without_members other →
+    (one other : Parts) (caller : UserNo) (q : Option Tree) (keys : List SortKey)
+    → without_members one ≡ without_members other →
     bound_in (scope_by one caller) q keys ≡ bound_in (scope_by other caller) q keys

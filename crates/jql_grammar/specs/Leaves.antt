@@ -59,17 +59,20 @@ equal_to holds x = among holds (x ∷ [])
 -- = where it is to hold, and else !=
 abbrev pub equality_in : Scope → Column → Bool → Item → Result Condition FaultKind
 equality_in scope column holds item =
-    if_allowed OperatorNotForField (has_equality column.kind) (made (λ x. present column (equal_to holds x)) (item_in scope column.kind item))
+    if_allowed OperatorNotForField (has_equality column.kind)
+    (made (λ x. present column (equal_to holds x)) (item_in scope column.kind item))
 
 -- IN, and else NOT IN
 abbrev pub membership_in : Scope → Column → Bool → Members → Result Condition FaultKind
 membership_in scope column holds members =
-    if_allowed OperatorNotForField (has_equality column.kind) (made (λ xs. present column (among holds xs)) (members_in scope column.kind members))
+    if_allowed OperatorNotForField (has_equality column.kind)
+    (made (λ xs. present column (among holds xs)) (members_in scope column.kind members))
 
 -- <, <=, > or >=
 abbrev pub order_in : Scope → Column → Inequality → Value → Result Condition FaultKind
 order_in scope column sign value =
-    if_allowed OperatorNotForField (has_order column.kind) (made (λ x. present column (operator.Compares sign x)) (operand_in scope column.kind value))
+    if_allowed OperatorNotForField (has_order column.kind)
+    (made (λ x. present column (operator.Compares sign x)) (operand_in scope column.kind value))
 
 -- a function stands for no text
 abbrev pub searched : Value → Result (List Word) FaultKind
@@ -79,20 +82,23 @@ searched (Call call) = Err UnknownFunction
 -- ~, and else !~
 abbrev pub search_in : Column → Bool → Value → Result Condition FaultKind
 search_in column holds value =
-    if_allowed OperatorNotForField (has_search column.kind) (made (λ words. present column (containing holds words)) (searched value))
+    if_allowed OperatorNotForField (has_search column.kind)
+    (made (λ words. present column (containing holds words)) (searched value))
 
 abbrev pub comparison_in : Scope → Column → Comparison → Value → Result Condition FaultKind
 comparison_in scope column Less value = order_in scope column inequality.Less value
 comparison_in scope column LessOrEqual value = order_in scope column inequality.LessOrEqual value
 comparison_in scope column Greater value = order_in scope column inequality.Greater value
-comparison_in scope column GreaterOrEqual value = order_in scope column inequality.GreaterOrEqual value
+comparison_in scope column GreaterOrEqual value =
+    order_in scope column inequality.GreaterOrEqual value
 comparison_in scope column Contains value = search_in column true value
 comparison_in scope column Lacks value = search_in column false value
 
 -- ---- the past
 
 abbrev pub past_leaf : FieldNo → PastTest → List PastPredicate → Condition
-past_leaf field test predicates = past (record { field = field; test = test; predicates = predicates })
+past_leaf field test predicates =
+    past (record { field = field; test = test; predicates = predicates })
 
 -- a test of the past: its values, and then its predicates
 abbrev pub past_in : Column → (FieldNo → Result Condition FaultKind) → Result Condition FaultKind
@@ -109,17 +115,20 @@ change_sides false xs = test.NotChanged xs
 -- WAS, and else WAS NOT
 abbrev pub was_in : Scope → Column → Bool → Item → List Predicate → Result Condition FaultKind
 was_in scope column holds item predicates =
-    past_in column (λ field. made_of_both (λ x ps. past_leaf field (was_values holds (alone x)) ps) (item_in scope column.kind item) (predicates_in scope predicates))
+    past_in column (λ field. made_of_both (λ x ps. past_leaf field (was_values holds (alone x)) ps)
+    (item_in scope column.kind item) (predicates_in scope predicates))
 
 -- WAS IN, and else WAS NOT IN
 abbrev pub was_among : Scope → Column → Bool → Members → List Predicate → Result Condition FaultKind
 was_among scope column holds members predicates =
-    past_in column (λ field. made_of_both (λ xs ps. past_leaf field (was_values holds xs) ps) (members_in scope column.kind members) (predicates_in scope predicates))
+    past_in column (λ field. made_of_both (λ xs ps. past_leaf field (was_values holds xs) ps)
+    (members_in scope column.kind members) (predicates_in scope predicates))
 
 -- CHANGED, and else NOT of it
 abbrev pub changed_in : Scope → Column → Bool → List Aspect → Result Condition FaultKind
 changed_in scope column holds aspects =
-    past_in column (λ field. made_of_both (λ xs ps. past_leaf field (change_sides holds xs) ps) (endpoints_in scope column.kind aspects) (other_aspects scope aspects))
+    past_in column (λ field. made_of_both (λ xs ps. past_leaf field (change_sides holds xs) ps)
+    (endpoints_in scope column.kind aspects) (other_aspects scope aspects))
 
 -- ---- any test
 
@@ -138,4 +147,5 @@ test_in scope column (WasNotIn members predicates) = was_among scope column fals
 test_in scope column (Changed aspects) = changed_in scope column true aspects
 
 abbrev pub leaf_in : Scope → Leaf → Result Condition FaultKind
-leaf_in scope leaf = and_then (λ column. test_in scope column leaf.test) (column_in scope.names.fields leaf.field)
+leaf_in scope leaf =
+    and_then (λ column. test_in scope column leaf.test) (column_in scope.names.fields leaf.field)

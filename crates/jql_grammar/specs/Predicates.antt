@@ -27,8 +27,10 @@ predicates_in scope predicates = each (predicate_in scope) predicates
 
 -- the values that a change is to go from and to
 abbrev pub endpoint_in : Scope → ValueKind → Aspect → Result (Option Endpoint) FaultKind
-endpoint_in scope kind (From choice) = made (λ xs. Some (endpoint.From xs)) (choice_of scope kind choice)
-endpoint_in scope kind (To choice) = made (λ xs. Some (endpoint.To xs)) (choice_of scope kind choice)
+endpoint_in scope kind (From choice) =
+    made (λ xs. Some (endpoint.From xs)) (choice_of scope kind choice)
+endpoint_in scope kind (To choice) =
+    made (λ xs. Some (endpoint.To xs)) (choice_of scope kind choice)
 endpoint_in scope kind (PredicateAspect predicate) = Ok None
 
 abbrev pub endpoints_in : Scope → ValueKind → List Aspect → Result (List Endpoint) FaultKind

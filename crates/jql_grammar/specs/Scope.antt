@@ -16,7 +16,13 @@ pub record Scope : Type 0 where
   pub caller : UserNo
 
 abbrev pub scope_by : Parts → UserNo → Scope
-scope_by setup caller = record { names = names_in setup; projects = setup.project; statuses = setup.status; caller = caller }
+scope_by setup caller =
+    record {
+      names = names_in setup;
+      projects = setup.project;
+      statuses = setup.status;
+      caller = caller;
+    }
 
 abbrev pub scope_in : Setup → UserNo → Scope
 scope_in setup caller = scope_by (parts setup) caller

@@ -27,12 +27,16 @@ direction_of way.Ascending = Ascending
 direction_of way.Descending = Descending
 
 abbrev pub key_of : Direction → SortField → Result OrderKey FaultKind
-key_of direction field = if_allowed OperatorNotForField (is_sortable field) (Ok (record { field = field; direction = direction }))
+key_of direction field =
+    if_allowed OperatorNotForField (is_sortable field)
+    (Ok (record { field = field; direction = direction }))
 
 abbrev pub key_in : List OwnField → SortKey → Result OrderKey FaultKind
-key_in fields key = if_some UnknownField (key_of (direction_of key.direction)) (field_in fields key.field)
+key_in fields key =
+    if_some UnknownField (key_of (direction_of key.direction)) (field_in fields key.field)
 
 -- the sort keys, of which the first has this number
 abbrev pub keys_in : List OwnField → ℕ → List SortKey → Result (List OrderKey) PlacedFault
 keys_in fields n [] = Ok []
-keys_in fields n (key ∷ keys) = made_of_both (λ x xs. x ∷ xs) (placed n (key_in fields key)) (keys_in fields (n + 1) keys)
+keys_in fields n (key ∷ keys) =
+    made_of_both (λ x xs. x ∷ xs) (placed n (key_in fields key)) (keys_in fields (n + 1) keys)

@@ -26,14 +26,20 @@ use Rattle.jql_grammar.specs.Forms.{number_in, is_issue_key, category_named, is_
 
 -- a choice of the field of that number
 abbrev pub choice_in : Scope → ℕ → List ℕ → Option Operand
-choice_in scope field text = option_map (λ place. operand.Choice (record { 0 = place })) (choice_named scope.names field text)
+choice_in scope field text =
+    option_map (λ place. operand.Choice (record { 0 = place }))
+    (choice_named scope.names field text)
 
 -- Unresolved is what a resolution is called that isn't there
 abbrev pub resolution_in : Scope → List ℕ → Option Operand
-resolution_in scope text = if is_named text (codes "Unresolved") then Some operand.Empty else choice_in scope number.RESOLUTION.0 text
+resolution_in scope text =
+    if is_named text (codes "Unresolved") then Some operand.Empty
+    else choice_in scope number.RESOLUTION.0 text
 
 abbrev pub user_in : Scope → List ℕ → Result Operand FaultKind
-user_in scope text = some_or UnknownUserOrGroup (option_map (λ place. operand.User (record { 0 = place })) (place_named text scope.names.users))
+user_in scope text =
+    some_or UnknownUserOrGroup (option_map (λ place. operand.User (record { 0 = place }))
+    (place_named text scope.names.users))
 
 abbrev pub label_in : List ℕ → Option Operand
 label_in text = if is_label text then Some (operand.Label text) else None
@@ -54,17 +60,21 @@ abbrev pub issue_in : List ℕ → Option Operand
 issue_in text = if is_issue_key text then Some (operand.Issue text) else None
 
 abbrev pub project_in : Scope → List ℕ → Option AProject
-project_in scope text = option_and_then (slice_get scope.projects) (place_named text (map (λ p. p.key) scope.projects))
+project_in scope text =
+    option_and_then (slice_get scope.projects) (place_named text (map (λ p. p.key) scope.projects))
 
 -- those statuses, from a place on, that are of the category
 abbrev pub statuses_of : Category → ℕ → List Status → List ChoiceNo
 statuses_of category place [] = []
 statuses_of category place (status ∷ statuses) =
-    if is_same_category status.category category then record { 0 = place } ∷ statuses_of category (place + 1) statuses
+    if is_same_category status.category category
+    then record { 0 = place } ∷ statuses_of category (place + 1) statuses
     else statuses_of category (place + 1) statuses
 
 abbrev pub category_in : Scope → List ℕ → Option Operand
-category_in scope text = option_map (λ category. operand.Statuses (statuses_of category 0 scope.statuses)) (category_named text)
+category_in scope text =
+    option_map (λ category. operand.Statuses (statuses_of category 0 scope.statuses))
+    (category_named text)
 
 -- the value that a text stands for
 unfoldable pub value_in : Scope → ValueKind → List ℕ → Result Operand FaultKind
@@ -78,6 +88,7 @@ value_in scope Labels text = some_or UnknownValue (label_in text)
 value_in scope Date text = some_or UnknownValue (option_map operand.Date (read_term text))
 value_in scope (Number field) text = some_or UnknownValue (number_operand scope field.0 text)
 value_in scope Sprint text = some_or UnknownValue (sprint_in text)
-value_in scope Project text = some_or UnknownValue (option_map (λ p. operand.Project p.key) (project_in scope text))
+value_in scope Project text =
+    some_or UnknownValue (option_map (λ p. operand.Project p.key) (project_in scope text))
 value_in scope Key text = some_or UnknownValue (issue_in text)
 value_in scope TheCategory text = some_or UnknownValue (category_in scope text)

@@ -12,7 +12,8 @@ use Rattle.jql_meaning.specs.Present.{lacks_value, has_text}
 abbrev pub can_be_told : Surroundings → History → ℕ → Subject → Operator → Bool
 can_be_told s h t subject (Operator.In operands) = not (lacks_value h subject)
 can_be_told s h t subject (Operator.NotIn operands) = not (lacks_value h subject)
-can_be_told s h t subject (Operator.Compares inequality operand) = is_some (order s h t subject operand)
+can_be_told s h t subject (Operator.Compares inequality operand) =
+    is_some (order s h t subject operand)
 can_be_told s h t subject (Operator.Contains words) = has_text (λ text. true) h subject
 can_be_told s h t subject (Operator.Lacks words) = has_text (λ text. true) h subject
 can_be_told s h t subject Operator.IsEmpty = true

@@ -40,8 +40,10 @@ sprint_passes p v = false
 
 -- the operand stands for the value of a field; a date is compared as the second at its midnight
 abbrev pub equals_value : Surroundings → ℕ → Value → Operand → Bool
-equals_value s now v (Operand.Date date) = date_passes (λ day. int_eq (midnight_of s day) (second_now s now date)) v
-equals_value s now v (Operand.SprintsIn phase) = sprint_passes (λ sprint. is_in_phase phase (phase_of s sprint)) v
+equals_value s now v (Operand.Date date) =
+    date_passes (λ day. int_eq (midnight_of s day) (second_now s now date)) v
+equals_value s now v (Operand.SprintsIn phase) =
+    sprint_passes (λ sprint. is_in_phase phase (phase_of s sprint)) v
 equals_value s now v operand = some_value (names s operand) v
 
 -- the operand is a date that means that moment
@@ -70,7 +72,8 @@ equals s h now Subject.Updated operand = equals_moment s now (updated h) operand
 abbrev pub value_order : Surroundings → ℕ → Value → Operand → Option Ordering
 value_order s now (Value.Number number) (Operand.Number other) = Some (int_cmp number other)
 value_order s now (Value.Choice choice) (Operand.Choice other) = Some (nat_cmp other.0 choice.0)
-value_order s now (Value.Date day) (Operand.Date date) = Some (int_cmp (midnight_of s day) (second_now s now date))
+value_order s now (Value.Date day) (Operand.Date date) =
+    Some (int_cmp (midnight_of s day) (second_now s now date))
 value_order s now v operand = None
 
 abbrev pub moment_order : Surroundings → ℕ → ℕ → Operand → Option Ordering

@@ -19,7 +19,8 @@ pub record MeetsMark (s : Surroundings) (h : History) (edges : List Edge) (t : �
   pub is_edge : Contains edges edge
   pub is_mark : IsMark s h mark
   pub near : IsWithin 1 apart
-  pub differs : int_cmp (edge_at s edge (t - 1)) (mark +ℤ apart) ≢ int_cmp (edge_at s edge t) (mark +ℤ apart)
+  pub differs : int_cmp (edge_at s edge (t - 1)) (mark +ℤ apart)
+      ≢ int_cmp (edge_at s edge t) (mark +ℤ apart)
 
 -- two edges come to each other, or to two seconds from each other at most, or part
 pub record MeetsEdge (s : Surroundings) (edges : List Edge) (t : ℕ) : Type 0 where
@@ -29,7 +30,8 @@ pub record MeetsEdge (s : Surroundings) (edges : List Edge) (t : ℕ) : Type 0 w
   pub is_edge : Contains edges edge
   pub is_other : Contains edges other
   pub near : IsWithin 2 apart
-  pub differs : int_cmp (edge_at s edge (t - 1)) (edge_at s other (t - 1) +ℤ apart) ≢ int_cmp (edge_at s edge t) (edge_at s other t +ℤ apart)
+  pub differs : int_cmp (edge_at s edge (t - 1)) (edge_at s other (t - 1) +ℤ apart)
+      ≢ int_cmp (edge_at s edge t) (edge_at s other t +ℤ apart)
 
 -- an edge that doesn't go on by one each second comes to another second
 pub record Leaps (s : Surroundings) (edges : List Edge) (t : ℕ) : Type 0 where
@@ -43,7 +45,9 @@ unfoldable pub IsCriticalNow : Surroundings → History → Leaf → ℕ → Typ
 IsCriticalNow s h leaf t = MeetsMark s h (edges_now leaf) t
 
 unfoldable pub IsCriticalPast : Surroundings → History → PastLeaf → ℕ → Type 0
-IsCriticalPast s h leaf t = MeetsMark s h (edges_past leaf) t ⊎ (MeetsEdge s (edges_past leaf) t ⊎ Leaps s (edges_past leaf) t)
+IsCriticalPast s h leaf t =
+    MeetsMark s h (edges_past leaf) t
+    ⊎ (MeetsEdge s (edges_past leaf) t ⊎ Leaps s (edges_past leaf) t)
 
 -- a moment is critical for a condition where it is for one of its comparisons
 unfoldable mutual

@@ -23,7 +23,8 @@ pub data Edge : Type 0 where
 abbrev pub edge_at : Surroundings → Edge → ℕ → ℤ
 edge_at s (date d) t = second_now s t d
 edge_at s (day d) t = midnight s.calendar.zone (local_day s.calendar.zone (second_now s t d))
-edge_at s (day_after d) t = midnight s.calendar.zone (local_day s.calendar.zone (second_now s t d) +ℤ pos 1)
+edge_at s (day_after d) t =
+    midnight s.calendar.zone (local_day s.calendar.zone (second_now s t d) +ℤ pos 1)
 edge_at s present_moment t = pos t
 
 -- the edge goes on by one each second

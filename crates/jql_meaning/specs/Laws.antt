@@ -23,7 +23,8 @@ use Rattle.jql_meaning.specs.Critical.{IsCriticalNow, IsCriticalPast, IsCritical
 -- sprints that the issue isn't in don't matter to a query
 abbrev pub OnlyOwnSprintMatters : Type 0
 OnlyOwnSprintMatters =
-    (one other : Surroundings) (h : History) (t : ℕ) (query : Option Condition) → DifferInOtherSprints one other h →
+    (one other : Surroundings) (h : History) (t : ℕ) (query : Option Condition)
+    → DifferInOtherSprints one other h →
     query_holds one h t query ≡ query_holds other h t query
 
 -- the negation of a condition holds just where the condition doesn't, wherever each comparison has something to compare
@@ -35,18 +36,21 @@ NegationIsPlain =
 -- and nowhere do both hold
 abbrev pub NeverBothHold : Type 0
 NeverBothHold =
-    (s : Surroundings) (h : History) (t : ℕ) (c : Condition) → holds s h t c ≡ true → holds s h t (negation c) ≡ false
+    (s : Surroundings) (h : History) (t : ℕ) (c : Condition) → holds s h t c ≡ true
+    → holds s h t (negation c) ≡ false
 
 -- WAS holds exactly where there are a span and a moment of it as they are asked for
 abbrev pub WasIsOfSomeSpan : Type 0
 WasIsOfSomeSpan =
-    (s : Surroundings) (h : History) (now : ℕ) (field : FieldNo) (operands : List Operand) (predicates : List PastPredicate) →
+    (s : Surroundings) (h : History) (now : ℕ) (field : FieldNo) (operands : List Operand)
+    (predicates : List PastPredicate) →
     (was s h now field operands predicates ≡ true) ↔ Was s h now field operands predicates
 
 -- a present comparison comes to another truth at critical moments alone
 abbrev pub PresentChangesAreCritical : Type 0
 PresentChangesAreCritical =
-    (s : Surroundings) (h : History) (leaf : Leaf) (t : ℕ) → holds_now s leaf h (t - 1) ≢ holds_now s leaf h t →
+    (s : Surroundings) (h : History) (leaf : Leaf) (t : ℕ)
+    → holds_now s leaf h (t - 1) ≢ holds_now s leaf h t →
     IsCriticalNow s h leaf t
 
 -- and so do a comparison with the past and a whole query
@@ -63,7 +67,8 @@ ChangesAreCritical =
 -- where a condition has another truth at one moment than at another, one of its comparisons has
 abbrev pub ChangesComeFromComparisons : Type 0
 ChangesComeFromComparisons =
-    (s : Surroundings) (h : History) (u t : ℕ) (c : Condition) → holds s h u c ≢ holds s h t c → OneDiffers s h u t c
+    (s : Surroundings) (h : History) (u t : ℕ) (c : Condition) → holds s h u c ≢ holds s h t c
+    → OneDiffers s h u t c
 
 -- the negation of the negation is the condition itself
 abbrev pub NotOfNotIsItself : Type 0
@@ -79,16 +84,19 @@ OnePhaseIsSet =
 abbrev pub OneSprintIsAdded : Type 0
 OneSprintIsAdded =
     (s : Surroundings) (phase : Phase) →
-    DifferInOneSprint s (record s { sprints = s.sprints ++ phase ∷ [] }) (record { 0 = length s.sprints + 1 })
+    DifferInOneSprint s (record s { sprints = s.sprints ++ phase ∷ [] })
+    (record { 0 = length s.sprints + 1 })
 
 -- an issue that isn't in that sprint is in none that differs
 abbrev pub OtherIssuesStand : Type 0
 OtherIssuesStand =
-    (one other : Surroundings) (h : History) (sprint : SprintNo) → DifferInOneSprint one other sprint → IsNotIn h sprint →
+    (one other : Surroundings) (h : History) (sprint : SprintNo)
+    → DifferInOneSprint one other sprint → IsNotIn h sprint →
     DifferInOtherSprints one other h
 
 -- of the surroundings the calendar alone makes a moment critical
 abbrev pub CriticalByTheCalendar : Type 0
 CriticalByTheCalendar =
-    (one other : Surroundings) (h : History) (t : ℕ) (query : Option Condition) → one.calendar ≡ other.calendar →
+    (one other : Surroundings) (h : History) (t : ℕ) (query : Option Condition)
+    → one.calendar ≡ other.calendar →
     IsCriticalForQuery one h t query → IsCriticalForQuery other h t query

@@ -16,7 +16,8 @@ use Rattle.jql_meaning.specs.Comparison.{second_now, midnight_of}
 pub data IsMark (s : Surroundings) (h : History) (mark : ℤ) : Type 0 where
   of_creation : mark ≡ pos h.at → IsMark s h mark
   of_change : (entry : Entry) → Contains h.entries entry → mark ≡ pos entry.at → IsMark s h mark
-  of_date : (field : FieldNo) (on : Day) → present h field ≡ Value.Date on → mark ≡ midnight_of s on → IsMark s h mark
+  of_date : (field : FieldNo) (on : Day) → present h field ≡ Value.Date on → mark ≡ midnight_of s on
+      → IsMark s h mark
 
 -- the mark that a present comparison looks at: the midnight of a date, or the moment that is compared
 abbrev pub value_mark : Surroundings → Value → Option ℤ
@@ -33,5 +34,6 @@ subject_mark s h Subject.Updated = Some (pos (updated h))
 -- the operand is no date, or it compares with the mark at one moment as at another
 abbrev pub IsSteady : Surroundings → ℕ → ℕ → Option ℤ → Operand → Type 0
 IsSteady s u t None operand = Unit {0}
-IsSteady s u t (Some mark) (Operand.Date d) = int_cmp (second_now s u d) mark ≡ int_cmp (second_now s t d) mark
+IsSteady s u t (Some mark) (Operand.Date d) =
+    int_cmp (second_now s u d) mark ≡ int_cmp (second_now s t d) mark
 IsSteady s u t (Some mark) operand = Unit {0}

@@ -14,9 +14,11 @@ after_last None now = now + 1
 
 -- a span has its begin, and the later moments before its end or, where it has none, up to the present moment
 abbrev pub HasMoment : SpanOf → ℕ → ℕ → Type 0
-HasMoment span now moment = (moment ≡ span.begin) ⊎ ((span.begin < moment) × (moment < after_last span.end now))
+HasMoment span now moment =
+    (moment ≡ span.begin) ⊎ ((span.begin < moment) × (moment < after_last span.end now))
 
 -- one of the moments that a span has passes
 abbrev pub some_moment : (ℕ → Bool) → SpanOf → ℕ → Bool
 some_moment passes span now =
-    passes span.begin || some_from passes (after_last span.end now - (span.begin + 1)) (span.begin + 1)
+    passes span.begin
+    || some_from passes (after_last span.end now - (span.begin + 1)) (span.begin + 1)

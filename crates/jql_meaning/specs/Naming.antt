@@ -33,7 +33,8 @@ names_choice operand choice = false
 
 abbrev pub names_user : Surroundings → Operand → UserNo → Bool
 names_user s (Operand.User other) user = user.0 == other.0
-names_user s (Operand.MembersOf group) user = list_any (λ member. member.0 == user.0) (members_of s group)
+names_user s (Operand.MembersOf group) user =
+    list_any (λ member. member.0 == user.0) (members_of s group)
 names_user s operand user = false
 
 abbrev pub names_sprint : Operand → SprintNo → Bool

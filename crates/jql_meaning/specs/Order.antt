@@ -42,14 +42,16 @@ standing_cmp one other = nat_cmp (kind_place one) (kind_place other)
 
 -- the number in an issue's key
 abbrev pub number_of : List ℕ → ℕ
-number_of name = fold (λ number digit. 10 * number + (digit - 48)) 0 (after_first (λ byte. byte == 45) name)
+number_of name =
+    fold (λ number digit. 10 * number + (digit - 48)) 0 (after_first (λ byte. byte == 45) name)
 
 -- a user stands by name and a choice by its place in the setup's list; priorities stand from the lowest, which is the last, to the
 -- highest
 abbrev pub value_standing : Parts → FieldNo → Value → Standing
 value_standing parts field (Value.Text t) = text t
 value_standing parts field (Value.Number n) = size n
-value_standing parts field (Value.Choice choice) = if field.0 == number.PRIORITY.0 then size (neg_ℤ (pos choice.0)) else size (pos choice.0)
+value_standing parts field (Value.Choice choice) =
+    if field.0 == number.PRIORITY.0 then size (neg_ℤ (pos choice.0)) else size (pos choice.0)
 value_standing parts field (Value.User user) = text (unwrap_or (slice_get parts.users user.0) [])
 value_standing parts field (Value.Date day) = size day.0
 value_standing parts field (Value.Sprint sprint) = size (pos sprint.0)
@@ -77,8 +79,11 @@ standing parts h Subject.Updated = size (pos (updated h))
 
 -- `ranks` says how the two issues stand on the board, from the top
 abbrev pub field_cmp : Parts → Ordering → History → History → SortField → Ordering
-field_cmp parts ranks one other (SortField.Subject subject) = standing_cmp (standing parts one subject) (standing parts other subject)
-field_cmp parts ranks one other SortField.StatusCategory = standing_cmp (category_standing parts (present one number.STATUS)) (category_standing parts (present other number.STATUS))
+field_cmp parts ranks one other (SortField.Subject subject) =
+    standing_cmp (standing parts one subject) (standing parts other subject)
+field_cmp parts ranks one other SortField.StatusCategory =
+    standing_cmp (category_standing parts (present one number.STATUS))
+    (category_standing parts (present other number.STATUS))
 field_cmp parts ranks one other SortField.Rank = ranks
 
 -- going down, all stand the other way round, nothing first
@@ -90,4 +95,5 @@ directed Direction.Descending o = ordering_reverse o
 unfoldable pub issue_cmp : Parts → List OrderKey → Ordering → History → History → Ordering
 issue_cmp parts [] ranks one other = nat_cmp one.no.0 other.no.0
 issue_cmp parts (sort ∷ sorts) ranks one other =
-    ordering_then (directed sort.direction (field_cmp parts ranks one other sort.field)) (issue_cmp parts sorts ranks one other)
+    ordering_then (directed sort.direction (field_cmp parts ranks one other sort.field))
+    (issue_cmp parts sorts ranks one other)

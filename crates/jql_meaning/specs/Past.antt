@@ -26,11 +26,13 @@ span_answers s now operands predicates span =
 -- one of the field's spans is such a one
 unfoldable pub was : Surroundings → History → ℕ → FieldNo → List Operand → List PastPredicate → Bool
 was s h now field operands predicates =
-    some_from (λ k. option_map_or (span_answers s now operands predicates) (span_of h field k) false)
+    some_from (λ k. option_map_or (span_answers s now operands predicates)
+    (span_of h field k) false)
     (length (entries_of h.entries field) + 1) 0
 
 -- the same in full: span k of the field, and a moment of it
-pub record Was (s : Surroundings) (h : History) (now : ℕ) (field : FieldNo) (operands : List Operand) (predicates : List PastPredicate) : Type 0 where
+pub record Was (s : Surroundings) (h : History) (now : ℕ) (field : FieldNo)
+    (operands : List Operand) (predicates : List PastPredicate) : Type 0 where
   pub k : ℕ
   pub span : SpanOf
   pub moment : ℕ
@@ -43,7 +45,8 @@ pub record Was (s : Surroundings) (h : History) (now : ℕ) (field : FieldNo) (o
 -- the first value has one that an operand names and that the second hasn't
 abbrev pub loses : Surroundings → List Operand → Value → Value → Bool
 loses s operands from to =
-    list_any (λ operand. some_value (λ v. names s operand v && not (some_value (is_same v) to)) from) operands
+    list_any (λ operand. some_value
+    (λ v. names s operand v && not (some_value (is_same v) to)) from) operands
 
 abbrev pub endpoint_answers : Surroundings → Entry → Endpoint → Bool
 endpoint_answers s entry (Endpoint.From operands) = loses s operands entry.from entry.to
@@ -56,15 +59,19 @@ entry_answers s now endpoints predicates entry =
     && list_all (λ endpoint. endpoint_answers s entry endpoint) endpoints
 
 -- one of the field's changes is such a one; its creation is none
-unfoldable pub changed : Surroundings → History → ℕ → FieldNo → List Endpoint → List PastPredicate → Bool
+unfoldable pub changed : Surroundings → History → ℕ → FieldNo → List Endpoint → List PastPredicate
+    → Bool
 changed s h now field endpoints predicates =
     list_any (λ entry. entry_answers s now endpoints predicates entry) (entries_of h.entries field)
 
 abbrev pub test_holds : Surroundings → History → ℕ → FieldNo → List PastPredicate → PastTest → Bool
 test_holds s h now field predicates (PastTest.Was operands) = was s h now field operands predicates
-test_holds s h now field predicates (PastTest.WasNot operands) = not (was s h now field operands predicates)
-test_holds s h now field predicates (PastTest.Changed endpoints) = changed s h now field endpoints predicates
-test_holds s h now field predicates (PastTest.NotChanged endpoints) = not (changed s h now field endpoints predicates)
+test_holds s h now field predicates (PastTest.WasNot operands) =
+    not (was s h now field operands predicates)
+test_holds s h now field predicates (PastTest.Changed endpoints) =
+    changed s h now field endpoints predicates
+test_holds s h now field predicates (PastTest.NotChanged endpoints) =
+    not (changed s h now field endpoints predicates)
 
 -- the truth of a comparison with the past, as it is at the present moment
 unfoldable pub holds_past : Surroundings → PastLeaf → History → ℕ → Bool

@@ -28,11 +28,16 @@ has_text p h subject = false
 
 -- Over an empty field each comparison is false, but for IS EMPTY and a list with EMPTY among its items.
 abbrev pub operator_holds : Surroundings → History → ℕ → Subject → Operator → Bool
-operator_holds s h now subject (Operator.In operands) = list_any (λ operand. equals s h now subject operand) operands
-operator_holds s h now subject (Operator.NotIn operands) = not (lacks_value h subject) && not (list_any (λ operand. equals s h now subject operand) operands)
-operator_holds s h now subject (Operator.Compares inequality operand) = is_some_and (stands inequality) (order s h now subject operand)
+operator_holds s h now subject (Operator.In operands) =
+    list_any (λ operand. equals s h now subject operand) operands
+operator_holds s h now subject (Operator.NotIn operands) =
+    not (lacks_value h subject)
+    && not (list_any (λ operand. equals s h now subject operand) operands)
+operator_holds s h now subject (Operator.Compares inequality operand) =
+    is_some_and (stands inequality) (order s h now subject operand)
 operator_holds s h now subject (Operator.Contains words) = has_text (has_words words) h subject
-operator_holds s h now subject (Operator.Lacks words) = has_text (λ text. not (has_words words text)) h subject
+operator_holds s h now subject (Operator.Lacks words) =
+    has_text (λ text. not (has_words words text)) h subject
 operator_holds s h now subject Operator.IsEmpty = lacks_value h subject
 operator_holds s h now subject Operator.IsNotEmpty = not (lacks_value h subject)
 

@@ -51,37 +51,47 @@ abbrev one_of : ℕ → Operand
 one_of n = Operand.Choice (record { 0 = n })
 
 abbrev around : Surroundings
-around = record { sprints = []; members = (anna ∷ bo ∷ []) ∷ []; calendar = fixed_calendar (pos 0) 1 }
+around =
+    record { sprints = []; members = (anna ∷ bo ∷ []) ∷ []; calendar = fixed_calendar (pos 0) 1 }
 
 abbrev opened_with : ℕ → List Change → List Entry → History
 opened_with at opening entries =
-    record { no = record { 0 = 1 }; key = codes "OPS-1"; change = 1; at = at; author = anna; opening = opening; entries = entries }
+    record
+    { no = record { 0 = 1 }; key = codes "OPS-1"; change = 1; at = at; author = anna; opening = opening; entries = entries }
 
 abbrev entry : ℕ → ℕ → UserNo → FieldNo → Value → Value → Entry
-entry change at author field from to = record { change = change; at = at; author = author; field = field; from = from; to = to }
+entry change at author field from to =
+    record { change = change; at = at; author = author; field = field; from = from; to = to }
 
 -- an open issue that nobody works on
 abbrev login : History
-login = opened_with 0 (record { field = status; to = choice 0 } ∷ record { field = number.SUMMARY; to = Value.Text (codes "Fix login") } ∷ []) []
+login =
+    opened_with 0 (record { field = status; to = choice 0 }
+    ∷ record { field = number.SUMMARY; to = Value.Text (codes "Fix login") } ∷ []) []
 
 abbrev asks : FieldNo → Operator → Condition
 asks field operator = now (record { subject = Subject.Field field; operator = operator })
 
 -- ---- over an empty field
 
-pub not_anna : holds around login 0 (asks assignee (Operator.NotIn (Operand.User anna ∷ []))) ≡ false
+pub not_anna : holds around login 0 (asks assignee (Operator.NotIn (Operand.User anna ∷ [])))
+    ≡ false
 unfolding holds holds_now
 not_anna = refl
 
-pub not_of_anna : holds around login 0 (negation (asks assignee (Operator.In (Operand.User anna ∷ [])))) ≡ false
+pub not_of_anna : holds around login 0
+    (negation (asks assignee (Operator.In (Operand.User anna ∷ [])))) ≡ false
 unfolding holds holds_now negation
 not_of_anna = refl
 
-pub empty_or_not_anna : holds around login 0 (any_of (condition (asks assignee (Operator.NotIn (Operand.User anna ∷ []))) (condition (asks assignee Operator.IsEmpty) no_conditions))) ≡ true
+pub empty_or_not_anna : holds around login 0
+    (any_of (condition (asks assignee (Operator.NotIn (Operand.User anna ∷ [])))
+    (condition (asks assignee Operator.IsEmpty) no_conditions))) ≡ true
 unfolding holds holds_now
 empty_or_not_anna = refl
 
-pub among_empty_and_bo : holds around login 0 (asks assignee (Operator.In (Operand.Empty ∷ Operand.User bo ∷ []))) ≡ true
+pub among_empty_and_bo : holds around login 0
+    (asks assignee (Operator.In (Operand.Empty ∷ Operand.User bo ∷ []))) ≡ true
 unfolding holds holds_now
 among_empty_and_bo = refl
 
@@ -90,7 +100,8 @@ among_empty_and_bo = refl
 abbrev urgent : History
 urgent = opened_with 0 (record { field = number.PRIORITY; to = choice 0 } ∷ []) []
 
-pub high_above_low : holds around urgent 0 (asks number.PRIORITY (Operator.Compares Inequality.Greater (one_of 2))) ≡ true
+pub high_above_low : holds around urgent 0
+    (asks number.PRIORITY (Operator.Compares Inequality.Greater (one_of 2))) ≡ true
 unfolding holds holds_now
 high_above_low = refl
 
@@ -114,20 +125,27 @@ whole_word = refl
 
 abbrev reviewed : History
 reviewed = opened_with 7000 login.opening
-    (entry 2 7000 anna status (choice 0) (choice 1) ∷ entry 2 7000 anna assignee Value.Empty (Value.User anna) ∷ entry 3 7000 anna status (choice 1) (choice 2) ∷ [])
+    (entry 2 7000 anna status (choice 0) (choice 1)
+    ∷ entry 2 7000 anna assignee Value.Empty (Value.User anna)
+    ∷ entry 3 7000 anna status (choice 1) (choice 2) ∷ [])
 
 abbrev past_of : FieldNo → PastTest → List PastPredicate → PastLeaf
 past_of field test predicates = record { field = field; test = test; predicates = predicates }
 
-pub was_in_progress : holds_past around (past_of status (PastTest.Was (one_of 1 ∷ [])) []) reviewed 7000 ≡ true
+pub was_in_progress : holds_past around
+    (past_of status (PastTest.Was (one_of 1 ∷ [])) []) reviewed 7000 ≡ true
 unfolding holds_past was some_from
 was_in_progress = refl
 
-pub was_on_that_day : holds_past around (past_of status (PastTest.Was (one_of 1 ∷ [])) (PastPredicate.On Term.Now ∷ [])) reviewed 7000 ≡ true
+pub was_on_that_day : holds_past around
+    (past_of status (PastTest.Was (one_of 1 ∷ [])) (PastPredicate.On Term.Now ∷ [])) reviewed 7000
+    ≡ true
 unfolding holds_past was some_from minutes_from
 was_on_that_day = refl
 
-pub was_not_later : holds_past around (past_of status (PastTest.Was (one_of 1 ∷ [])) (PastPredicate.After Term.Now ∷ [])) reviewed 7000 ≡ false
+pub was_not_later : holds_past around
+    (past_of status (PastTest.Was (one_of 1 ∷ [])) (PastPredicate.After Term.Now ∷ [])) reviewed
+    7000 ≡ false
 unfolding holds_past was some_from
 was_not_later = refl
 
@@ -137,7 +155,9 @@ abbrev started : History
 started = opened_with 100 login.opening (entry 2 110 anna status (choice 0) (choice 1) ∷ [])
 
 abbrev lately_open : PastLeaf
-lately_open = past_of status (PastTest.Was (one_of 0 ∷ [])) (PastPredicate.After (Term.FromNow (negsuc 0)) ∷ [])
+lately_open =
+    past_of status (PastTest.Was (one_of 0 ∷ []))
+    (PastPredicate.After (Term.FromNow (negsuc 0)) ∷ [])
 
 pub open_a_minute_ago : holds_past around lately_open started 168 ≡ true
 unfolding holds_past was some_from
@@ -150,17 +170,25 @@ open_no_more = refl
 -- ---- one change for all predicates: anna starts, bo finishes
 
 abbrev finished : History
-finished = opened_with 100 login.opening (entry 2 110 anna status (choice 0) (choice 1) ∷ entry 4 110 bo status (choice 1) (choice 3) ∷ [])
+finished =
+    opened_with 100 login.opening (entry 2 110 anna status (choice 0) (choice 1)
+    ∷ entry 4 110 bo status (choice 1) (choice 3) ∷ [])
 
-pub not_from_open_to_done : holds_past around (past_of status (PastTest.Changed (Endpoint.From (one_of 0 ∷ []) ∷ Endpoint.To (one_of 3 ∷ []) ∷ [])) []) finished 200 ≡ false
+pub not_from_open_to_done : holds_past around
+    (past_of status (PastTest.Changed
+    (Endpoint.From (one_of 0 ∷ []) ∷ Endpoint.To (one_of 3 ∷ []) ∷ [])) []) finished 200 ≡ false
 unfolding holds_past changed
 not_from_open_to_done = refl
 
-pub from_open_by_anna : holds_past around (past_of status (PastTest.Changed (Endpoint.From (one_of 0 ∷ []) ∷ [])) (PastPredicate.By (Operand.User anna ∷ []) ∷ [])) finished 200 ≡ true
+pub from_open_by_anna : holds_past around
+    (past_of status (PastTest.Changed (Endpoint.From (one_of 0 ∷ []) ∷ []))
+    (PastPredicate.By (Operand.User anna ∷ []) ∷ [])) finished 200 ≡ true
 unfolding holds_past changed
 from_open_by_anna = refl
 
-pub not_from_open_by_bo : holds_past around (past_of status (PastTest.Changed (Endpoint.From (one_of 0 ∷ []) ∷ [])) (PastPredicate.By (Operand.User bo ∷ []) ∷ [])) finished 200 ≡ false
+pub not_from_open_by_bo : holds_past around
+    (past_of status (PastTest.Changed (Endpoint.From (one_of 0 ∷ []) ∷ []))
+    (PastPredicate.By (Operand.User bo ∷ []) ∷ [])) finished 200 ≡ false
 unfolding holds_past changed
 not_from_open_by_bo = refl
 
@@ -173,20 +201,26 @@ set (n ∷ m ∷ ns) = Value.Set (record { 0 = n } ∷ record { 0 = m } ∷ [])
 
 abbrev fixed : History
 fixed = opened_with 0 (record { field = versions; to = set (0 ∷ []) } ∷ [])
-    (entry 2 0 anna versions (set (0 ∷ [])) (set (1 ∷ [])) ∷ entry 3 0 anna versions (set (1 ∷ [])) (set (0 ∷ 1 ∷ [])) ∷ [])
+    (entry 2 0 anna versions (set (0 ∷ [])) (set (1 ∷ []))
+    ∷ entry 3 0 anna versions (set (1 ∷ [])) (set (0 ∷ 1 ∷ [])) ∷ [])
 
-pub was_never_empty : holds_past around (past_of versions (PastTest.Was (Operand.Empty ∷ [])) []) fixed 0 ≡ false
+pub was_never_empty : holds_past around
+    (past_of versions (PastTest.Was (Operand.Empty ∷ [])) []) fixed 0 ≡ false
 unfolding holds_past was some_from
 was_never_empty = refl
 
-pub from_one_to_the_other : holds_past around (past_of versions (PastTest.Changed (Endpoint.From (one_of 0 ∷ []) ∷ Endpoint.To (one_of 1 ∷ []) ∷ [])) []) fixed 0 ≡ true
+pub from_one_to_the_other : holds_past around
+    (past_of versions (PastTest.Changed
+    (Endpoint.From (one_of 0 ∷ []) ∷ Endpoint.To (one_of 1 ∷ []) ∷ [])) []) fixed 0 ≡ true
 unfolding holds_past changed
 from_one_to_the_other = refl
 
-pub not_away_from_the_other : holds_past around (past_of versions (PastTest.Changed (Endpoint.From (one_of 1 ∷ []) ∷ [])) []) fixed 0 ≡ false
+pub not_away_from_the_other : holds_past around
+    (past_of versions (PastTest.Changed (Endpoint.From (one_of 1 ∷ []) ∷ [])) []) fixed 0 ≡ false
 unfolding holds_past changed
 not_away_from_the_other = refl
 
-pub back_to_the_one : holds_past around (past_of versions (PastTest.Changed (Endpoint.To (one_of 0 ∷ []) ∷ [])) []) fixed 0 ≡ true
+pub back_to_the_one : holds_past around
+    (past_of versions (PastTest.Changed (Endpoint.To (one_of 0 ∷ []) ∷ [])) []) fixed 0 ≡ true
 unfolding holds_past changed
 back_to_the_one = refl

@@ -10,7 +10,8 @@ use Rattle.jql_meaning.specs.Surroundings.{Surroundings, phase_of}
 pub record DifferInOtherSprints (one other : Surroundings) (h : History) : Type 0 where
   pub members : one.members ≡ other.members
   pub calendar : one.calendar ≡ other.calendar
-  pub own : (field : FieldNo) (sprint : SprintNo) → present h field ≡ Value.Sprint sprint → phase_of one sprint ≡ phase_of other sprint
+  pub own : (field : FieldNo) (sprint : SprintNo) → present h field ≡ Value.Sprint sprint
+      → phase_of one sprint ≡ phase_of other sprint
 
 -- in this sprint
 pub record DifferInOneSprint (one other : Surroundings) (sprint : SprintNo) : Type 0 where

@@ -14,7 +14,8 @@ pub record Surroundings : Type 0 where
 
 -- those of a context
 abbrev pub surroundings_of : Context → Surroundings
-surroundings_of c = record { sprints = c.sprints.items; members = c.members.items; calendar = c.calendar }
+surroundings_of c =
+    record { sprints = c.sprints.items; members = c.members.items; calendar = c.calendar }
 
 -- the one of a number, counted from 1
 abbrev pub numbered : {X : Type 0} → List X → ℕ → Option X

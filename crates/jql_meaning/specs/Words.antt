@@ -8,7 +8,8 @@ use Rattle.jql_bound.specs.Words.{words_of}
 -- a word of a text is the one that is looked for, or begins with it where that will do, ASCII case ignored
 abbrev pub is_word : Word → List ℕ → Bool
 is_word wanted word =
-    str_eq_ignore_ascii_case (if wanted.prefix then take (length wanted.text) word else word) wanted.text
+    str_eq_ignore_ascii_case (if wanted.prefix then take (length wanted.text) word else word)
+    wanted.text
 
 -- the text has the word
 unfoldable pub has_word : List ℕ → Word → Bool

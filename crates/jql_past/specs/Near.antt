@@ -27,18 +27,21 @@ ahead present_moment = Some (pos 0)
 -- what is so far ahead of the moment is near a second: at most the reach before it, or one second more behind it
 abbrev pub IsNear : ℤ → ℤ → Option ℤ → ℕ → Type 0
 IsNear second reach None t = ⊥
-IsNear second reach (Some ahead) t = (((second -ℤ reach) -ℤ ahead) ≤ℤ pos t) × (pos t ≤ℤ (((second +ℤ reach) +ℤ pos 1) -ℤ ahead))
+IsNear second reach (Some ahead) t =
+    (((second -ℤ reach) -ℤ ahead) ≤ℤ pos t) × (pos t ≤ℤ (((second +ℤ reach) +ℤ pos 1) -ℤ ahead))
 
 -- the present moment is, or a date of the windows that goes on with it
 abbrev pub OneIsNear : List PastPredicate → ℤ → ℤ → ℕ → Type 0
 OneIsNear predicates second reach t =
     IsNear second reach (Some (pos 0)) t
-    ⊎ ToOne (λ predicate. ToOne (λ edge. IsNear second reach (ahead edge)) (window_edges predicate)) predicates t
+    ⊎ ToOne (λ predicate. ToOne (λ edge. IsNear second reach (ahead edge)) (window_edges predicate))
+    predicates t
 
 -- an edge that stands no longer stands where it did, or one that goes on is near it
 abbrev pub IsDisturbed : Surroundings → List PastPredicate → ℕ → Edge → ℕ → Type 0
 IsDisturbed s predicates at edge t =
-    (goes_on edge ≡ false) × ((edge_at s edge t ≢ edge_at s edge at) ⊎ OneIsNear predicates (edge_at s edge at) (pos 2) t)
+    (goes_on edge ≡ false)
+    × ((edge_at s edge t ≢ edge_at s edge at) ⊎ OneIsNear predicates (edge_at s edge at) (pos 2) t)
 
 abbrev pub OneIsDisturbed : Surroundings → List PastPredicate → ℕ → ℕ → Type 0
 OneIsDisturbed s predicates at t =
@@ -57,5 +60,7 @@ IsNearMark predicates (Some mark) t = OneIsNear predicates mark (pos 1) t
 -- edges are near each other, or one that stands has come to another second
 abbrev pub MayChange : Surroundings → History → PastLeaf → ℕ → ℕ → Type 0
 MayChange s h leaf at t =
-    (OneIsNear leaf.predicates (pos h.at) (pos 1) t ⊎ IsNearMark leaf.predicates (value_mark s (present h leaf.field)) t)
-    ⊎ (ToOne (IsNearChange leaf.predicates) (entries_of h.entries leaf.field) t ⊎ OneIsDisturbed s leaf.predicates at t)
+    (OneIsNear leaf.predicates (pos h.at) (pos 1) t
+    ⊎ IsNearMark leaf.predicates (value_mark s (present h leaf.field)) t)
+    ⊎ (ToOne (IsNearChange leaf.predicates) (entries_of h.entries leaf.field) t
+    ⊎ OneIsDisturbed s leaf.predicates at t)

@@ -13,4 +13,5 @@ IsSame s at old new = (h : History) → holds s h at (view new) ≡ holds s h at
 -- each of the new ones holds of those of which the old one at its place holds
 pub record AreSame (s : Surroundings) (at : ℕ) (old new : List Cond) : Type 0 where
   pub many : length new ≡ length old
-  pub each : (place : ℕ) (c d : Cond) → slice_get old place ≡ Some c → slice_get new place ≡ Some d → IsSame s at c d
+  pub each : (place : ℕ) (c d : Cond) → slice_get old place ≡ Some c → slice_get new place ≡ Some d
+      → IsSame s at c d

@@ -35,7 +35,9 @@ use Rattle.jql_syntax.specs.declared.query.SortKey.{SortKey}
 
 -- It begins with an ASCII letter, has ASCII letters and digits alone, and is no keyword. Such a name of a field stands without quotes.
 abbrev pub is_bare : List ℕ → Bool
-is_bare w = begins_with is_ascii_alphabetic w && (list_all is_ascii_alphanumeric w && not (is_some (keyword_of w)))
+is_bare w =
+    begins_with is_ascii_alphabetic w
+    && (list_all is_ascii_alphanumeric w && not (is_some (keyword_of w)))
 
 abbrev pub name_token : List ℕ → Token
 name_token w = if is_bare w then Word w else Quoted w
@@ -71,7 +73,8 @@ abbrev pub keyed : {A : Type 0} → Mark → (A → List Token → List Token) �
 keyed m text x rest = Marked m ∷ text x rest
 
 -- with commas between them
-abbrev pub separated : {A : Type 0} → (A → List Token → List Token) → List A → List Token → List Token
+abbrev pub separated : {A : Type 0} → (A → List Token → List Token) → List A → List Token
+    → List Token
 separated text [] rest = rest
 separated text (x ∷ xs) rest = text x (each (keyed Comma text) xs rest)
 
@@ -91,7 +94,8 @@ abbrev pub predicate_text : Predicate → List Token → List Token
 predicate_text (IsAfter v) rest = Marked After ∷ value_text v rest
 predicate_text (IsBefore v) rest = Marked Before ∷ value_text v rest
 predicate_text (IsOn v) rest = Marked On ∷ value_text v rest
-predicate_text (IsDuring v w) rest = Marked During ∷ Marked Open ∷ value_text v (Marked Comma ∷ value_text w (Marked Close ∷ rest))
+predicate_text (IsDuring v w) rest =
+    Marked During ∷ Marked Open ∷ value_text v (Marked Comma ∷ value_text w (Marked Close ∷ rest))
 predicate_text (IsBy c) rest = Marked By ∷ choice_text c rest
 
 abbrev pub aspect_text : Aspect → List Token → List Token
@@ -117,9 +121,12 @@ test_text (IsNotIn m) rest = Marked Not ∷ Marked In ∷ members_text m rest
 test_text IsEmpty rest = Marked Is ∷ Marked Empty ∷ rest
 test_text IsNotEmpty rest = Marked Is ∷ Marked Not ∷ Marked Empty ∷ rest
 test_text (HasBeen x ps) rest = Marked Was ∷ item_text x (each predicate_text ps rest)
-test_text (HasNotBeen x ps) rest = Marked Was ∷ Marked Not ∷ item_text x (each predicate_text ps rest)
-test_text (HasBeenIn m ps) rest = Marked Was ∷ Marked In ∷ members_text m (each predicate_text ps rest)
-test_text (HasNotBeenIn m ps) rest = Marked Was ∷ Marked Not ∷ Marked In ∷ members_text m (each predicate_text ps rest)
+test_text (HasNotBeen x ps) rest =
+    Marked Was ∷ Marked Not ∷ item_text x (each predicate_text ps rest)
+test_text (HasBeenIn m ps) rest =
+    Marked Was ∷ Marked In ∷ members_text m (each predicate_text ps rest)
+test_text (HasNotBeenIn m ps) rest =
+    Marked Was ∷ Marked Not ∷ Marked In ∷ members_text m (each predicate_text ps rest)
 test_text (HasChanged xs) rest = Marked Changed ∷ each aspect_text xs rest
 
 abbrev pub leaf_text : Leaf → List Token → List Token
@@ -154,7 +161,8 @@ abbrev mutual
 
   pub more_conjunctions_text : Trees → List Token → List Token
   more_conjunctions_text no_trees rest = rest
-  more_conjunctions_text (tree x xs) rest = Marked Or ∷ conjunction_text x (more_conjunctions_text xs rest)
+  more_conjunctions_text (tree x xs) rest = Marked Or
+      ∷ conjunction_text x (more_conjunctions_text xs rest)
 
 -- Alone neither does.
 abbrev pub expression_text : Tree → List Token → List Token

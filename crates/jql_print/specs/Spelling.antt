@@ -85,4 +85,7 @@ query_text q keys = text_of (printed q keys)
 
 -- the tokens were written at the end: whatever follows, it is as if it followed them
 abbrev pub Writes : Line → Line → (List Token → List Token) → Type 0
-Writes old new text = (rest : List Token) → string_bytes new.text ++ encode_utf8_all (spellings new.is_tight rest) ≡ string_bytes old.text ++ encode_utf8_all (spellings old.is_tight (text rest))
+Writes old new text =
+    (rest : List Token)
+    → string_bytes new.text ++ encode_utf8_all (spellings new.is_tight rest)
+    ≡ string_bytes old.text ++ encode_utf8_all (spellings old.is_tight (text rest))

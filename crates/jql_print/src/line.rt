@@ -57,7 +57,8 @@ fn spelling(mark: Mark) -> &'static str
 
 // A space, where one stands before the next token.
 fn space(line: &mut Line, closes: bool) -> Result<(), Memory>
-    ensures { OnOk result (string_bytes line.new.text ≡ string_bytes line.old.text ++ (if line.old.is_tight || closes then [] else 32 ∷ [])) }
+    ensures { OnOk result (string_bytes line.new.text
+        ≡ string_bytes line.old.text ++ (if line.old.is_tight || closes then [] else 32 ∷ [])) }
 {
     if line.is_tight || closes {
         return Ok(());
@@ -101,7 +102,8 @@ pub(crate) fn put_name(line: &mut Line, name: &Text) -> Result<(), Memory>
 
 // A character in quotes, behind a backslash where it wants one.
 fn escape(out: &mut String, c: char) -> Result<(), Memory>
-    ensures { OnOk result (string_bytes out.new ≡ string_bytes out.old ++ encode_utf8_all (escaped (c ∷ []))) }
+    ensures { OnOk result (string_bytes out.new
+        ≡ string_bytes out.old ++ encode_utf8_all (escaped (c ∷ []))) }
 {
     if c == '"' || c == '\\' {
         out.push('\\')?;
@@ -112,7 +114,8 @@ fn escape(out: &mut String, c: char) -> Result<(), Memory>
 
 // A text in quotes, with its escapes.
 fn quote(out: &mut String, text: &str) -> Result<(), Memory>
-    ensures { OnOk result (string_bytes out.new ≡ string_bytes out.old ++ encode_utf8_all (34 ∷ (escaped (chars text.now) ++ 34 ∷ []))) }
+    ensures { OnOk result (string_bytes out.new
+        ≡ string_bytes out.old ++ encode_utf8_all (34 ∷ (escaped (chars text.now) ++ 34 ∷ []))) }
 {
     out.push('"')?;
     for c in text.chars() {

@@ -53,7 +53,9 @@ fn write_sorted(
     first: &SortKey,
     more: &[SortKey],
 ) -> Result<(), Memory>
-    ensures { OnOk result (Writes line.old line.new (λ rest. Marked Order ∷ Marked By ∷ key_text first.now (each (keyed Comma key_text) more.now rest))) }
+    ensures { OnOk result (Writes line.old line.new
+        (λ rest. Marked Order ∷ Marked By
+        ∷ key_text first.now (each (keyed Comma key_text) more.now rest))) }
 {
     put(line, Mark::Order)?;
     put(line, Mark::By)?;
@@ -72,7 +74,8 @@ fn write_order(alloc: Global, line: &mut Line, keys: &[SortKey]) -> Result<(), M
 }
 
 fn write_condition(alloc: Global, line: &mut Line, query: &Query) -> Result<(), Memory>
-    ensures writes { OnOk result (Writes line.old line.new (condition_text (option_map view query.now.0))) }
+    ensures writes { OnOk result (Writes line.old line.new
+        (condition_text (option_map view query.now.0))) }
     ensures written { IsWritten (option_map view query.now.0) query.now.1 }
 {
     match query.condition() {
@@ -99,14 +102,17 @@ fn spelled(alloc: Global, query: &Query) -> Result<Text, Memory>
 pub fn print(alloc: Global, query: &Query) -> Result<Text, Memory>
     ensures spelling { IfOk result (λ t. t ≡ query_text (option_map view query.now.0) query.now.1) }
     // It is that query, unless it is too long for one.
-    ensures again { IfOk result (λ t. length t ≤ most_bytes → IsQuery t (option_map view query.now.0) query.now.1) }
+    ensures again { IfOk result (λ t. length t ≤ most_bytes
+        → IsQuery t (option_map view query.now.0) query.now.1) }
 {
     spelled(alloc, query)
 }
 
 /// The spelling of what a text says is that query again, unless it is too long for one.
 pub fn printed_reads()
-    ensures { (text : List ℕ) (q : Option Tree) (keys : List TheSortKey) → IsUtf8 text → IsQuery text q keys → length (query_text q keys) ≤ most_bytes → IsQuery (query_text q keys) q keys }
+    ensures { (text : List ℕ) (q : Option Tree) (keys : List TheSortKey) → IsUtf8 text
+        → IsQuery text q keys → length (query_text q keys) ≤ most_bytes
+        → IsQuery (query_text q keys) q keys }
 {}
 
 /// What some text says, as each [`Query`] is, nests at most 64 deep in its spelling.

@@ -13,28 +13,32 @@ use std::alloc::Global;
 
 // A value behind a sign or a keyword.
 fn write_keyed_value(line: &mut Line, mark: Mark, value: &Value) -> Result<(), Memory>
-    ensures { OnOk result (Writes line.old line.new (λ rest. Marked mark ∷ value_text value.now rest)) }
+    ensures { OnOk result (Writes line.old line.new
+        (λ rest. Marked mark ∷ value_text value.now rest)) }
 {
     put(line, mark)?;
     write_value(line, value)
 }
 
 fn write_keyed_item(line: &mut Line, mark: Mark, item: &Item) -> Result<(), Memory>
-    ensures { OnOk result (Writes line.old line.new (λ rest. Marked mark ∷ item_text item.now rest)) }
+    ensures { OnOk result (Writes line.old line.new
+        (λ rest. Marked mark ∷ item_text item.now rest)) }
 {
     put(line, mark)?;
     write_item(line, item)
 }
 
 fn write_keyed_members(line: &mut Line, mark: Mark, members: &Members) -> Result<(), Memory>
-    ensures { OnOk result (Writes line.old line.new (λ rest. Marked mark ∷ members_text members.now rest)) }
+    ensures { OnOk result (Writes line.old line.new
+        (λ rest. Marked mark ∷ members_text members.now rest)) }
 {
     put(line, mark)?;
     write_members(line, members)
 }
 
 fn write_keyed_choice(line: &mut Line, mark: Mark, choice: &Choice) -> Result<(), Memory>
-    ensures { OnOk result (Writes line.old line.new (λ rest. Marked mark ∷ choice_text choice.now rest)) }
+    ensures { OnOk result (Writes line.old line.new
+        (λ rest. Marked mark ∷ choice_text choice.now rest)) }
 {
     put(line, mark)?;
     write_choice(line, choice)
@@ -42,7 +46,8 @@ fn write_keyed_choice(line: &mut Line, mark: Mark, choice: &Choice) -> Result<()
 
 // DURING and its two dates.
 fn write_during(line: &mut Line, start: &Value, end: &Value) -> Result<(), Memory>
-    ensures { OnOk result (Writes line.old line.new (predicate_text (Predicate.During start.now end.now))) }
+    ensures { OnOk result (Writes line.old line.new
+        (predicate_text (Predicate.During start.now end.now))) }
 {
     put(line, Mark::During)?;
     write_keyed_value(line, Mark::Open, start)?;
@@ -104,7 +109,8 @@ fn comparison_mark(comparison: Comparison) -> Mark
 }
 
 fn write_is_not_empty(line: &mut Line) -> Result<(), Memory>
-    ensures { OnOk result (Writes line.old line.new (λ rest. Marked Is ∷ Marked Not ∷ Marked Empty ∷ rest)) }
+    ensures { OnOk result (Writes line.old line.new
+        (λ rest. Marked Is ∷ Marked Not ∷ Marked Empty ∷ rest)) }
 {
     put(line, Mark::Is)?;
     put(line, Mark::Not)?;
@@ -126,14 +132,16 @@ fn write_not_in(line: &mut Line, members: &Members) -> Result<(), Memory>
 }
 
 fn write_was(line: &mut Line, item: &Item, predicates: &[Predicate]) -> Result<(), Memory>
-    ensures { OnOk result (Writes line.old line.new (test_text (Test.Was item.now predicates.now))) }
+    ensures { OnOk result (Writes line.old line.new
+        (test_text (Test.Was item.now predicates.now))) }
 {
     write_keyed_item(line, Mark::Was, item)?;
     write_predicates(line, predicates)
 }
 
 fn write_was_not(line: &mut Line, item: &Item, predicates: &[Predicate]) -> Result<(), Memory>
-    ensures { OnOk result (Writes line.old line.new (test_text (Test.WasNot item.now predicates.now))) }
+    ensures { OnOk result (Writes line.old line.new
+        (test_text (Test.WasNot item.now predicates.now))) }
 {
     put(line, Mark::Was)?;
     write_keyed_item(line, Mark::Not, item)?;
@@ -141,7 +149,8 @@ fn write_was_not(line: &mut Line, item: &Item, predicates: &[Predicate]) -> Resu
 }
 
 fn write_was_in(line: &mut Line, members: &Members, predicates: &[Predicate]) -> Result<(), Memory>
-    ensures { OnOk result (Writes line.old line.new (test_text (Test.WasIn members.now predicates.now))) }
+    ensures { OnOk result (Writes line.old line.new
+        (test_text (Test.WasIn members.now predicates.now))) }
 {
     put(line, Mark::Was)?;
     write_keyed_members(line, Mark::In, members)?;
@@ -153,7 +162,8 @@ fn write_was_not_in(
     members: &Members,
     predicates: &[Predicate],
 ) -> Result<(), Memory>
-    ensures { OnOk result (Writes line.old line.new (test_text (Test.WasNotIn members.now predicates.now))) }
+    ensures { OnOk result (Writes line.old line.new
+        (test_text (Test.WasNotIn members.now predicates.now))) }
 {
     put(line, Mark::Was)?;
     put(line, Mark::Not)?;

@@ -43,7 +43,8 @@ pub data IsKind (ts rest : List Token) : Kind → Type 0 where
   kind_bad : {k : Kind} {after : List Token} → rest ≡ Bad k ∷ after → IsKind ts rest k
   kind_deep : IsOpener rest → Leads (unit 0) (query limit) ts rest → IsKind ts rest TooDeep
   kind_date : IsText rest → Leads (one date_text) (query limit) ts rest → IsKind ts rest BadDate
-  kind_other : (IsBad rest → ⊥) → (IsOpener rest → Leads (unit 0) (query limit) ts rest → ⊥) → (IsText rest → Leads (one date_text) (query limit) ts rest → ⊥) → IsKind ts rest Expected
+  kind_other : (IsBad rest → ⊥) → (IsOpener rest → Leads (unit 0) (query limit) ts rest → ⊥)
+      → (IsText rest → Leads (one date_text) (query limit) ts rest → ⊥) → IsKind ts rest Expected
 
 -- where the first of these tokens begins, or the text's end
 abbrev pub place_of : ℕ → List Placed → ℕ
@@ -56,14 +57,17 @@ pub record IsFault (ts : List Placed) (end place : ℕ) (kind : Kind) : Type 0 w
   pub within : number ≤ length ts
   pub unread : (q : Option Tree) (keys : List SortKey) → Reads (words ts) q keys → ⊥
   pub begins : Begins (query limit) (words ts) (words (drop number ts))
-  pub stops : (t : Token) (after : List Token) → words (drop number ts) ≡ t ∷ after → Begins (query limit) (words ts) after → ⊥
+  pub stops : (t : Token) (after : List Token) → words (drop number ts) ≡ t ∷ after
+      → Begins (query limit) (words ts) after → ⊥
   pub place_is : place ≡ place_of end (drop number ts)
   pub kind_is : IsKind (words ts) (words (drop number ts)) kind
 
 -- a text's first fault: its length comes before all others
 pub data FirstFault (text : List ℕ) (place : ℕ) (kind : Kind) : Type 0 where
-  too_long : most_bytes < length text → place ≡ most_bytes → kind ≡ TooLong → FirstFault text place kind
-  at_token : length text ≤ most_bytes → IsFault (tokens text) (length text) place kind → FirstFault text place kind
+  too_long : most_bytes < length text → place ≡ most_bytes → kind ≡ TooLong
+      → FirstFault text place kind
+  at_token : length text ≤ most_bytes → IsFault (tokens text) (length text) place kind
+      → FirstFault text place kind
 
 -- the text is the query with this condition, if any, and these sort keys
 abbrev pub IsQuery : List ℕ → Option Tree → List SortKey → Type 0
@@ -85,19 +89,22 @@ number_of_kind BadDate = 6
 number_of_kind BadNumber = 7
 
 -- what comes of a text that is the query, unless memory runs out
-abbrev pub Gives : Result (Option Expr × List SortKey) JqlFault → Option Tree → List SortKey → Type 0
+abbrev pub Gives : Result (Option Expr × List SortKey) JqlFault → Option Tree → List SortKey
+    → Type 0
 Gives (Ok x) q keys = (option_map view x.0 ≡ q) × (x.1 ≡ keys)
 Gives (Err (BadText place kind)) q keys = ⊥
 Gives (Err Memory) q keys = Unit {0}
 
 -- Want of memory is any text's answer.
 abbrev pub Explains : List ℕ → JqlFault → Type 0
-Explains text (BadText place n) = (kind : Kind) × (n ≡ number_of_kind kind) × FirstFault text place kind
+Explains text (BadText place n) =
+    (kind : Kind) × (n ≡ number_of_kind kind) × FirstFault text place kind
 Explains text Memory = Unit {0}
 
 -- a fault of tokens, as it is answered
 abbrev pub FaultOf : List Placed → ℕ → JqlFault → Type 0
-FaultOf ts end (BadText place n) = (kind : Kind) × (n ≡ number_of_kind kind) × IsFault ts end place kind
+FaultOf ts end (BadText place n) =
+    (kind : Kind) × (n ≡ number_of_kind kind) × IsFault ts end place kind
 FaultOf ts end Memory = Unit {0}
 
 -- what comes of a text with this first fault, unless memory runs out

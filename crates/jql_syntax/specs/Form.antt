@@ -23,7 +23,8 @@ pub data IsOf : Class → Token → List Node → Type 0 where
   of_word : {w : List ℕ} → IsOf plain_text (Word w) (text w ∷ [])
   of_quoted : {w : List ℕ} → IsOf plain_text (Quoted w) (text w ∷ [])
   of_date_word : {w : List ℕ} → is_some (read_term w) ≡ true → IsOf date_text (Word w) (text w ∷ [])
-  of_date_quoted : {w : List ℕ} → is_some (read_term w) ≡ true → IsOf date_text (Quoted w) (text w ∷ [])
+  of_date_quoted : {w : List ℕ} → is_some (read_term w) ≡ true
+      → IsOf date_text (Quoted w) (text w ∷ [])
   of_name : {w : List ℕ} → IsOf function_name (Name w) (text w ∷ [])
   of_bare_word : {w : List ℕ} → IsOf bare_word (Word w) (text w ∷ [])
   of_bare_name : {w : List ℕ} → IsOf bare_word (Name w) (text w ∷ [])

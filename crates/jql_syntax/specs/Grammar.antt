@@ -170,7 +170,8 @@ unit_form (suc n) =
 
 -- sort = field [ ASC | DESC ]
 abbrev pub direction : Form
-direction = either (rule ascending (key Ascending)) (either (rule descending (key Descending)) nothing)
+direction =
+    either (rule ascending (key Ascending)) (either (rule descending (key Descending)) nothing)
 
 abbrev pub sorting : Form
 sorting = rule sort_key (both field direction)

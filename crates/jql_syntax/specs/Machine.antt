@@ -76,7 +76,8 @@ nullable (unit n) = false
 
 -- a token with which a unit may begin
 abbrev pub unit_looks : ℕ → Bool
-unit_looks k = (looks any_text k || looks field_number k) || (looks (sign Not) k || looks (sign Open) k)
+unit_looks k =
+    (looks any_text k || looks field_number k) || (looks (sign Not) k || looks (sign Open) k)
 
 -- the form may begin with a token of this look
 abbrev pub first : Form → ℕ → Bool
@@ -99,7 +100,9 @@ go_on (rule l f) k = go_on f k
 go_on (unit n) k = first aspect k
 
 abbrev pub all_looks : List ℕ
-all_looks = 0 ∷ 1 ∷ 2 ∷ 3 ∷ 4 ∷ 5 ∷ 6 ∷ 7 ∷ 8 ∷ 9 ∷ 10 ∷ 11 ∷ 12 ∷ 13 ∷ 14 ∷ 15 ∷ 16 ∷ 17 ∷ 18 ∷ 19 ∷ 20 ∷ 21 ∷ 22 ∷ 23 ∷ 24 ∷ 25 ∷ 26 ∷ 27 ∷ 28 ∷ 29 ∷ 30 ∷ 31 ∷ 32 ∷ 33 ∷ 34 ∷ []
+all_looks =
+    0 ∷ 1 ∷ 2 ∷ 3 ∷ 4 ∷ 5 ∷ 6 ∷ 7 ∷ 8 ∷ 9 ∷ 10 ∷ 11 ∷ 12 ∷ 13 ∷ 14 ∷ 15 ∷ 16 ∷ 17 ∷ 18 ∷ 19 ∷ 20
+    ∷ 21 ∷ 22 ∷ 23 ∷ 24 ∷ 25 ∷ 26 ∷ 27 ∷ 28 ∷ 29 ∷ 30 ∷ 31 ∷ 32 ∷ 33 ∷ 34 ∷ []
 
 -- no token looks both ways
 unfoldable pub are_apart : (ℕ → Bool) → (ℕ → Bool) → Bool
@@ -109,9 +112,12 @@ are_apart p q = list_all (λ k. not (p k && q k)) all_looks
 pub data IsPlain : Form → Type 0 where
   plain_one : {c : Class} → IsPlain (one c)
   plain_nothing : IsPlain nothing
-  plain_both : {f g : Form} → IsPlain f → IsPlain g → are_apart (go_on f) (first g) ≡ true → IsPlain (both f g)
-  plain_either : {f g : Form} → IsPlain f → IsPlain g → are_apart (first f) (first g) ≡ true → nullable f ≡ false → IsPlain (either f g)
-  plain_many : {f : Form} → IsPlain f → are_apart (go_on f) (first f) ≡ true → nullable f ≡ false → IsPlain (many f)
+  plain_both : {f g : Form} → IsPlain f → IsPlain g → are_apart (go_on f) (first g) ≡ true
+      → IsPlain (both f g)
+  plain_either : {f g : Form} → IsPlain f → IsPlain g → are_apart (first f) (first g) ≡ true
+      → nullable f ≡ false → IsPlain (either f g)
+  plain_many : {f : Form} → IsPlain f → are_apart (go_on f) (first f) ≡ true → nullable f ≡ false
+      → IsPlain (many f)
   plain_rule : {l : Label} {f : Form} → IsPlain f → IsPlain (rule l f)
   plain_unit : {n : ℕ} → IsPlain (unit n)
 
@@ -153,17 +159,30 @@ abbrev pub opens : ℕ → Bool
 opens k = looks (sign Not) k || looks (sign Open) k
 
 pub data Runs : Form → List Token → Outcome → Type 0 where
-  runs_one : {c : Class} {t : Token} {ts : List Token} {xs : List Node} → IsOf c t xs → Runs (one c) (t ∷ ts) (ended ts xs)
-  runs_lacking : {c : Class} {ts : List Token} → IsWithout c ts → Runs (one c) ts (halted ts (kind_at c ts))
+  runs_one : {c : Class} {t : Token} {ts : List Token} {xs : List Node} → IsOf c t xs
+      → Runs (one c) (t ∷ ts) (ended ts xs)
+  runs_lacking : {c : Class} {ts : List Token} → IsWithout c ts
+      → Runs (one c) ts (halted ts (kind_at c ts))
   runs_nothing : {ts : List Token} → Runs nothing ts (ended ts [])
-  runs_halt : {f g : Form} {ts rest : List Token} {k : Kind} → Runs f ts (halted rest k) → Runs (both f g) ts (halted rest k)
-  runs_both : {f g : Form} {ts mid : List Token} {xs : List Node} {o p : Outcome} → Runs f ts (ended mid xs) → Runs g mid o → p ≡ behind xs o → Runs (both f g) ts p
-  runs_first : {f g : Form} {ts : List Token} {o : Outcome} → first f (look ts) ≡ true → Runs f ts o → Runs (either f g) ts o
-  runs_second : {f g : Form} {ts : List Token} {o : Outcome} → first f (look ts) ≡ false → Runs g ts o → Runs (either f g) ts o
-  runs_stop : {f : Form} {ts : List Token} → first f (look ts) ≡ false → Runs (many f) ts (ended ts [])
-  runs_turn : {f : Form} {ts rest : List Token} {k : Kind} → first f (look ts) ≡ true → Runs f ts (halted rest k) → Runs (many f) ts (halted rest k)
-  runs_more : {f : Form} {ts mid : List Token} {xs : List Node} {o p : Outcome} → first f (look ts) ≡ true → Runs f ts (ended mid xs) → Runs (many f) mid o → p ≡ behind xs o → Runs (many f) ts p
-  runs_rule : {l : Label} {f : Form} {ts : List Token} {o p : Outcome} → Runs f ts o → p ≡ turned l o → Runs (rule l f) ts p
-  runs_unit : {n : ℕ} {ts : List Token} {o : Outcome} → Runs (unit_form (suc n)) ts o → Runs (unit (suc n)) ts o
-  runs_bottom : {ts : List Token} {o : Outcome} → opens (look ts) ≡ false → Runs leaf ts o → Runs (unit zero) ts o
+  runs_halt : {f g : Form} {ts rest : List Token} {k : Kind} → Runs f ts (halted rest k)
+      → Runs (both f g) ts (halted rest k)
+  runs_both : {f g : Form} {ts mid : List Token} {xs : List Node} {o p : Outcome}
+      → Runs f ts (ended mid xs) → Runs g mid o → p ≡ behind xs o → Runs (both f g) ts p
+  runs_first : {f g : Form} {ts : List Token} {o : Outcome} → first f (look ts) ≡ true → Runs f ts o
+      → Runs (either f g) ts o
+  runs_second : {f g : Form} {ts : List Token} {o : Outcome} → first f (look ts) ≡ false
+      → Runs g ts o → Runs (either f g) ts o
+  runs_stop : {f : Form} {ts : List Token} → first f (look ts) ≡ false
+      → Runs (many f) ts (ended ts [])
+  runs_turn : {f : Form} {ts rest : List Token} {k : Kind} → first f (look ts) ≡ true
+      → Runs f ts (halted rest k) → Runs (many f) ts (halted rest k)
+  runs_more : {f : Form} {ts mid : List Token} {xs : List Node} {o p : Outcome}
+      → first f (look ts) ≡ true → Runs f ts (ended mid xs) → Runs (many f) mid o → p ≡ behind xs o
+      → Runs (many f) ts p
+  runs_rule : {l : Label} {f : Form} {ts : List Token} {o p : Outcome} → Runs f ts o
+      → p ≡ turned l o → Runs (rule l f) ts p
+  runs_unit : {n : ℕ} {ts : List Token} {o : Outcome} → Runs (unit_form (suc n)) ts o
+      → Runs (unit (suc n)) ts o
+  runs_bottom : {ts : List Token} {o : Outcome} → opens (look ts) ≡ false → Runs leaf ts o
+      → Runs (unit zero) ts o
   runs_deep : {ts : List Token} → opens (look ts) ≡ true → Runs (unit zero) ts (halted ts TooDeep)

@@ -51,7 +51,8 @@ pub data Label : Type 0 where
   one_item several_items : Label
   after before on_day during by_author : Label
   predicate_aspect from_choice to_choice : Label
-  equals not_equals among not_among is_empty is_not_empty was was_not was_among was_not_among changed : Label
+  equals not_equals among not_among is_empty is_not_empty was was_not was_among was_not_among
+      changed : Label
   compares : Comparison → Label
   field_test negated all any : Label
   ascending descending sort_key whole : Label
@@ -121,7 +122,8 @@ made was_not (an_item x ∷ xs) = a_test (WasNot x (predicates_of xs)) ∷ []
 made was_among (members m ∷ xs) = a_test (WasIn m (predicates_of xs)) ∷ []
 made was_not_among (members m ∷ xs) = a_test (WasNotIn m (predicates_of xs)) ∷ []
 made changed xs = a_test (Changed (aspects_of xs)) ∷ []
-made field_test (a_field f ∷ a_test x ∷ []) = condition (single (record { field = f; test = x })) ∷ []
+made field_test (a_field f ∷ a_test x ∷ []) =
+    condition (single (record { field = f; test = x })) ∷ []
 made negated (condition x ∷ []) = condition (negation x) ∷ []
 made all xs = condition (one_or all_of (conditions_of xs)) ∷ []
 made any xs = condition (one_or any_of (conditions_of xs)) ∷ []

@@ -53,4 +53,6 @@ condition_parts (Some x) = condition x ∷ []
 -- The tokens have their first fault where so many of them are left.
 abbrev pub Fails : List Placed → Stop → Type 0
 Fails ts Memory = Unit {0}
-Fails ts (At kind left) = (left ≤ length ts) × ((end : ℕ) → IsFault ts end (place_of end (drop (length ts - left) ts)) kind)
+Fails ts (At kind left) =
+    (left ≤ length ts)
+    × ((end : ℕ) → IsFault ts end (place_of end (drop (length ts - left) ts)) kind)

@@ -20,7 +20,11 @@ is_quote c = (c == 34) || (c == 39)
 
 -- = ! < > ~ & | ( ) ,
 abbrev pub is_sign : ℕ → Bool
-is_sign c = (c == 61) || ((c == 33) || ((c == 60) || ((c == 62) || ((c == 126) || ((c == 38) || ((c == 124) || ((c == 40) || ((c == 41) || (c == 44)))))))))
+is_sign c =
+    (c == 61) || ((c == 33)
+    || ((c == 60)
+    || ((c == 62)
+    || ((c == 126) || ((c == 38) || ((c == 124) || ((c == 40) || ((c == 41) || (c == 44)))))))))
 
 -- what stands outside of quotes in no token: control characters, \, [ and ]
 abbrev pub is_banned : ℕ → Bool
@@ -108,7 +112,8 @@ quote_at q (c ∷ d ∷ cs) =
 -- a character in quotes, maybe behind a backslash, and what is behind it
 abbrev pub unescaped : ℕ → List ℕ → Result (ℕ × List ℕ) Kind
 unescaped c [] = if c == 92 then Err Unclosed else Ok (c, [])
-unescaped c (d ∷ cs) = if c == 92 then (if is_escaped d then Ok (d, cs) else Err Character) else Ok (c, d ∷ cs)
+unescaped c (d ∷ cs) =
+    if c == 92 then (if is_escaped d then Ok (d, cs) else Err Character) else Ok (c, d ∷ cs)
 
 abbrev pub quoted : Quote → Piece
 quoted (closed text rest) = (Quoted (encode_utf8_all text), rest)
@@ -124,10 +129,13 @@ numbered n =
 abbrev pub bracketed : List ℕ → Option Piece
 bracketed cs =
     if not (begins_with is_ascii_digit cs) then None
-    else option_map (λ rest. (numbered (number_of (front is_ascii_digit cs)), rest)) (after_char 93 (past is_ascii_digit cs))
+    else option_map (λ rest. (numbered (number_of (front is_ascii_digit cs)), rest))
+    (after_char 93 (past is_ascii_digit cs))
 
 unfoldable pub field_number_at : ℕ → List ℕ → Option Piece
-field_number_at c cs = if c == 99 then option_and_then bracketed (option_and_then (after_char 91) (after_char 102 cs)) else None
+field_number_at c cs =
+    if c == 99 then option_and_then bracketed (option_and_then (after_char 91) (after_char 102 cs))
+    else None
 
 -- ---- words
 
@@ -182,7 +190,8 @@ abbrev pub run_of : ℕ → List ℕ → List ℕ
 run_of c cs = encode_utf8_all (c ∷ front is_word_char cs)
 
 abbrev pub word_at : ℕ → List ℕ → Piece
-word_at c cs = (word_or (run_of c cs) (past is_word_char cs) (keyword_of (run_of c cs)), past is_word_char cs)
+word_at c cs =
+    (word_or (run_of c cs) (past is_word_char cs) (keyword_of (run_of c cs)), past is_word_char cs)
 
 -- ---- a text
 
@@ -216,7 +225,8 @@ tokens_of zero total cs = []
 tokens_of (suc most) total [] = []
 tokens_of (suc most) total (c ∷ cs) =
     if is_white c then tokens_of most total cs
-    else record { place = total - size (c ∷ cs); token = (piece_at c cs).0 } ∷ tokens_of most total (rest_of (piece_at c cs))
+    else record { place = total - size (c ∷ cs); token = (piece_at c cs).0 }
+    ∷ tokens_of most total (rest_of (piece_at c cs))
 
 -- the tokens of a text
 abbrev pub tokens : List ℕ → List Placed

@@ -74,7 +74,8 @@ fn read_unit(alloc: Global, room: u32, ts: &[Placed]) -> Result<(Expr, &[Placed]
 // NOT and a unit.
 #[cycle(reader)]
 fn read_not(alloc: Global, room: u32, ts: &[Placed]) -> Result<(Expr, &[Placed]), Stop>
-    ensures ok { IfOk result (λ x. Goes (rule negated (both (key Not) (unit room))) ts.now x.1.now (node x.0 ∷ [])) }
+    ensures ok { IfOk result (λ x. Goes (rule negated (both (key Not) (unit room))) ts.now x.1.now
+        (node x.0 ∷ [])) }
     ensures err { IfErr result (Stops (rule negated (both (key Not) (unit room))) ts.now) }
 {
     let Some(rest) = take(Mark::Not, ts) else {
@@ -88,8 +89,10 @@ fn read_not(alloc: Global, room: u32, ts: &[Placed]) -> Result<(Expr, &[Placed])
 // A condition in parentheses.
 #[cycle(reader)]
 fn read_group(alloc: Global, room: u32, ts: &[Placed]) -> Result<(Expr, &[Placed]), Stop>
-    ensures ok { IfOk result (λ x. Goes (both (key Open) (both (expression room) (key Close))) ts.now x.1.now (node x.0 ∷ [])) }
-    ensures err { IfErr result (Stops (both (key Open) (both (expression room) (key Close))) ts.now) }
+    ensures ok { IfOk result (λ x. Goes
+        (both (key Open) (both (expression room) (key Close))) ts.now x.1.now (node x.0 ∷ [])) }
+    ensures err { IfErr result (Stops
+        (both (key Open) (both (expression room) (key Close))) ts.now) }
 {
     let Some(inside) = take(Mark::Open, ts) else {
         return Err(fault(ts));

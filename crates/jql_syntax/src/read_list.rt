@@ -32,7 +32,8 @@ fn read_members(
     author: bool,
     ts: &[Placed],
 ) -> Result<(Sequence<Item>, &[Placed]), Stop>
-    ensures ok { IfOk result (λ x. Goes (separated (item_or_author author) Comma) ts.now x.1.now (map an_item x.0)) }
+    ensures ok { IfOk result (λ x. Goes (separated (item_or_author author) Comma) ts.now x.1.now
+        (map an_item x.0)) }
     ensures err { IfErr result (Stops (separated (item_or_author author) Comma) ts.now) }
 {
     let (first, after) = read_member(alloc, author, ts)?;
@@ -53,7 +54,8 @@ fn read_listed(
     author: bool,
     ts: &[Placed],
 ) -> Result<(Sequence<Item>, &[Placed]), Stop>
-    ensures ok { IfOk result (λ x. Goes (listed (item_or_author author)) ts.now x.1.now (map an_item x.0)) }
+    ensures ok { IfOk result (λ x. Goes (listed (item_or_author author)) ts.now x.1.now
+        (map an_item x.0)) }
     ensures err { IfErr result (Stops (listed (item_or_author author)) ts.now) }
 {
     let Some(inside) = take(Mark::Open, ts) else {
@@ -81,7 +83,8 @@ pub(crate) fn read_list(alloc: Global, ts: &[Placed]) -> Result<(Members, &[Plac
 
 // One, or a list in parentheses.
 fn read_choice(alloc: Global, author: bool, ts: &[Placed]) -> Result<(Choice, &[Placed]), Stop>
-    ensures ok { IfOk result (λ x. Goes (some (item_or_author author)) ts.now x.1.now (a_choice x.0 ∷ [])) }
+    ensures ok { IfOk result (λ x. Goes (some (item_or_author author)) ts.now x.1.now
+        (a_choice x.0 ∷ [])) }
     ensures err { IfErr result (Stops (some (item_or_author author)) ts.now) }
 {
     if starts(Mark::Open, ts) {
@@ -114,7 +117,8 @@ pub(crate) fn read_keyed_choice(
     author: bool,
     ts: &[Placed],
 ) -> Result<(Choice, &[Placed]), Stop>
-    ensures ok { IfOk result (λ x. Goes (both (key mark) (some (item_or_author author))) ts.now x.1.now (a_choice x.0 ∷ [])) }
+    ensures ok { IfOk result (λ x. Goes
+        (both (key mark) (some (item_or_author author))) ts.now x.1.now (a_choice x.0 ∷ [])) }
     ensures err { IfErr result (Stops (both (key mark) (some (item_or_author author))) ts.now) }
 {
     let Some(rest) = take(mark, ts) else {

@@ -17,7 +17,8 @@ use std::alloc::Global;
 
 // A comma, the later of two dates and the parenthesis behind it.
 fn read_end(alloc: Global, ts: &[Placed]) -> Result<(Value, &[Placed]), Stop>
-    ensures ok { IfOk result (λ x. Goes (both (key Comma) (both date (key Close))) ts.now x.1.now (a_value x.0 ∷ [])) }
+    ensures ok { IfOk result (λ x. Goes (both (key Comma) (both date (key Close))) ts.now x.1.now
+        (a_value x.0 ∷ [])) }
     ensures err { IfErr result (Stops (both (key Comma) (both date (key Close))) ts.now) }
 {
     let Some(next) = take(Mark::Comma, ts) else {
@@ -53,7 +54,8 @@ fn read_dates(alloc: Global, ts: &[Placed]) -> Result<(Value, Value, &[Placed]),
 
 // DURING and two dates.
 fn read_during(alloc: Global, ts: &[Placed]) -> Result<(Predicate, &[Placed]), Stop>
-    ensures ok { IfOk result (λ x. Goes (rule during on_dates) ts.now x.1.now (a_predicate x.0 ∷ [])) }
+    ensures ok { IfOk result (λ x. Goes (rule during on_dates) ts.now x.1.now
+        (a_predicate x.0 ∷ [])) }
     ensures err { IfErr result (Stops (rule during on_dates) ts.now) }
 {
     let Some(rest) = take(Mark::During, ts) else {
@@ -65,7 +67,8 @@ fn read_during(alloc: Global, ts: &[Placed]) -> Result<(Predicate, &[Placed]), S
 
 // BY and an author or a list of them.
 fn read_by(alloc: Global, ts: &[Placed]) -> Result<(Predicate, &[Placed]), Stop>
-    ensures ok { IfOk result (λ x. Goes (rule by_author (both (key By) (some author))) ts.now x.1.now (a_predicate x.0 ∷ [])) }
+    ensures ok { IfOk result (λ x. Goes
+        (rule by_author (both (key By) (some author))) ts.now x.1.now (a_predicate x.0 ∷ [])) }
     ensures err { IfErr result (Stops (rule by_author (both (key By) (some author))) ts.now) }
 {
     let (choice, rest) = read_keyed_choice(alloc, Mark::By, true, ts)?;

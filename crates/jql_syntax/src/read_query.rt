@@ -102,7 +102,8 @@ fn starts_unit(ts: &[Placed]) -> bool
 
 // The condition, where there is one.
 fn read_condition(alloc: Global, ts: &[Placed]) -> Result<(Option<Box<Expr>>, &[Placed]), Stop>
-    ensures ok { IfOk result (λ x. Goes (either (expression limit) nothing) ts.now x.1.now (condition_parts (option_map view (unboxed x.0)))) }
+    ensures ok { IfOk result (λ x. Goes (either (expression limit) nothing) ts.now x.1.now
+        (condition_parts (option_map view (unboxed x.0)))) }
     ensures err { IfErr result (Stops (either (expression limit) nothing) ts.now) }
 {
     if starts_unit(ts) {
@@ -118,7 +119,8 @@ pub(crate) fn read_query(
     alloc: Global,
     ts: &[Placed],
 ) -> Result<(Option<Box<Expr>>, Sequence<SortKey>, &[Placed]), Stop>
-    ensures ok { IfOk result (λ x. Goes (query limit) ts.now x.2.now (a_query (option_map view (unboxed x.0)) x.1 ∷ [])) }
+    ensures ok { IfOk result (λ x. Goes (query limit) ts.now x.2.now
+        (a_query (option_map view (unboxed x.0)) x.1 ∷ [])) }
     ensures err { IfErr result (Stops (query limit) ts.now) }
 {
     let (condition, rest) = read_condition(alloc, ts)?;

@@ -34,7 +34,8 @@ fn read_compared(
     mark: Mark,
     ts: &[Placed],
 ) -> Result<(Test, &[Placed]), Stop>
-    ensures ok { IfOk result (λ x. Goes (compared comparison mark) ts.now x.1.now (a_test x.0 ∷ [])) }
+    ensures ok { IfOk result (λ x. Goes (compared comparison mark) ts.now x.1.now
+        (a_test x.0 ∷ [])) }
     ensures err { IfErr result (Stops (compared comparison mark) ts.now) }
 {
     let Some(rest) = take(mark, ts) else {
@@ -80,7 +81,8 @@ fn read_in(alloc: Global, ts: &[Placed]) -> Result<(Members, &[Placed]), Stop>
 
 // NOT IN and a list.
 fn read_not_in(alloc: Global, ts: &[Placed]) -> Result<(Members, &[Placed]), Stop>
-    ensures ok { IfOk result (λ x. Goes (both (key Not) (both (key In) list)) ts.now x.1.now (members x.0 ∷ [])) }
+    ensures ok { IfOk result (λ x. Goes (both (key Not) (both (key In) list)) ts.now x.1.now
+        (members x.0 ∷ [])) }
     ensures err { IfErr result (Stops (both (key Not) (both (key In) list)) ts.now) }
 {
     let Some(rest) = take(Mark::Not, ts) else {
@@ -122,7 +124,8 @@ fn read_past_members(
     alloc: Global,
     ts: &[Placed],
 ) -> Result<(Members, Sequence<Predicate>, &[Placed]), Stop>
-    ensures ok { IfOk result (λ x. Goes past_among ts.now x.2.now (members x.0 ∷ map a_predicate x.1)) }
+    ensures ok { IfOk result (λ x. Goes past_among ts.now x.2.now
+        (members x.0 ∷ map a_predicate x.1)) }
     ensures err { IfErr result (Stops past_among ts.now) }
 {
     let Some(rest) = take(Mark::In, ts) else {
@@ -138,7 +141,8 @@ fn read_past_item(
     alloc: Global,
     ts: &[Placed],
 ) -> Result<(Item, Sequence<Predicate>, &[Placed]), Stop>
-    ensures ok { IfOk result (λ x. Goes past_item ts.now x.2.now (an_item x.0 ∷ map a_predicate x.1)) }
+    ensures ok { IfOk result (λ x. Goes past_item ts.now x.2.now
+        (an_item x.0 ∷ map a_predicate x.1)) }
     ensures err { IfErr result (Stops past_item ts.now) }
 {
     let (item, rest) = read_item(alloc, ts)?;
@@ -147,7 +151,8 @@ fn read_past_item(
 }
 
 fn was_in(negated: bool, list: Members, predicates: Sequence<Predicate>) -> Test
-    ensures { made (among_then negated) (members list ∷ map a_predicate predicates) ≡ a_test result ∷ [] }
+    ensures { made (among_then negated) (members list ∷ map a_predicate predicates)
+        ≡ a_test result ∷ [] }
 {
     if negated {
         Test::WasNotIn(list, predicates)
@@ -157,7 +162,8 @@ fn was_in(negated: bool, list: Members, predicates: Sequence<Predicate>) -> Test
 }
 
 fn was(negated: bool, item: Item, predicates: Sequence<Predicate>) -> Test
-    ensures { made (item_then negated) (an_item item ∷ map a_predicate predicates) ≡ a_test result ∷ [] }
+    ensures { made (item_then negated) (an_item item ∷ map a_predicate predicates)
+        ≡ a_test result ∷ [] }
 {
     if negated {
         Test::WasNot(item, predicates)

@@ -31,7 +31,8 @@ pub(crate) fn read_field(alloc: Global, ts: &[Placed]) -> Result<(Field, &[Place
 
 // A text, where one stands first.
 fn read_optional(alloc: Global, ts: &[Placed]) -> Result<(Option<Text>, &[Placed]), Memory>
-    ensures { IfOk result (λ x. Goes (either (one any_text) nothing) ts.now x.1.now (argument_parts x.0)) }
+    ensures { IfOk result (λ x. Goes (either (one any_text) nothing) ts.now x.1.now
+        (argument_parts x.0)) }
 {
     match take_text(ts) {
         Some((text, rest)) => Ok((Some(text.copy(alloc)?), rest)),

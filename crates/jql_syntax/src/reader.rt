@@ -87,11 +87,13 @@ pub fn parse(alloc: Global, text: &str) -> Result<Query, JqlFault>
     // What is read is the query.
     ensures found { IfOk result (λ q. IsQuery text.now (option_map view q.0) q.1) }
     // A query is read, unless memory runs out.
-    ensures only { (q : Option Tree) (keys : List TheSortKey) → IsQuery text.now q keys → Gives result q keys }
+    ensures only { (q : Option Tree) (keys : List TheSortKey) → IsQuery text.now q keys
+        → Gives result q keys }
     // A fault is the first one.
     ensures fault { IfErr result (Explains text.now) }
     // The first fault is answered, unless memory runs out.
-    ensures only_fault { (place : ℕ) (kind : TheKind) → FirstFault text.now place kind → Faults result place kind }
+    ensures only_fault { (place : ℕ) (kind : TheKind) → FirstFault text.now place kind
+        → Faults result place kind }
 {
     if text.len() > MOST_BYTES {
         return Err(JqlFault::Bad {
@@ -115,10 +117,12 @@ pub fn query_or_fault()
 
 /// No text is two queries.
 pub fn one_query()
-    ensures { (text : List ℕ) (q r : Option Tree) (keys other : List TheSortKey) → IsQuery text q keys → IsQuery text r other → (q ≡ r) × (keys ≡ other) }
+    ensures { (text : List ℕ) (q r : Option Tree) (keys other : List TheSortKey)
+        → IsQuery text q keys → IsQuery text r other → (q ≡ r) × (keys ≡ other) }
 {}
 
 /// No text has two first faults.
 pub fn one_fault()
-    ensures { (text : List ℕ) (p q : ℕ) (k j : TheKind) → FirstFault text p k → FirstFault text q j → (p ≡ q) × (k ≡ j) }
+    ensures { (text : List ℕ) (p q : ℕ) (k j : TheKind) → FirstFault text p k → FirstFault text q j
+        → (p ≡ q) × (k ≡ j) }
 {}

@@ -46,7 +46,8 @@ fn or_longer(next: char, longer: Mark, short: Mark, rest: &str) -> (Mark, &str)
 
 // The signs that begin with an exclamation mark.
 fn negated_sign(rest: &str) -> (Mark, &str)
-    ensures value { (result.0, chars result.1.now) ≡ or_lacks (chars rest.now) (after_char 61 (chars rest.now)) }
+    ensures value { (result.0, chars result.1.now)
+        ≡ or_lacks (chars rest.now) (after_char 61 (chars rest.now)) }
     ensures shorter { length result.1.now ≤ length rest.now }
 {
     match after_char('=', rest) {
@@ -57,7 +58,8 @@ fn negated_sign(rest: &str) -> (Mark, &str)
 
 // A number in digits, at most one digit past its greatest value, and what is behind it.
 fn number(text: &str) -> (u32, &str)
-    ensures value { numbered result.0 ≡ numbered (number_of (front is_ascii_digit (chars text.now))) }
+    ensures value { numbered result.0
+        ≡ numbered (number_of (front is_ascii_digit (chars text.now))) }
     ensures rest { chars result.1.now ≡ past is_ascii_digit (chars text.now) }
     ensures shorter { length result.1.now ≤ length text.now }
 {
@@ -113,7 +115,8 @@ fn bracketed(text: &str) -> Option<(Token, &str)>
 // A field by its number, as `cf[10001]`, behind its first character.
 #[tactic(auto, unfolding(crate::specs::Tokens::field_number_at))]
 fn field_number(c: char, rest: &str) -> Option<(Token, &str)>
-    ensures value { option_map (λ x. (x.0, chars x.1.now)) result ≡ field_number_at c (chars rest.now) }
+    ensures value { option_map (λ x. (x.0, chars x.1.now)) result
+        ≡ field_number_at c (chars rest.now) }
     ensures shorter { IfSome result (λ x. length x.1.now ≤ length rest.now) }
 {
     if c != 'c' {
@@ -224,7 +227,8 @@ fn predicate_keyword(word: &str) -> Option<Mark>
 
 // The token of a word, by what is behind it.
 fn word_token(word: String, rest: &str) -> Token
-    ensures { result ≡ word_or (string_bytes word) (chars rest.now) (keyword_of (string_bytes word)) }
+    ensures { result
+        ≡ word_or (string_bytes word) (chars rest.now) (keyword_of (string_bytes word)) }
 {
     if let Some(mark) = keyword(word.as_str()) {
         return Token::Marked(mark);
@@ -238,7 +242,8 @@ fn word_token(word: String, rest: &str) -> Token
 
 // A keyword, a field by number or a word.
 fn word_piece(alloc: Global, c: char, rest: &str) -> Result<(Token, &str), AllocError>
-    ensures value { IfOk result (λ x. (x.0, chars x.1.now) ≡ number_or_word c (chars rest.now) (field_number_at c (chars rest.now))) }
+    ensures value { IfOk result (λ x. (x.0, chars x.1.now)
+        ≡ number_or_word c (chars rest.now) (field_number_at c (chars rest.now))) }
     ensures shorter { IfOk result (λ x. length x.1.now ≤ length rest.now) }
 {
     if let Some(piece) = field_number(c, rest) {
@@ -250,7 +255,8 @@ fn word_piece(alloc: Global, c: char, rest: &str) -> Result<(Token, &str), Alloc
 
 // A character in quotes, maybe behind a backslash, and what is behind it.
 fn unescaped(c: char, rest: &str) -> Result<(char, &str), Kind>
-    ensures value { result_map_both (λ x. (x.0, chars x.1.now)) (λ k. k) result ≡ unescaped c (chars rest.now) }
+    ensures value { result_map_both (λ x. (x.0, chars x.1.now)) (λ k. k) result
+        ≡ unescaped c (chars rest.now) }
     ensures shorter { IfOk result (λ x. length x.1.now ≤ length rest.now) }
 {
     if c != '\\' {
@@ -270,7 +276,8 @@ fn unescaped(c: char, rest: &str) -> Result<(char, &str), Kind>
 
 // A quoted text, behind its opening quote.
 fn quoted(alloc: Global, quote: char, text: &str) -> Result<(Token, &str), AllocError>
-    ensures value { IfOk result (λ x. (x.0, chars x.1.now) ≡ quoted (quote_at quote (chars text.now))) }
+    ensures value { IfOk result (λ x. (x.0, chars x.1.now)
+        ≡ quoted (quote_at quote (chars text.now))) }
     ensures shorter { IfOk result (λ x. length x.1.now ≤ length text.now) }
 {
     let mut string = String::new(alloc);

@@ -173,7 +173,8 @@ fn name_of(token: &Token) -> Option<&Text>
 
 /// A function's name, where it stands first.
 pub(crate) fn take_name(ts: &[Placed]) -> Option<(&Text, &[Placed])>
-    ensures some { IfSome result (λ x. Goes (one function_name) ts.now x.1.now (text x.0.now ∷ [])) }
+    ensures some { IfSome result (λ x. Goes (one function_name) ts.now x.1.now
+        (text x.0.now ∷ [])) }
     ensures none { IfNone result (looks function_name (look (words ts.now)) ≡ false) }
 {
     match head(ts) {
@@ -252,9 +253,11 @@ pub(crate) fn starts_value(ts: &[Placed]) -> bool
 
 /// A text of a date, where a text stands first that no parenthesis follows. It is a fault where it is none.
 pub(crate) fn take_date(ts: &[Placed]) -> Result<Option<(&Text, &[Placed])>, Stop>
-    ensures some { IfOk result (λ o. IfSome o (λ x. Goes (one date_text) ts.now x.1.now (text x.0.now ∷ []))) }
+    ensures some { IfOk result (λ o. IfSome o
+        (λ x. Goes (one date_text) ts.now x.1.now (text x.0.now ∷ []))) }
     ensures none { IfOk result (λ o. IfNone o (looks date_text (look (words ts.now)) ≡ false)) }
-    ensures err { IfErr result (λ s. (s ≡ Stop.At BadDate (length ts.now)) × (looks date_text (look (words ts.now)) ≡ true) × Stops (one date_text) ts.now s) }
+    ensures err { IfErr result (λ s. (s ≡ Stop.At BadDate (length ts.now))
+        × (looks date_text (look (words ts.now)) ≡ true) × Stops (one date_text) ts.now s) }
 {
     match head(ts) {
         None => Ok(None),
@@ -272,7 +275,8 @@ pub(crate) fn take_date(ts: &[Placed]) -> Result<Option<(&Text, &[Placed])>, Sto
 }
 
 fn is_field(token: &Token) -> bool
-    ensures { result ≡ (looks any_text (look_of token.now) || looks field_number (look_of token.now)) }
+    ensures { result
+        ≡ (looks any_text (look_of token.now) || looks field_number (look_of token.now)) }
 {
     matches!(
         token,
@@ -282,7 +286,8 @@ fn is_field(token: &Token) -> bool
 
 /// Whether a field stands first.
 pub(crate) fn starts_field(ts: &[Placed]) -> bool
-    ensures { result ≡ (looks any_text (look (words ts.now)) || looks field_number (look (words ts.now))) }
+    ensures { result
+        ≡ (looks any_text (look (words ts.now)) || looks field_number (look (words ts.now))) }
 {
     match head(ts) {
         Some((token, _)) => is_field(token),

@@ -20,4 +20,6 @@ LeavesAsBefore old new = (db : Trees) → new.may_leave db → old.may_leave db
 
 -- a crash leaves what it could leave before, or, where there was no table yet, the table without a row
 abbrev pub LeavesOrMakes : State → State → Type 0
-LeavesOrMakes old new = (db : Trees) → new.may_leave db → old.may_leave db ⊎ ((old.now.schema ≡ no_schema) × HasRows (db 0) no_rows)
+LeavesOrMakes old new =
+    (db : Trees) → new.may_leave db
+    → old.may_leave db ⊎ ((old.now.schema ≡ no_schema) × HasRows (db 0) no_rows)

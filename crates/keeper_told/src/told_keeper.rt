@@ -34,7 +34,8 @@ impl<S: Alter> ToldKeeper<S> {
         requires { connection.in_transaction ≡ false }
         ensures same { result.conn ≡ connection }
         ensures none { result.faults ≡ 0 }
-        ensures kept { (rows : Rows) → Keeps (state S.Store connection) rows → IsKeeping (state S.Store result.conn) rows }
+        ensures kept { (rows : Rows) → Keeps (state S.Store connection) rows
+            → IsKeeping (state S.Store result.conn) rows }
     {
         ToldKeeper {
             conn: connection,
@@ -75,13 +76,19 @@ fn commit_all<S: Alter>(conn: &mut Connection<S>, ops: &[RowOp]) -> Result<(), K
     requires idle { conn.old.in_transaction ≡ false }
     ensures idle { conn.new.in_transaction ≡ false }
     ensures clean { HasCleanDisk (state S.Store conn.new) → HasCleanDisk (state S.Store conn.old) }
-    ensures done { (rows : Rows) → IsKeeping (state S.Store conn.old) rows → OnOk result (IsKeeping (state S.Store conn.new) (with_ops ops.now rows)) }
-    ensures undone { (rows : Rows) → IsKeeping (state S.Store conn.old) rows → OnErr result (IsKeeping (state S.Store conn.new) rows) }
-    ensures left { HasCleanDisk (state S.Store conn.new) → (rows : Rows) → IsKeeping (state S.Store conn.old) rows
+    ensures done { (rows : Rows) → IsKeeping (state S.Store conn.old) rows
+        → OnOk result (IsKeeping (state S.Store conn.new) (with_ops ops.now rows)) }
+    ensures undone { (rows : Rows) → IsKeeping (state S.Store conn.old) rows
+        → OnErr result (IsKeeping (state S.Store conn.new) rows) }
+    ensures left { HasCleanDisk (state S.Store conn.new) → (rows : Rows)
+        → IsKeeping (state S.Store conn.old) rows
         → OnOk result (LeavesJust (state S.Store conn.new) (with_ops ops.now rows)) }
-    ensures crash { HasCleanDisk (state S.Store conn.new) → IsTrue (state S.Store conn.old).is_open → (rows : Rows)
-        → IsKeeping (state S.Store conn.old) rows → LeavesOr (state S.Store conn.old) (state S.Store conn.new) (with_ops ops.now rows) }
-    ensures shut { HasCleanDisk (state S.Store conn.new) → (state S.Store conn.old).is_open ≡ false → 0 < length ops.now
+    ensures crash { HasCleanDisk (state S.Store conn.new) → IsTrue (state S.Store conn.old).is_open
+        → (rows : Rows)
+        → IsKeeping (state S.Store conn.old) rows
+        → LeavesOr (state S.Store conn.old) (state S.Store conn.new) (with_ops ops.now rows) }
+    ensures shut { HasCleanDisk (state S.Store conn.new) → (state S.Store conn.old).is_open ≡ false
+        → 0 < length ops.now
         → LeavesAsBefore (state S.Store conn.old) (state S.Store conn.new) }
 {
     let Some(lacks) = lacks_table(conn) else {
@@ -103,7 +110,8 @@ impl<S: Alter> Keeper for ToldKeeper<S> {
     fn commit(&mut self, ops: &[RowOp]) -> Result<(), KeepFault>
         requires numbers { All (λ op. number_of op < 2 ^ 63) ops.now }
         ensures cause { HasKeepCause self.old.faults self.new.faults result }
-        ensures told { HasCleanDisk (state S.Store self.new.conn) → HasCleanDisk (state S.Store self.old.conn) }
+        ensures told { HasCleanDisk (state S.Store self.new.conn)
+            → HasCleanDisk (state S.Store self.old.conn) }
         ensures done { (rows : Rows) → IsKeeping (state S.Store self.old.conn) rows
             → OnOk result (IsKeeping (state S.Store self.new.conn) (with_ops ops.now rows)) }
         ensures undone { (rows : Rows) → IsKeeping (state S.Store self.old.conn) rows
@@ -114,12 +122,16 @@ impl<S: Alter> Keeper for ToldKeeper<S> {
 
         // Once it is acknowledged, a crash leaves just the rows with all operations; where it is refused, it leaves these or what it could
         // leave before. Where a fault has shut the connection before, nothing is added to what a crash could leave.
-        ensures left { HasCleanDisk (state S.Store self.new.conn) → (rows : Rows) → IsKeeping (state S.Store self.old.conn) rows
-            → OnOk result (LeavesJust (state S.Store self.new.conn) (with_ops ops.now rows)) }
-        ensures crash { HasCleanDisk (state S.Store self.new.conn) → IsTrue (state S.Store self.old.conn).is_open → (rows : Rows)
+        ensures left { HasCleanDisk (state S.Store self.new.conn) → (rows : Rows)
             → IsKeeping (state S.Store self.old.conn) rows
-            → LeavesOr (state S.Store self.old.conn) (state S.Store self.new.conn) (with_ops ops.now rows) }
-        ensures shut { HasCleanDisk (state S.Store self.new.conn) → (state S.Store self.old.conn).is_open ≡ false → 0 < length ops.now
+            → OnOk result (LeavesJust (state S.Store self.new.conn) (with_ops ops.now rows)) }
+        ensures crash { HasCleanDisk (state S.Store self.new.conn)
+            → IsTrue (state S.Store self.old.conn).is_open → (rows : Rows)
+            → IsKeeping (state S.Store self.old.conn) rows
+            → LeavesOr (state S.Store self.old.conn) (state S.Store self.new.conn)
+            (with_ops ops.now rows) }
+        ensures shut { HasCleanDisk (state S.Store self.new.conn)
+            → (state S.Store self.old.conn).is_open ≡ false → 0 < length ops.now
             → LeavesAsBefore (state S.Store self.old.conn) (state S.Store self.new.conn) }
     {
         let done = commit_all(&mut self.conn, ops);
@@ -128,15 +140,20 @@ impl<S: Alter> Keeper for ToldKeeper<S> {
 
     fn rows(&mut self) -> Result<Vec<Row>, KeepFault>
         ensures cause { HasKeepCause self.old.faults self.new.faults result }
-        ensures told { HasCleanDisk (state S.Store self.new.conn) → HasCleanDisk (state S.Store self.old.conn) }
-        ensures rows { HasCleanDisk (state S.Store self.new.conn) → (rows : Rows) → IsKeeping (state S.Store self.old.conn) rows
+        ensures told { HasCleanDisk (state S.Store self.new.conn)
+            → HasCleanDisk (state S.Store self.old.conn) }
+        ensures rows { HasCleanDisk (state S.Store self.new.conn) → (rows : Rows)
+            → IsKeeping (state S.Store self.old.conn) rows
             → IfOk result (λ list. IsListing rows list.items) }
-        ensures same { (rows : Rows) → IsKeeping (state S.Store self.old.conn) rows → IsKeeping (state S.Store self.new.conn) rows }
+        ensures same { (rows : Rows) → IsKeeping (state S.Store self.old.conn) rows
+            → IsKeeping (state S.Store self.new.conn) rows }
         ensures counted { IsCounted self.old.faults self.new.faults result }
 
         // Of a table that was there already, whatever its rows were: it keeps just the rows that it tells.
-        ensures there { HasCleanDisk (state S.Store self.new.conn) → (state S.Store self.old.conn).now.schema ≡ kept_schema
-            → Rises (state S.Store self.old.conn) → IfOk result (λ list. KeepsListed (state S.Store self.new.conn) list.items) }
+        ensures there { HasCleanDisk (state S.Store self.new.conn)
+            → (state S.Store self.old.conn).now.schema ≡ kept_schema
+            → Rises (state S.Store self.old.conn)
+            → IfOk result (λ list. KeepsListed (state S.Store self.new.conn) list.items) }
 
         // A crash leaves what it could leave before, or, where there was no table yet, the table without a row.
         ensures crash { HasCleanDisk (state S.Store self.new.conn)

@@ -16,13 +16,16 @@ use tracker_keeper::RowOp;
 // Makes the table where it is lacking.
 fn make_first<S: Alter>(tx: &mut Transaction<'_, S>, lacks: bool) -> Result<(), Error>
     requires ours { IsOurs (state S.Store tx.old.conn.now).now.schema lacks }
-    requires open { HasCleanDisk (state S.Store tx.old.conn.now) → IsTrue tx.old.conn.now.in_transaction }
+    requires open { HasCleanDisk (state S.Store tx.old.conn.now)
+        → IsTrue tx.old.conn.now.in_transaction }
     ensures same_reference { tx.new.conn.ghost_name ≡ tx.old.conn.ghost_name }
-    ensures made { HasCleanDisk (state S.Store tx.new.conn.now) → (rows : Rows) → Stores (state S.Store tx.old.conn.now).now rows
+    ensures made { HasCleanDisk (state S.Store tx.new.conn.now) → (rows : Rows)
+        → Stores (state S.Store tx.old.conn.now).now rows
         → OnOk result (IsTable (state S.Store tx.new.conn.now).now rows) }
     ensures inside { HasCleanDisk (state S.Store tx.new.conn.now)
         → StaysInside (state S.Store tx.old.conn.now) (state S.Store tx.new.conn.now) result }
-    ensures survives { Survives (state S.Store tx.old.conn.now) (state S.Store tx.new.conn.now) (λ _. ⊥) }
+    ensures survives { Survives (state S.Store tx.old.conn.now) (state S.Store tx.new.conn.now)
+        (λ _. ⊥) }
 {
     if lacks {
         make(tx)?;
@@ -35,15 +38,18 @@ fn make_first<S: Alter>(tx: &mut Transaction<'_, S>, lacks: bool) -> Result<(), 
 fn carry_all<S: Alter>(tx: &mut Transaction<'_, S>, lacks: bool, ops: &[RowOp]) -> Result<(), Error>
     requires ours { IsOurs (state S.Store tx.old.conn.now).now.schema lacks }
     requires numbers { All (λ op. number_of op < 2 ^ 63) ops.now }
-    requires open { HasCleanDisk (state S.Store tx.old.conn.now) → IsTrue tx.old.conn.now.in_transaction }
+    requires open { HasCleanDisk (state S.Store tx.old.conn.now)
+        → IsTrue tx.old.conn.now.in_transaction }
     ensures same_reference { tx.new.conn.ghost_name ≡ tx.old.conn.ghost_name }
-    ensures done { HasCleanDisk (state S.Store tx.new.conn.now) → (rows : Rows) → Stores (state S.Store tx.old.conn.now).now rows
+    ensures done { HasCleanDisk (state S.Store tx.new.conn.now) → (rows : Rows)
+        → Stores (state S.Store tx.old.conn.now).now rows
         → OnOk result (IsTable (state S.Store tx.new.conn.now).now (with_ops ops.now rows)) }
     ensures inside { HasCleanDisk (state S.Store tx.new.conn.now)
         → StaysInside (state S.Store tx.old.conn.now) (state S.Store tx.new.conn.now) result }
     ensures ran { HasCleanDisk (state S.Store tx.new.conn.now) → 0 < length ops.now
         → OnOk result (IsTrue (state S.Store tx.old.conn.now).is_open) }
-    ensures survives { Survives (state S.Store tx.old.conn.now) (state S.Store tx.new.conn.now) (λ _. ⊥) }
+    ensures survives { Survives (state S.Store tx.old.conn.now) (state S.Store tx.new.conn.now)
+        (λ _. ⊥) }
 {
     make_first(tx, lacks)?;
     'ops: for op in ops {
@@ -58,17 +64,24 @@ fn carry_out<S: Alter>(conn: &mut Connection<S>, lacks: bool, ops: &[RowOp]) -> 
     requires numbers { All (λ op. number_of op < 2 ^ 63) ops.now }
     requires idle { conn.old.in_transaction ≡ false }
     ensures idle { conn.new.in_transaction ≡ false }
-    ensures done { HasCleanDisk (state S.Store conn.new) → (rows : Rows) → Stores (state S.Store conn.old).now rows
+    ensures done { HasCleanDisk (state S.Store conn.new) → (rows : Rows)
+        → Stores (state S.Store conn.old).now rows
         → OnOk result (IsTable (state S.Store conn.new).now (with_ops ops.now rows)) }
-    ensures settled { HasCleanDisk (state S.Store conn.new) → OnOk result ((state S.Store conn.new).committed ≡ (state S.Store conn.new).now) }
-    ensures open { HasCleanDisk (state S.Store conn.new) → OnOk result (IsTrue (state S.Store conn.old).is_open) }
-    ensures undone { HasCleanDisk (state S.Store conn.new) → OnErr result (IsUndone (state S.Store conn.old) (state S.Store conn.new)) }
-    ensures left { HasCleanDisk (state S.Store conn.new) → (rows : Rows) → Stores (state S.Store conn.old).now rows
+    ensures settled { HasCleanDisk (state S.Store conn.new)
+        → OnOk result ((state S.Store conn.new).committed ≡ (state S.Store conn.new).now) }
+    ensures open { HasCleanDisk (state S.Store conn.new)
+        → OnOk result (IsTrue (state S.Store conn.old).is_open) }
+    ensures undone { HasCleanDisk (state S.Store conn.new)
+        → OnErr result (IsUndone (state S.Store conn.old) (state S.Store conn.new)) }
+    ensures left { HasCleanDisk (state S.Store conn.new) → (rows : Rows)
+        → Stores (state S.Store conn.old).now rows
         → OnOk result (LeavesJust (state S.Store conn.new) (with_ops ops.now rows)) }
-    ensures shut { HasCleanDisk (state S.Store conn.new) → (state S.Store conn.old).is_open ≡ false → 0 < length ops.now
+    ensures shut { HasCleanDisk (state S.Store conn.new) → (state S.Store conn.old).is_open ≡ false
+        → 0 < length ops.now
         → LeavesAsBefore (state S.Store conn.old) (state S.Store conn.new) }
     ensures crash { Survives (state S.Store conn.old) (state S.Store conn.new)
-        (λ trees. (rows : Rows) → Stores (state S.Store conn.old).now rows → HasRows (trees 0) (with_ops ops.now rows)) }
+        (λ trees. (rows : Rows) → Stores (state S.Store conn.old).now rows
+        → HasRows (trees 0) (with_ops ops.now rows)) }
 {
     let mut tx = conn.transaction();
     carry_all(&mut tx, lacks, ops)?;
@@ -86,13 +99,19 @@ pub(crate) fn commit<S: Alter>(
     requires idle { conn.old.in_transaction ≡ false }
     ensures idle { conn.new.in_transaction ≡ false }
     ensures clean { HasCleanDisk (state S.Store conn.new) → HasCleanDisk (state S.Store conn.old) }
-    ensures done { (rows : Rows) → IsKeeping (state S.Store conn.old) rows → OnOk result (IsKeeping (state S.Store conn.new) (with_ops ops.now rows)) }
-    ensures undone { (rows : Rows) → IsKeeping (state S.Store conn.old) rows → OnErr result (IsKeeping (state S.Store conn.new) rows) }
-    ensures left { HasCleanDisk (state S.Store conn.new) → (rows : Rows) → IsKeeping (state S.Store conn.old) rows
+    ensures done { (rows : Rows) → IsKeeping (state S.Store conn.old) rows
+        → OnOk result (IsKeeping (state S.Store conn.new) (with_ops ops.now rows)) }
+    ensures undone { (rows : Rows) → IsKeeping (state S.Store conn.old) rows
+        → OnErr result (IsKeeping (state S.Store conn.new) rows) }
+    ensures left { HasCleanDisk (state S.Store conn.new) → (rows : Rows)
+        → IsKeeping (state S.Store conn.old) rows
         → OnOk result (LeavesJust (state S.Store conn.new) (with_ops ops.now rows)) }
-    ensures crash { HasCleanDisk (state S.Store conn.new) → IsTrue (state S.Store conn.old).is_open → (rows : Rows)
-        → IsKeeping (state S.Store conn.old) rows → LeavesOr (state S.Store conn.old) (state S.Store conn.new) (with_ops ops.now rows) }
-    ensures shut { HasCleanDisk (state S.Store conn.new) → (state S.Store conn.old).is_open ≡ false → 0 < length ops.now
+    ensures crash { HasCleanDisk (state S.Store conn.new) → IsTrue (state S.Store conn.old).is_open
+        → (rows : Rows)
+        → IsKeeping (state S.Store conn.old) rows
+        → LeavesOr (state S.Store conn.old) (state S.Store conn.new) (with_ops ops.now rows) }
+    ensures shut { HasCleanDisk (state S.Store conn.new) → (state S.Store conn.old).is_open ≡ false
+        → 0 < length ops.now
         → LeavesAsBefore (state S.Store conn.old) (state S.Store conn.new) }
 {
     carry_out(conn, lacks, ops)
@@ -104,10 +123,13 @@ pub(crate) fn make_alone<S: Alter>(conn: &mut Connection<S>, lacks: bool) -> Res
     requires idle { conn.old.in_transaction ≡ false }
     ensures idle { conn.new.in_transaction ≡ false }
     ensures clean { HasCleanDisk (state S.Store conn.new) → HasCleanDisk (state S.Store conn.old) }
-    ensures made { HasCleanDisk (state S.Store conn.new) → OnOk result ((state S.Store conn.new).now.schema ≡ kept_schema) }
+    ensures made { HasCleanDisk (state S.Store conn.new)
+        → OnOk result ((state S.Store conn.new).now.schema ≡ kept_schema) }
     ensures there { lacks ≡ false → conn.new ≡ conn.old }
-    ensures same { (rows : Rows) → IsKeeping (state S.Store conn.old) rows → IsKeeping (state S.Store conn.new) rows }
-    ensures crash { HasCleanDisk (state S.Store conn.new) → LeavesOrMakes (state S.Store conn.old) (state S.Store conn.new) }
+    ensures same { (rows : Rows) → IsKeeping (state S.Store conn.old) rows
+        → IsKeeping (state S.Store conn.new) rows }
+    ensures crash { HasCleanDisk (state S.Store conn.new)
+        → LeavesOrMakes (state S.Store conn.old) (state S.Store conn.new) }
 {
     if lacks {
         return carry_out(conn, true, &[]);

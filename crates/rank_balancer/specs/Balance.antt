@@ -11,7 +11,8 @@ next_bucket bucket = if bucket == 2 then 0 else bucket + 1
 -- every rank is in the bucket of an idle balance, and in one of the two of a moving one, which are neighbours in the circle
 abbrev pub Agrees : List Pair → Balance → Type 0
 Agrees ps (Idle bucket) = (bucket < 3) × All (λ p. p.0.bucket ≡ bucket) ps
-Agrees ps (Moving from to) = (from < 3) × (to ≡ next_bucket from) × All (λ p. (p.0.bucket ≡ from) ⊎ (p.0.bucket ≡ to)) ps
+Agrees ps (Moving from to) =
+    (from < 3) × (to ≡ next_bucket from) × All (λ p. (p.0.bucket ≡ from) ⊎ (p.0.bucket ≡ to)) ps
 
 -- a start is for an idle balance alone
 abbrev pub after_start : Balance → Option Balance

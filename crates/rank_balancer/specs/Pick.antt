@@ -22,7 +22,8 @@ or_else (Some p) other = Some p
 -- the last pair of a bucket
 abbrev pub last_in : ℕ → List Pair → Option Pair
 last_in bucket [] = None
-last_in bucket (p ∷ ps) = or_else (last_in bucket ps) (if p.0.bucket == bucket then Some p else None)
+last_in bucket (p ∷ ps) =
+    or_else (last_in bucket ps) (if p.0.bucket == bucket then Some p else None)
 
 -- from bucket 2 the first is picked, and else the last
 abbrev pub picked_from : ℕ → List Pair → Option Pair
@@ -35,7 +36,13 @@ pick_of ps (Moving from to) = option_map (λ p. p.1) (picked_from from ps)
 
 -- the first ranks of buckets 1 and 2 are `r00000`, and that of bucket 0 is `900000`
 abbrev pub first_rank : ℕ → RankParts
-first_rank to = record { bucket = to; front = (if to == 0 then 9 else 27) ∷ 0 ∷ 0 ∷ 0 ∷ 0 ∷ 0 ∷ []; further = [] }
+first_rank to =
+    record {
+      bucket = to;
+      front = (if to == 0 then 9 else 27) ∷ 0 ∷ 0 ∷ 0 ∷ 0 ∷ 0
+          ∷ [];
+      further = [];
+    }
 
 -- the rank that a picked issue has for its neighbour in the new bucket: on the way up the first one there, and from bucket 2 to 0 the last one
 abbrev pub neighbour_in : ℕ → List Pair → Option RankParts
@@ -44,12 +51,14 @@ neighbour_in to ps = option_map (λ p. p.0) (if to == 0 then last_in to ps else 
 -- the picked issue gets the rank that is chosen before all ranks of the new bucket, and from bucket 2 to 0 that behind them all
 abbrev pub IsNextRank : ℕ → Option RankParts → RankParts → Type 0
 IsNextRank to None rank = rank ≡ first_rank to
-IsNextRank to (Some r) rank = IsChosen (if to == 0 then Some r else None) (if to == 0 then None else Some r) to rank
+IsNextRank to (Some r) rank =
+    IsChosen (if to == 0 then Some r else None) (if to == 0 then None else Some r) to rank
 
 -- no rank is left for it
 abbrev pub HasNoNextRank : ℕ → Option RankParts → Type 0
 HasNoNextRank to None = ⊥
-HasNoNextRank to (Some r) = HasNoRoom (if to == 0 then Some r else None) (if to == 0 then None else Some r) to
+HasNoNextRank to (Some r) =
+    HasNoRoom (if to == 0 then Some r else None) (if to == 0 then None else Some r) to
 
 abbrev pub low_of : ℕ → Option RankParts → Option RankParts
 low_of to neighbour = if to == 0 then neighbour else None
@@ -59,5 +68,6 @@ high_of to neighbour = if to == 0 then None else neighbour
 
 -- a rank is refused where none is left, with the neighbour
 abbrev pub ExplainsNoNext : ℕ → Option RankParts → RankFault → Type 0
-ExplainsNoNext to neighbour (Exhausted low high) = HasNoNextRank to neighbour × (low ≡ low_of to neighbour) × (high ≡ high_of to neighbour)
+ExplainsNoNext to neighbour (Exhausted low high) =
+    HasNoNextRank to neighbour × (low ≡ low_of to neighbour) × (high ≡ high_of to neighbour)
 ExplainsNoNext to neighbour Memory = Unit {0}

@@ -23,7 +23,8 @@ behind_move m (Err sides) = Err sides
 
 -- a step ends where no issue is picked, and is refused where the picked one has no rank; else the move is followed by those that
 -- come after it
-abbrev pub from_pick : Sides → Option IssueNo → Option RankParts → (Move → Result (List Move) Sides) → Result (List Move) Sides
+abbrev pub from_pick : Sides → Option IssueNo → Option RankParts → (Move → Result (List Move) Sides)
+    → Result (List Move) Sides
 from_pick sides None rank others = Ok []
 from_pick sides (Some issue) None others = Err sides
 from_pick sides (Some issue) (Some rank) others = behind_move (issue, rank) (others (issue, rank))
@@ -32,5 +33,6 @@ from_pick sides (Some issue) (Some rank) others = behind_move (issue, rank) (oth
 unfoldable pub planned : List Pair → ℕ → ℕ → ℕ → Result (List Move) Sides
 planned ps from to zero = Ok []
 planned ps from to (suc count) =
-    from_pick (next_sides to (neighbour_in to ps)) (pick_of ps (Moving from to)) (next_rank to (neighbour_in to ps))
+    from_pick (next_sides to (neighbour_in to ps)) (pick_of ps (Moving from to))
+    (next_rank to (neighbour_in to ps))
     (λ (m : Move). planned (after_move ps m) from to count)

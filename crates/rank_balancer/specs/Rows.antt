@@ -17,15 +17,20 @@ rank bucket front = record { bucket = bucket; front = front; further = [] }
 abbrev three : ℕ → List Pair
 three bucket =
     (rank bucket (18 ∷ 0 ∷ 0 ∷ 0 ∷ 0 ∷ 0 ∷ []), issue 1)
-    ∷ (rank bucket (18 ∷ 0 ∷ 0 ∷ 6 ∷ 11 ∷ 20 ∷ []), issue 2) ∷ (rank bucket (18 ∷ 0 ∷ 0 ∷ 12 ∷ 23 ∷ 4 ∷ []), issue 3) ∷ []
+    ∷ (rank bucket (18 ∷ 0 ∷ 0 ∷ 6 ∷ 11 ∷ 20 ∷ []), issue 2)
+    ∷ (rank bucket (18 ∷ 0 ∷ 0 ∷ 12 ∷ 23 ∷ 4 ∷ []), issue 3) ∷ []
 
 -- a step of two from bucket 0: the last one gets `r00000`, and the one before it `qzztog`
-pub two_up : planned (three 0) 0 1 2 ≡ Ok ((issue 3, rank 1 (27 ∷ 0 ∷ 0 ∷ 0 ∷ 0 ∷ 0 ∷ [])) ∷ (issue 2, rank 1 (26 ∷ 35 ∷ 35 ∷ 29 ∷ 24 ∷ 16 ∷ [])) ∷ [])
+pub two_up : planned (three 0) 0 1 2
+    ≡ Ok ((issue 3, rank 1 (27 ∷ 0 ∷ 0 ∷ 0 ∷ 0 ∷ 0 ∷ []))
+    ∷ (issue 2, rank 1 (26 ∷ 35 ∷ 35 ∷ 29 ∷ 24 ∷ 16 ∷ [])) ∷ [])
 unfolding planned chosen_between
 two_up = refl
 
 -- and from bucket 2: the first one gets `900000`, and the next one `9006bk`
-pub two_down : planned (three 2) 2 0 2 ≡ Ok ((issue 1, rank 0 (9 ∷ 0 ∷ 0 ∷ 0 ∷ 0 ∷ 0 ∷ [])) ∷ (issue 2, rank 0 (9 ∷ 0 ∷ 0 ∷ 6 ∷ 11 ∷ 20 ∷ [])) ∷ [])
+pub two_down : planned (three 2) 2 0 2
+    ≡ Ok ((issue 1, rank 0 (9 ∷ 0 ∷ 0 ∷ 0 ∷ 0 ∷ 0 ∷ []))
+    ∷ (issue 2, rank 0 (9 ∷ 0 ∷ 0 ∷ 6 ∷ 11 ∷ 20 ∷ [])) ∷ [])
 unfolding planned chosen_between
 two_down = refl
 
@@ -38,7 +43,8 @@ none_there = refl
 abbrev least : RankParts
 least = record { bucket = 1; front = replicate 6 0; further = replicate 244 0 ++ 1 ∷ [] }
 
-pub no_room : planned ((rank 0 (18 ∷ 0 ∷ 0 ∷ 0 ∷ 0 ∷ 0 ∷ []), issue 1) ∷ (least, issue 2) ∷ []) 0 1 16 ≡ Err (None, Some least)
+pub no_room : planned ((rank 0 (18 ∷ 0 ∷ 0 ∷ 0 ∷ 0 ∷ 0 ∷ []), issue 1) ∷ (least, issue 2) ∷ []) 0 1
+    16 ≡ Err (None, Some least)
 unfolding planned chosen_between further_between
 no_room = refl
 

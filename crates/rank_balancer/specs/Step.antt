@@ -24,7 +24,8 @@ after_moves ps (m ∷ ms) = after_moves (after_move ps m) ms
 abbrev pub ArePicks : List Pair → ℕ → ℕ → List Move → Type 0
 ArePicks ps from to [] = Unit {0}
 ArePicks ps from to (m ∷ ms) =
-    (pick_of ps (Moving from to) ≡ Some m.0) × IsNextRank to (neighbour_in to ps) m.1 × ArePicks (after_move ps m) from to ms
+    (pick_of ps (Moving from to) ≡ Some m.0) × IsNextRank to (neighbour_in to ps) m.1
+    × ArePicks (after_move ps m) from to ms
 
 -- how many ranks are left in a bucket
 abbrev pub left_in : ℕ → List Pair → ℕ

@@ -28,7 +28,8 @@ impl Balance {
     /// Goes from idle to moving. `BalanceIs` comes exactly where it is moving, with the balance as it is and stays.
     pub fn start(&mut self) -> Result<(), BalanceIs>
         requires { IsInCircle self.old }
-        ensures { MatchResult result (λ _. after_start self.old ≡ Some self.new) (λ kept. (after_start self.old ≡ None) × (kept.0 ≡ self.old) × (self.new ≡ self.old)) }
+        ensures { MatchResult result (λ _. after_start self.old ≡ Some self.new)
+            (λ kept. (after_start self.old ≡ None) × (kept.0 ≡ self.old) × (self.new ≡ self.old)) }
     {
         match *self {
             Balance::Idle(from) => {

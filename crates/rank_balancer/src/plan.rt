@@ -60,7 +60,8 @@ fn plan_up(
     requires order { IsOrder pairs.now }
     requires parted { IsParted pairs.now from (from + 1) border }
     requires count { count ≤ border }
-    ensures picks { IfOk result (λ moves. ArePicks pairs.now from (from + 1) moves.items × (length moves.items ≡ count)) }
+    ensures picks { IfOk result (λ moves. ArePicks pairs.now from (from + 1) moves.items
+        × (length moves.items ≡ count)) }
     ensures fault { IfErr result (ExplainsRefusal pairs.now from (from + 1) count) }
 {
     let mut moves = Vec::with_capacity(alloc, count)?;
@@ -84,7 +85,8 @@ fn plan_down(
     requires order { IsOrder pairs.now }
     requires parted { IsParted pairs.now 0 2 border }
     requires count { count + border ≤ length pairs.now }
-    ensures picks { IfOk result (λ moves. ArePicks pairs.now 2 0 moves.items × (length moves.items ≡ count)) }
+    ensures picks { IfOk result (λ moves. ArePicks pairs.now 2 0 moves.items
+        × (length moves.items ≡ count)) }
     ensures fault { IfErr result (ExplainsRefusal pairs.now 2 0 count) }
 {
     let mut moves = Vec::with_capacity(alloc, count)?;
@@ -107,7 +109,8 @@ pub(crate) fn plan_moves(
 ) -> Result<Vec<(IssueNo, Rank)>, RankFault>
     requires order { IsOrder pairs.now }
     requires agrees { Agrees pairs.now (Moving from (next_bucket from)) }
-    ensures step { IfOk result (λ moves. IsStep pairs.now from (next_bucket from) most moves.items) }
+    ensures step { IfOk result (λ moves. IsStep pairs.now from
+        (next_bucket from) most moves.items) }
     ensures fault { IfErr result (ExplainsRefusal pairs.now from (next_bucket from) most) }
 {
     if from == 2 {

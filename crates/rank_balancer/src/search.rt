@@ -21,7 +21,8 @@ pub(crate) fn count_up_to(pairs: &[(Rank, IssueNo)], bucket: u8) -> usize
 /// The place of the last rank in the bucket.
 fn last_place(pairs: &[(Rank, IssueNo)], bucket: u8) -> Option<usize>
     requires { IsOrder pairs.now }
-    ensures { MatchOption result (last_in bucket pairs.now ≡ None) (λ place. StandsAt pairs.now place (last_in bucket pairs.now)) }
+    ensures { MatchOption result (last_in bucket pairs.now ≡ None)
+        (λ place. StandsAt pairs.now place (last_in bucket pairs.now)) }
 {
     let above = count_up_to(pairs, bucket);
     if above == 0 {
@@ -38,7 +39,8 @@ fn last_place(pairs: &[(Rank, IssueNo)], bucket: u8) -> Option<usize>
 /// The place of the first rank in bucket 2.
 fn first_place(pairs: &[(Rank, IssueNo)]) -> Option<usize>
     requires { IsOrder pairs.now }
-    ensures { MatchOption result (first_in 2 pairs.now ≡ None) (λ place. StandsAt pairs.now place (first_in 2 pairs.now)) }
+    ensures { MatchOption result (first_in 2 pairs.now ≡ None)
+        (λ place. StandsAt pairs.now place (first_in 2 pairs.now)) }
 {
     let place = count_up_to(pairs, 1);
     if place < pairs.len() {

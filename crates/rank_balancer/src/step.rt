@@ -52,10 +52,14 @@ pub fn plan_step(
     requires moving { IsMoving balance.now }
     requires agrees { Agrees order.now.pairs balance.now }
     requires count { (1 ≤ at_most) × (at_most ≤ 1000) }
-    ensures step { IfOk result (IsStep order.now.pairs (from_of balance.now) (to_of balance.now) at_most) }
-    ensures fault { IfErr result (ExplainsRefusal order.now.pairs (from_of balance.now) (to_of balance.now) at_most) }
-    ensures computed { IfOk result (λ moves. planned order.now.pairs (from_of balance.now) (to_of balance.now) at_most ≡ Ok moves) }
-    ensures refused { IfErr result (IsRefusalOf (planned order.now.pairs (from_of balance.now) (to_of balance.now) at_most)) }
+    ensures step { IfOk result (IsStep order.now.pairs (from_of balance.now)
+        (to_of balance.now) at_most) }
+    ensures fault { IfErr result (ExplainsRefusal order.now.pairs (from_of balance.now)
+        (to_of balance.now) at_most) }
+    ensures computed { IfOk result (λ moves. planned order.now.pairs (from_of balance.now)
+        (to_of balance.now) at_most ≡ Ok moves) }
+    ensures refused { IfErr result (IsRefusalOf
+        (planned order.now.pairs (from_of balance.now) (to_of balance.now) at_most)) }
 {
     match *balance {
         Balance::Moving { from, .. } => {
@@ -76,7 +80,8 @@ pub fn apply(plan: StepPlan, order: &mut Order, balance: &mut Balance)
     requires agrees { Agrees order.old.pairs balance.old }
     requires planned { ArePicks order.old.pairs (from_of balance.old) (to_of balance.old) plan }
     ensures order { order.new ≡ record order.old { pairs = after_moves order.old.pairs plan } }
-    ensures balance { balance.new ≡ balance_after order.new.pairs (from_of balance.old) (to_of balance.old) }
+    ensures balance { balance.new
+        ≡ balance_after order.new.pairs (from_of balance.old) (to_of balance.old) }
 {
     // The proof needs that it is an order.
     let _ = order.list();

@@ -12,7 +12,8 @@ pub record LiesBetween (low high : Option RankParts) (bucket : ℕ) (r : RankPar
 -- no rank between the neighbours has fewer further digits than this one
 pub record IsShortest (low high : Option RankParts) (bucket : ℕ) (r : RankParts) : Type 0 where
   pub between : LiesBetween low high bucket r
-  pub shortest : (s : RankParts) → LiesBetween low high bucket s → length r.further ≤ length s.further
+  pub shortest : (s : RankParts) → LiesBetween low high bucket s
+      → length r.further ≤ length s.further
 
 -- no rank of the bucket lies between
 abbrev pub HasNoRoom : Option RankParts → Option RankParts → ℕ → Type 0

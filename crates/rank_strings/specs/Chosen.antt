@@ -39,7 +39,8 @@ halfway low high = (least_above low + greatest_below high) / 2
 abbrev pub spaced_number : Option RankParts → Option RankParts → ℕ
 spaced_number None None = 1088391168
 spaced_number (Some low) None =
-    if nat_le (number low.front + 8192) greatest_number then number low.front + 8192 else halfway (Some low) None
+    if nat_le (number low.front + 8192) greatest_number then number low.front + 8192
+    else halfway (Some low) None
 spaced_number None (Some high) =
     if nat_le 8193 (number high.front) then number high.front - 8192 else halfway None (Some high)
 spaced_number (Some low) (Some high) = halfway (Some low) (Some high)
@@ -72,5 +73,6 @@ pub record IsFinest (low high : Option RankParts) (bucket : ℕ) (r : RankParts)
 -- the chosen rank has six digits alone wherever those lie between, and is the finest one elsewhere
 pub record IsChosen (low high : Option RankParts) (bucket : ℕ) (r : RankParts) : Type 0 where
   pub between : LiesBetween low high bucket r
-  pub spaced : least_above low ≤ greatest_below high → (r.further ≡ []) × (number r.front ≡ spaced_number low high)
+  pub spaced : least_above low ≤ greatest_below high
+      → (r.further ≡ []) × (number r.front ≡ spaced_number low high)
   pub finest : greatest_below high < least_above low → IsFinest low high bucket r

@@ -21,7 +21,8 @@ EqualRanksAreTheSame = (a b : RankParts) → IsRank a → IsRank b → rank_cmp 
 -- ranks are ordered as their texts, byte by byte
 abbrev pub RanksCompareAsTheirTexts : Type 0
 RanksCompareAsTheirTexts =
-    (a b : RankParts) → IsRank a → IsRank b → slice_cmp nat_cmp (rank_text a) (rank_text b) ≡ rank_cmp a b
+    (a b : RankParts) → IsRank a → IsRank b
+    → slice_cmp nat_cmp (rank_text a) (rank_text b) ≡ rank_cmp a b
 
 -- bytes are the text of one rank at most
 abbrev pub TextsAreOfOneRank : Type 0
@@ -30,14 +31,17 @@ TextsAreOfOneRank = (bytes : List ℕ) (a b : RankParts) → IsTextOf bytes a �
 -- where no six digits alone lie between, each rank between begins with the six digits that are named
 abbrev pub FrontIsNamed : Type 0
 FrontIsNamed =
-    (low high : Option RankParts) (bucket : ℕ) → RanksGiven low high bucket → greatest_below high < least_above low →
+    (low high : Option RankParts) (bucket : ℕ) → RanksGiven low high bucket
+    → greatest_below high < least_above low →
     (r : RankParts) → LiesBetween low high bucket r → r.front ≡ front_of low
 
 -- there the shortest ranks between differ in their last digit alone
 abbrev pub ShortestDifferInTheLastDigit : Type 0
 ShortestDifferInTheLastDigit =
-    (low high : Option RankParts) (bucket : ℕ) → RanksGiven low high bucket → greatest_below high < least_above low →
-    (a b : RankParts) → IsShortest low high bucket a → IsShortest low high bucket b → last_digit a ≡ last_digit b → a ≡ b
+    (low high : Option RankParts) (bucket : ℕ) → RanksGiven low high bucket
+    → greatest_below high < least_above low →
+    (a b : RankParts) → IsShortest low high bucket a → IsShortest low high bucket b
+    → last_digit a ≡ last_digit b → a ≡ b
 
 -- one rank at most is chosen between two neighbours
 abbrev pub OneRankIsChosen : Type 0
@@ -49,7 +53,8 @@ OneRankIsChosen =
 abbrev pub ChosenIsComputed : Type 0
 ChosenIsComputed =
     (low high : Option RankParts) (bucket : ℕ) → RanksGiven low high bucket →
-    MatchOption (chosen_between low high bucket) (HasNoRoom low high bucket) (IsChosen low high bucket)
+    MatchOption (chosen_between low high bucket) (HasNoRoom low high bucket)
+    (IsChosen low high bucket)
 
 -- it is the only rank that is chosen
 abbrev pub NoOtherIsChosen : Type 0
@@ -60,17 +65,20 @@ NoOtherIsChosen =
 -- where no rank lies between, nothing is computed
 abbrev pub NoneWithoutRoom : Type 0
 NoneWithoutRoom =
-    (low high : Option RankParts) (bucket : ℕ) → RanksGiven low high bucket → HasNoRoom low high bucket →
+    (low high : Option RankParts) (bucket : ℕ) → RanksGiven low high bucket
+    → HasNoRoom low high bucket →
     chosen_between low high bucket ≡ None
 
 -- behind a lone neighbour with room for the step, the chosen rank is 8,192 above it and has nine bytes
 abbrev pub StepsUp : Type 0
 StepsUp =
-    (low : RankParts) (bucket : ℕ) (r : RankParts) → number low.front + 8192 ≤ greatest_number → IsChosen (Some low) None bucket r →
+    (low : RankParts) (bucket : ℕ) (r : RankParts) → number low.front + 8192 ≤ greatest_number
+    → IsChosen (Some low) None bucket r →
     (number r.front ≡ number low.front + 8192) × (r.further ≡ []) × (length (rank_text r) ≡ 9)
 
 -- before a lone neighbour with room for the step, it is 8,192 below it and has nine bytes
 abbrev pub StepsDown : Type 0
 StepsDown =
-    (high : RankParts) (bucket : ℕ) (r : RankParts) → 8192 < number high.front → IsChosen None (Some high) bucket r →
+    (high : RankParts) (bucket : ℕ) (r : RankParts) → 8192 < number high.front
+    → IsChosen None (Some high) bucket r →
     (number r.front + 8192 ≡ number high.front) × (r.further ≡ []) × (length (rank_text r) ≡ 9)

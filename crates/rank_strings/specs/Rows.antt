@@ -25,23 +25,28 @@ pub first_rank : spaced_number None None ≡ number (18 ∷ 0 ∷ 0 ∷ 0 ∷ 0 
 first_rank = refl
 
 -- behind `i00000`: `i006bk`
-pub behind_first : spaced_number (Some (alone 18 0 0 0 0 0)) None ≡ number (18 ∷ 0 ∷ 0 ∷ 6 ∷ 11 ∷ 20 ∷ [])
+pub behind_first : spaced_number (Some (alone 18 0 0 0 0 0)) None
+    ≡ number (18 ∷ 0 ∷ 0 ∷ 6 ∷ 11 ∷ 20 ∷ [])
 behind_first = refl
 
 -- before `i00000`: `hzztog`
-pub before_first : spaced_number None (Some (alone 18 0 0 0 0 0)) ≡ number (17 ∷ 35 ∷ 35 ∷ 29 ∷ 24 ∷ 16 ∷ [])
+pub before_first : spaced_number None (Some (alone 18 0 0 0 0 0))
+    ≡ number (17 ∷ 35 ∷ 35 ∷ 29 ∷ 24 ∷ 16 ∷ [])
 before_first = refl
 
 -- between `i00000` and `i006bk`: `i0035s`
-pub between_two : spaced_number (Some (alone 18 0 0 0 0 0)) (Some (alone 18 0 0 6 11 20)) ≡ number (18 ∷ 0 ∷ 0 ∷ 3 ∷ 5 ∷ 28 ∷ [])
+pub between_two : spaced_number (Some (alone 18 0 0 0 0 0)) (Some (alone 18 0 0 6 11 20))
+    ≡ number (18 ∷ 0 ∷ 0 ∷ 3 ∷ 5 ∷ 28 ∷ [])
 between_two = refl
 
 -- before `000003`: `000001`
-pub before_the_third : spaced_number None (Some (alone 0 0 0 0 0 3)) ≡ number (0 ∷ 0 ∷ 0 ∷ 0 ∷ 0 ∷ 1 ∷ [])
+pub before_the_third : spaced_number None (Some (alone 0 0 0 0 0 3))
+    ≡ number (0 ∷ 0 ∷ 0 ∷ 0 ∷ 0 ∷ 1 ∷ [])
 before_the_third = refl
 
 -- behind `zzzzz0`: `zzzzzi`
-pub behind_near_the_end : spaced_number (Some (alone 35 35 35 35 35 0)) None ≡ number (35 ∷ 35 ∷ 35 ∷ 35 ∷ 35 ∷ 18 ∷ [])
+pub behind_near_the_end : spaced_number (Some (alone 35 35 35 35 35 0)) None
+    ≡ number (35 ∷ 35 ∷ 35 ∷ 35 ∷ 35 ∷ 18 ∷ [])
 behind_near_the_end = refl
 
 -- between `i00000` and `i00001` six digits alone don't serve, nor between `i00000` and `i00000:1`
@@ -63,21 +68,25 @@ pub chosen_behind : chosen_between (Some (alone 18 0 0 0 0 0)) None 0 ≡ Some (
 unfolding chosen_between
 chosen_behind = refl
 
-pub chosen_before : chosen_between None (Some (alone 18 0 0 0 0 0)) 0 ≡ Some (alone 17 35 35 29 24 16)
+pub chosen_before : chosen_between None (Some (alone 18 0 0 0 0 0)) 0
+    ≡ Some (alone 17 35 35 29 24 16)
 unfolding chosen_between
 chosen_before = refl
 
-pub chosen_halfway : chosen_between (Some (alone 18 0 0 0 0 0)) (Some (alone 18 0 0 6 11 20)) 0 ≡ Some (alone 18 0 0 3 5 28)
+pub chosen_halfway : chosen_between (Some (alone 18 0 0 0 0 0)) (Some (alone 18 0 0 6 11 20)) 0
+    ≡ Some (alone 18 0 0 3 5 28)
 unfolding chosen_between
 chosen_halfway = refl
 
 -- between `i00000` and `i00001`: `i00000:i`
-pub chosen_with_a_digit : chosen_between (Some (alone 18 0 0 0 0 0)) (Some (alone 18 0 0 0 0 1)) 0 ≡ Some (with_further (18 ∷ []))
+pub chosen_with_a_digit : chosen_between (Some (alone 18 0 0 0 0 0)) (Some (alone 18 0 0 0 0 1)) 0
+    ≡ Some (with_further (18 ∷ []))
 unfolding chosen_between further_between
 chosen_with_a_digit = refl
 
 -- between `i00000` and `i00000:1`: `i00000:0i`
-pub chosen_one_deeper : chosen_between (Some (alone 18 0 0 0 0 0)) (Some (with_further (1 ∷ []))) 0 ≡ Some (with_further (0 ∷ 18 ∷ []))
+pub chosen_one_deeper : chosen_between (Some (alone 18 0 0 0 0 0)) (Some (with_further (1 ∷ []))) 0
+    ≡ Some (with_further (0 ∷ 18 ∷ []))
 unfolding chosen_between further_between
 chosen_one_deeper = refl
 
@@ -89,6 +98,7 @@ unfolding chosen_between further_between
 chosen_behind_the_last = refl
 
 -- between `i00000` and the least rank above it none is left
-pub none_is_left : chosen_between (Some (alone 18 0 0 0 0 0)) (Some (with_further (replicate 244 0 ++ 1 ∷ []))) 0 ≡ None
+pub none_is_left : chosen_between (Some (alone 18 0 0 0 0 0))
+    (Some (with_further (replicate 244 0 ++ 1 ∷ []))) 0 ≡ None
 unfolding chosen_between further_between
 none_is_left = refl

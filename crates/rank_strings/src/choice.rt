@@ -64,7 +64,8 @@ fn finest(
 ) -> Result<Rank, Memory>
     requires ranks { RanksGiven (option_copied low) (option_copied high) bucket }
     requires none { greatest_below (option_copied high) < least_above (option_copied low) }
-    requires gap { IsGap (further_of (option_copied low)) (further_of (option_copied high)) gap.depth gap.digit }
+    requires gap { IsGap (further_of (option_copied low))
+        (further_of (option_copied high)) gap.depth gap.digit }
     ensures { IfOk result (IsChosen (option_copied low.entry) (option_copied high.entry) bucket) }
 {
     let further = digits_in_gap(alloc, further_of(low), gap)?;
@@ -93,12 +94,18 @@ pub fn between(
     bucket: u8,
 ) -> Result<Rank, RankFault>
     requires { AreNeighbours (option_copied low) (option_copied high) bucket }
-    ensures chosen { IfOk result (IsChosen (option_copied low.entry) (option_copied high.entry) bucket) }
-    ensures strictly { IfOk result (LiesBetween (option_copied low.entry) (option_copied high.entry) bucket) }
-    ensures six_digits { least_above (option_copied low.entry) ≤ greatest_below (option_copied high.entry) → IsOk result }
-    ensures fault { IfErr result (ExplainsFault (option_copied low.entry) (option_copied high.entry) bucket) }
-    ensures computed { IfOk result (λ r. chosen_between (option_copied low.entry) (option_copied high.entry) bucket ≡ Some r) }
-    ensures none { IfErr result (IsNoneFor (chosen_between (option_copied low.entry) (option_copied high.entry) bucket)) }
+    ensures chosen { IfOk result (IsChosen (option_copied low.entry)
+        (option_copied high.entry) bucket) }
+    ensures strictly { IfOk result (LiesBetween (option_copied low.entry)
+        (option_copied high.entry) bucket) }
+    ensures six_digits { least_above (option_copied low.entry)
+        ≤ greatest_below (option_copied high.entry) → IsOk result }
+    ensures fault { IfErr result (ExplainsFault (option_copied low.entry)
+        (option_copied high.entry) bucket) }
+    ensures computed { IfOk result (λ r. chosen_between (option_copied low.entry)
+        (option_copied high.entry) bucket ≡ Some r) }
+    ensures none { IfErr result (IsNoneFor
+        (chosen_between (option_copied low.entry) (option_copied high.entry) bucket)) }
 {
     if least_above(low) <= greatest_below(high) {
         return Ok(spaced(alloc, low, high, bucket));

@@ -19,7 +19,8 @@ fn digit_char(digit: u8) -> char
 
 /// The digit that a byte is the character of.
 fn digit_value(byte: u8) -> Option<u8>
-    ensures { MatchOption result ((d : ℕ) → d < 36 → digit_code d ≢ byte) (λ d. (d < 36) × (digit_code d ≡ byte)) }
+    ensures { MatchOption result ((d : ℕ) → d < 36 → digit_code d ≢ byte)
+        (λ d. (d < 36) × (digit_code d ≡ byte)) }
 {
     match byte {
         b'0'..=b'9' => Some(byte - b'0'),
@@ -31,7 +32,8 @@ fn digit_value(byte: u8) -> Option<u8>
 /// Writes the digits behind a text.
 pub(crate) fn push_digits(text: &mut String, digits: &[u8]) -> Result<(), AllocError>
     requires { AreDigits digits.now }
-    ensures { OnOk result (string_bytes text.new ≡ string_bytes text.old ++ map digit_code digits.now) }
+    ensures { OnOk result (string_bytes text.new
+        ≡ string_bytes text.old ++ map digit_code digits.now) }
 {
     for digit in digits {
         text.push(digit_char(*digit))?;
@@ -42,7 +44,8 @@ pub(crate) fn push_digits(text: &mut String, digits: &[u8]) -> Result<(), AllocE
 /// Reads one digit for each byte, and says whether each byte is the character of a digit.
 pub(crate) fn read_digits(bytes: &[u8], digits: &mut [u8]) -> bool
     requires { length digits.old ≡ length bytes.now }
-    ensures { MatchBool result (AreDigits digits.new × (map digit_code digits.new ≡ bytes.now)) ((ds : List ℕ) → AreDigits ds → map digit_code ds ≢ bytes.now) }
+    ensures { MatchBool result (AreDigits digits.new × (map digit_code digits.new ≡ bytes.now))
+        ((ds : List ℕ) → AreDigits ds → map digit_code ds ≢ bytes.now) }
 {
     for (i, byte) in bytes.iter().enumerate() {
         let Some(digit) = digit_value(*byte) else {

@@ -49,7 +49,8 @@ fn highest_at(high: &[u8], depth: usize) -> u8
 pub(crate) fn find_gap(low: &[u8], high: &[u8]) -> Option<Gap>
     requires low_digits { AreDigits low.now }
     requires high_digits { AreDigits high.now }
-    ensures { MatchOption result (HasNoGapBefore low.now high.now 245) (λ gap. IsGap low.now high.now gap.depth gap.digit) }
+    ensures { MatchOption result (HasNoGapBefore low.now high.now 245)
+        (λ gap. IsGap low.now high.now gap.depth gap.digit) }
 {
     for depth in 0..MAX_FURTHER {
         let lowest = lowest_at(low, depth);

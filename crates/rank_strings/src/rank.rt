@@ -30,7 +30,8 @@ impl Model for Rank {
 
     ghost view = { λ r. record { bucket = r.bucket; front = r.front; further = r.further.items } };
 
-    ghost invariant = { λ r. IsRank (record { bucket = r.bucket; front = r.front; further = r.further.items }) };
+    ghost invariant = { λ r. IsRank
+        (record { bucket = r.bucket; front = r.front; further = r.further.items }) };
 }
 
 /// Whether the last digit, if there is one, is not 0.
@@ -53,7 +54,8 @@ fn is_all_zero(front: &[u8; 6]) -> bool
 fn is_rank(bucket: u8, front: &[u8; 6], further: &[u8]) -> bool
     requires front_digits { AreDigits front.now }
     requires further_digits { AreDigits further.now }
-    ensures { IsTrue result ↔ IsRank (record { bucket = bucket; front = front.now; further = further.now }) }
+    ensures { IsTrue result
+        ↔ IsRank (record { bucket = bucket; front = front.now; further = further.now }) }
 {
     if bucket > 2 || further.len() > MAX_FURTHER {
         return false;
@@ -69,7 +71,9 @@ impl Rank {
     pub(crate) fn new(bucket: u8, front: [u8; 6], further: Vec<u8>) -> Option<Rank>
         requires front_digits { AreDigits front }
         requires further_digits { AreDigits further.items }
-        ensures { let parts : RankParts = record { bucket = bucket; front = front; further = further.items } in MatchOption result (¬ IsRank parts) (λ r. IsRank r × (r ≡ parts)) }
+        ensures { let parts : RankParts = record
+            { bucket = bucket; front = front; further = further.items } in MatchOption result
+            (¬ IsRank parts) (λ r. IsRank r × (r ≡ parts)) }
     {
         if !is_rank(bucket, &front, &further) {
             return None;

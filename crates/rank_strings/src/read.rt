@@ -10,7 +10,9 @@ use std::alloc::Global;
 
 /// The bytes of the bucket, of the six digits and of the further digits, where the signs between them are there.
 fn split(bytes: &[u8]) -> Option<(u8, &[u8], &[u8])>
-    ensures { MatchOption result ((b : ℕ) → (f x : List ℕ) → length f ≡ 6 → bytes.now ≢ b ∷ 124 ∷ (f ++ 58 ∷ x)) (λ p. (bytes.now ≡ p.0 ∷ 124 ∷ (p.1.now ++ 58 ∷ p.2.now)) × (length p.1.now ≡ 6)) }
+    ensures { MatchOption result ((b : ℕ) → (f x : List ℕ) → length f ≡ 6
+        → bytes.now ≢ b ∷ 124 ∷ (f ++ 58 ∷ x))
+        (λ p. (bytes.now ≡ p.0 ∷ 124 ∷ (p.1.now ++ 58 ∷ p.2.now)) × (length p.1.now ≡ 6)) }
 {
     if bytes.len() < 9 || bytes[1] != b'|' || bytes[8] != b':' {
         return None;
@@ -21,7 +23,8 @@ fn split(bytes: &[u8]) -> Option<(u8, &[u8], &[u8])>
 impl Rank {
     /// The rank that the bytes are the text of, or `None` where they are no rank's text.
     pub fn read(alloc: Global, bytes: &[u8]) -> Result<Option<Rank>, Memory>
-        ensures { IfOk result (λ found. MatchOption found ((r : RankParts) → ¬ IsTextOf bytes.now r) (λ r. IsTextOf bytes.now r)) }
+        ensures { IfOk result (λ found. MatchOption found ((r : RankParts) → ¬ IsTextOf bytes.now r)
+            (λ r. IsTextOf bytes.now r)) }
     {
         let Some((bucket, front_text, further_text)) = split(bytes) else {
             return Ok(None);

@@ -33,14 +33,16 @@ function_of name =
 
 -- a boundary, where its argument can be read
 abbrev pub edge_or : Edge → Period → Option Shift → TermCall
-edge_or edge period (Some shift) = Is (PeriodEdge (record { edge = edge; period = period; shift = shift }))
+edge_or edge period (Some shift) =
+    Is (PeriodEdge (record { edge = edge; period = period; shift = shift }))
 edge_or edge period None = BadArgument
 
 -- a function's answer to its argument: now() takes none
 abbrev pub answer_of : Function → Option (List ℕ) → TermCall
 answer_of Moment None = Is NowTerm
 answer_of Moment (Some text) = BadArgument
-answer_of (EdgeOf edge period) None = edge_or edge period (Some (record { months = pos 0; days = pos 0; minutes = pos 0 }))
+answer_of (EdgeOf edge period) None =
+    edge_or edge period (Some (record { months = pos 0; days = pos 0; minutes = pos 0 }))
 answer_of (EdgeOf edge period) (Some text) = edge_or edge period (shift_of period text)
 
 abbrev pub answer_or : Option Function → Option (List ℕ) → TermCall

@@ -18,4 +18,5 @@ IsNextChange calendar term mark at (Some next) =
     × (compared calendar term mark next ≢ compared calendar term mark at)
     × ((t : ℕ) → at < t → t < next → compared calendar term mark t ≡ compared calendar term mark at)
 IsNextChange calendar term mark at None =
-    (t : ℕ) → at < t → t ≤ last_second → compared calendar term mark t ≡ compared calendar term mark at
+    (t : ℕ) → at < t → t ≤ last_second
+    → compared calendar term mark t ≡ compared calendar term mark at

@@ -7,7 +7,8 @@ use Rattle.relative_dates.specs.Least.{least_from}
 -- the first day of a month, where months are counted from January of the year 0
 unfoldable pub month_start : ℤ → ℤ
 month_start month =
-    days_from_civil (int_div_euclid month (pos 12)) (unsigned_abs (int_rem_euclid month (pos 12)) + 1) 1
+    days_from_civil (int_div_euclid month (pos 12))
+    (unsigned_abs (int_rem_euclid month (pos 12)) + 1) 1
 
 -- the month of a day of the years 0 to 9999: the first that isn't over before it
 unfoldable pub month_of : ℤ → ℤ

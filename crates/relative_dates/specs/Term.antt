@@ -43,12 +43,14 @@ boundary_day first_day b day =
 -- the second of a boundary, seen from a local day
 unfoldable pub boundary_second : LocalCalendar → Boundary → ℤ → ℤ
 boundary_second calendar b day =
-    (midnight calendar.zone (boundary_day calendar.first_day b day) +ℤ (pos 60 *ℤ b.shift.minutes)) -ℤ before_edge b.edge
+    (midnight calendar.zone (boundary_day calendar.first_day b day) +ℤ (pos 60 *ℤ b.shift.minutes))
+    -ℤ before_edge b.edge
 
 -- the second that a term means at a moment
 abbrev pub second : LocalCalendar → Term → ℤ → ℤ
 second calendar Now at = at
-second calendar (Literal local) at = first_at calendar.zone ((local.day *ℤ pos 86_400) +ℤ pos local.second)
+second calendar (Literal local) at =
+    first_at calendar.zone ((local.day *ℤ pos 86_400) +ℤ pos local.second)
 second calendar (FromNow minutes) at = at +ℤ (pos 60 *ℤ minutes)
 second calendar (PeriodEdge b) at = boundary_second calendar b (local_day calendar.zone at)
 

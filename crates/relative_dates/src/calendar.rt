@@ -50,9 +50,17 @@ impl Model for Calendar {
 
     ghost Value = { LocalCalendar };
 
-    ghost view = { λ c. record { zone = record { first_offset = c.first_offset; steps = c.steps.items }; first_day = c.first_day } };
+    ghost view = { λ c. record {
+      zone = record
+          { first_offset = c.first_offset; steps = c.steps.items };
+      first_day = c.first_day;
+    } };
 
-    ghost invariant = { λ c. IsCalendar (record { zone = record { first_offset = c.first_offset; steps = c.steps.items }; first_day = c.first_day }) };
+    ghost invariant = { λ c. IsCalendar
+        (record {
+          zone = record { first_offset = c.first_offset; steps = c.steps.items };
+          first_day = c.first_day;
+        }) };
 }
 
 impl Calendar {
@@ -86,8 +94,10 @@ impl Calendar {
     pub fn add_step(&mut self, from: u64, minutes: i32) -> Result<(), StepFault>
         requires from { from ≤ last_second }
         requires minutes { IsOffset minutes }
-        ensures ok { OnOk result ((step_fault self.old.zone (step_at from minutes) ≡ None) × (self.new ≡ calendar_with self.old (step_at from minutes))) }
-        ensures refused { IfErr result (IsRefusal (step_fault self.old.zone (step_at from minutes))) }
+        ensures ok { OnOk result ((step_fault self.old.zone (step_at from minutes) ≡ None)
+            × (self.new ≡ calendar_with self.old (step_at from minutes))) }
+        ensures refused { IfErr result (IsRefusal
+            (step_fault self.old.zone (step_at from minutes))) }
         ensures err { OnErr result (self.new ≡ self.old) }
     {
         let step = OffsetStep {

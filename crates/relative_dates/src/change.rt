@@ -41,7 +41,8 @@ impl Term {
 
     /// The second of a term never falls as the moment rises.
     pub fn never_falls(&self, calendar: &Calendar)
-        ensures { (at later : ℕ) → at ≤ later → later ≤ last_second → second calendar.now self.now (pos at) ≤ℤ second calendar.now self.now (pos later) }
+        ensures { (at later : ℕ) → at ≤ later → later ≤ last_second
+            → second calendar.now self.now (pos at) ≤ℤ second calendar.now self.now (pos later) }
     {
         let _ = calendar.first_day();
         self.is_bounded();

@@ -18,7 +18,8 @@ onto_first byte (line ∷ lines) = (byte ∷ line) ∷ lines
 -- the lines that have their line feed
 abbrev pub whole_lines : List ℕ → List (List ℕ)
 whole_lines [] = []
-whole_lines (byte ∷ bytes) = if byte == 10 then [] ∷ whole_lines bytes else onto_first byte (whole_lines bytes)
+whole_lines (byte ∷ bytes) =
+    if byte == 10 then [] ∷ whole_lines bytes else onto_first byte (whole_lines bytes)
 
 -- no byte is a line feed
 abbrev pub IsOneLine : List ℕ → Type 0

@@ -10,33 +10,43 @@ use Rattle.request_lines.specs.declared.run.End.{End}
 use Rattle.request_lines.specs.declared.run.End.TheVariants.{Done, ReadFault, WriteFault, Memory, LongLine, ManyLines}
 
 -- from a state, these lines are answered by this text, and lead to another state
-abbrev pub AreAnswered : {State : Type 0} → (State → List ℕ → List ℕ → State → Type 0) → State → List (List ℕ) → List ℕ → State → Type 0
+abbrev pub AreAnswered : {State : Type 0} → (State → List ℕ → List ℕ → State → Type 0) → State
+    → List (List ℕ) → List ℕ → State → Type 0
 AreAnswered Answers old [] text new = (text ≡ []) × (new ≡ old)
 AreAnswered {State = State} Answers old (line ∷ more) text new =
-    (next : State) × (first : List ℕ) × (rest : List ℕ) × Answers old line first next × (text ≡ first ++ rest) × AreAnswered Answers next more rest new
+    (next : State) × (first : List ℕ) × (rest : List ℕ) × Answers old line first next
+    × (text ≡ first ++ rest) × AreAnswered Answers next more rest new
 
 -- the sink has the answers to these lines
-pub record HasServed {State : Type 0} (Answers : State → List ℕ → List ℕ → State → Type 0) (old : State) (all : List (List ℕ)) (taken_old taken_new : Option (List ℕ)) (new : State) : Type 0 where
+pub record HasServed {State : Type 0} (Answers : State → List ℕ → List ℕ → State → Type 0)
+    (old : State) (all : List (List ℕ)) (taken_old taken_new : Option (List ℕ))
+    (new : State) : Type 0 where
   pub text : List ℕ
   pub answered : AreAnswered Answers old all text new
   pub written : Appends taken_old taken_new text
 
 -- one line is answered, and the sink has the answer or only a front of it
-pub record Serves {State T E : Type 0} (Answers : State → List ℕ → List ℕ → State → Type 0) (old : State) (line : List ℕ) (taken_old taken_new : Option (List ℕ)) (result : Result T E) (new : State) : Type 0 where
+pub record Serves {State T E : Type 0} (Answers : State → List ℕ → List ℕ → State → Type 0)
+    (old : State) (line : List ℕ) (taken_old taken_new : Option (List ℕ)) (result : Result T E)
+    (new : State) : Type 0 where
   pub text : List ℕ
   pub answered : Answers old line text new
   pub written : WritesAll taken_old taken_new result text
 
 -- no further line was answered, or the next one was, which is within the limits too, and this is a front of its answer
-abbrev pub IsFrontOfNext : {State : Type 0} → (State → List ℕ → List ℕ → State → Type 0) → State → List (List ℕ) → List (List ℕ) → List ℕ → State → Type 0
+abbrev pub IsFrontOfNext : {State : Type 0} → (State → List ℕ → List ℕ → State → Type 0) → State
+    → List (List ℕ) → List (List ℕ) → List ℕ → State → Type 0
 IsFrontOfNext Answers middle done rest front new =
     ((front ≡ []) × (new ≡ middle))
-    ⊎ ((line : List ℕ) × (more : List (List ℕ)) × (text : List ℕ) × (back : List ℕ) × (rest ≡ line ∷ more)
+    ⊎ ((line : List ℕ) × (more : List (List ℕ)) × (text : List ℕ) × (back : List ℕ)
+    × (rest ≡ line ∷ more)
     × AreWithinLimits (done ++ line ∷ []) × Answers middle line text new × (text ≡ front ++ back))
 
 -- the first lines have their whole answers, and at most the next one was answered too and has a front of its answer; this
 -- is the state after them
-pub record IsCutShort {State : Type 0} (Answers : State → List ℕ → List ℕ → State → Type 0) (old : State) (all : List (List ℕ)) (taken_old taken_new : Option (List ℕ)) (new : State) : Type 0 where
+pub record IsCutShort {State : Type 0} (Answers : State → List ℕ → List ℕ → State → Type 0)
+    (old : State) (all : List (List ℕ)) (taken_old taken_new : Option (List ℕ))
+    (new : State) : Type 0 where
   pub done : List (List ℕ)
   pub rest : List (List ℕ)
   pub all_is : all ≡ done ++ rest
@@ -49,13 +59,24 @@ pub record IsCutShort {State : Type 0} (Answers : State → List ℕ → List �
   pub written : Appends taken_old taken_new (text ++ front)
 
 -- how a run over these bytes ends, by what it answers
-abbrev pub Ends : {State : Type 0} → (State → List ℕ → List ℕ → State → Type 0) → State → List ℕ → Option (List ℕ) → Option (List ℕ) → Option (List ℕ) → End → State → Type 0
-Ends Answers old bytes left taken_old taken_new Done new = IsAtEnd left × AreWithinLimits (lines bytes) × HasServed Answers old (lines bytes) taken_old taken_new new
-Ends Answers old bytes left taken_old taken_new ReadFault new = (read : List ℕ) × Consumes (Some bytes) left read × AreWithinLimits (whole_lines read) × HasServed Answers old (whole_lines read) taken_old taken_new new
-Ends Answers old bytes left taken_old taken_new WriteFault new = IsCutShort Answers old (lines bytes) taken_old taken_new new
-Ends Answers old bytes left taken_old taken_new Memory new = IsCutShort Answers old (lines bytes) taken_old taken_new new
-Ends Answers old bytes left taken_old taken_new LongLine new = (done : List (List ℕ)) × StopsAtLong (lines bytes) done × HasServed Answers old done taken_old taken_new new
-Ends Answers old bytes left taken_old taken_new ManyLines new = (done : List (List ℕ)) × StopsAtMany (lines bytes) done × HasServed Answers old done taken_old taken_new new
+abbrev pub Ends : {State : Type 0} → (State → List ℕ → List ℕ → State → Type 0) → State → List ℕ
+    → Option (List ℕ) → Option (List ℕ) → Option (List ℕ) → End → State → Type 0
+Ends Answers old bytes left taken_old taken_new Done new =
+    IsAtEnd left × AreWithinLimits (lines bytes)
+    × HasServed Answers old (lines bytes) taken_old taken_new new
+Ends Answers old bytes left taken_old taken_new ReadFault new =
+    (read : List ℕ) × Consumes (Some bytes) left read × AreWithinLimits (whole_lines read)
+    × HasServed Answers old (whole_lines read) taken_old taken_new new
+Ends Answers old bytes left taken_old taken_new WriteFault new =
+    IsCutShort Answers old (lines bytes) taken_old taken_new new
+Ends Answers old bytes left taken_old taken_new Memory new =
+    IsCutShort Answers old (lines bytes) taken_old taken_new new
+Ends Answers old bytes left taken_old taken_new LongLine new =
+    (done : List (List ℕ)) × StopsAtLong (lines bytes) done
+    × HasServed Answers old done taken_old taken_new new
+Ends Answers old bytes left taken_old taken_new ManyLines new =
+    (done : List (List ℕ)) × StopsAtMany (lines bytes) done
+    × HasServed Answers old done taken_old taken_new new
 
 -- a fault of writing is told only where the sink's count rose
 abbrev pub IsWriteCause : {T : Type 0} → ℕ → ℕ → Result T Halt → Type 0

@@ -54,11 +54,14 @@ impl Sink for MemorySink {
         requires { 0 < length piece.now }
         ensures some { IfOk result (λ n. 0 < n) }
         ensures bound { WritesAtMost result piece.now }
-        ensures bytes { WriteAppends (Some self.old.taken.items) (Some self.new.taken.items) result piece.now }
+        ensures bytes { WriteAppends (Some self.old.taken.items)
+            (Some self.new.taken.items) result piece.now }
         ensures cause { HasCause self.old.faults self.new.faults result }
 
         // It fails exactly at the calls that it was told, and where its room is full.
-        ensures fails { IsErr result ↔ (FailsAt self.old.failing.items (next_call self.old.calls) ⊎ (self.old.room ≤ length self.old.taken.items)) }
+        ensures fails { IsErr result
+            ↔ (FailsAt self.old.failing.items (next_call self.old.calls)
+            ⊎ (self.old.room ≤ length self.old.taken.items)) }
         ensures counted { self.new.calls ≡ next_call self.old.calls }
         ensures failing { self.new.failing.items ≡ self.old.failing.items }
         ensures room { self.new.room ≡ self.old.room }

@@ -48,7 +48,9 @@ impl MemorySource {
     // How many bytes the next read gives, in a room of that length.
     fn piece_len(&self, room: usize) -> usize
         requires { 0 < room }
-        ensures told { result ≡ piece_len (slice_get self.now.pieces.items self.now.calls) room (length self.now.bytes.items - self.now.at) }
+        ensures told { result
+            ≡ piece_len (slice_get self.now.pieces.items self.now.calls) room
+            (length self.now.bytes.items - self.now.at) }
         ensures room { result ≤ room }
         ensures left { self.now.at + result ≤ length self.now.bytes.items }
         ensures some { self.now.at < length self.now.bytes.items → 0 < result }
@@ -69,7 +71,8 @@ impl Source for MemorySource {
     fn read(&mut self, room: &mut [u8]) -> Result<usize, Failed>
         requires { 0 < length room.old }
         ensures bound { ReadsAtMost result room.new }
-        ensures bytes { ReadConsumes (Some (drop self.old.at self.old.bytes.items)) (Some (drop self.new.at self.new.bytes.items)) result room.new }
+        ensures bytes { ReadConsumes (Some (drop self.old.at self.old.bytes.items))
+            (Some (drop self.new.at self.new.bytes.items)) result room.new }
         ensures cause { HasCause self.old.faults self.new.faults result }
 
         // It fails exactly at the calls that it was told.
@@ -78,7 +81,9 @@ impl Source for MemorySource {
         ensures failing { self.new.failing.items ≡ self.old.failing.items }
 
         // It gives its pieces as it was told.
-        ensures told { IfOk result (λ n. n ≡ piece_len (slice_get self.old.pieces.items self.old.calls) (length room.old) (length self.old.bytes.items - self.old.at)) }
+        ensures told { IfOk result (λ n. n
+            ≡ piece_len (slice_get self.old.pieces.items self.old.calls) (length room.old)
+            (length self.old.bytes.items - self.old.at)) }
         ensures pieces { self.new.pieces.items ≡ self.old.pieces.items }
     {
         let count = self.piece_len(room.len());

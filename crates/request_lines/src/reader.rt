@@ -67,7 +67,8 @@ impl Model for LineReader {
 
     ghost view = { λ r. take (r.to - r.from) (drop r.from r.room.items) };
 
-    ghost invariant = { λ r. (r.from ≤ r.to) × (r.to ≤ length r.room.items) × (0 < length r.room.items) };
+    ghost invariant = { λ r. (r.from ≤ r.to) × (r.to ≤ length r.room.items)
+        × (0 < length r.room.items) };
 }
 
 impl LineReader {
@@ -84,7 +85,8 @@ impl LineReader {
 
     /// Takes the bytes up to the next line feed, and puts them in place of what `line` held.
     pub fn next_line<S: Source>(&mut self, source: &mut S, line: &mut Vec<u8>) -> Next
-        ensures bytes { TakesLine (prepend_known self.old (S.left source.old)) (prepend_known self.new (S.left source.new)) result line.new.items }
+        ensures bytes { TakesLine (prepend_known self.old (S.left source.old))
+            (prepend_known self.new (S.left source.new)) result line.new.items }
         ensures held { result ≡ Next.Failed → self.new ≡ [] }
         ensures failed { result ≡ Next.Failed → Rose (S.faults source.old) (S.faults source.new) }
         ensures later { S.faults source.old ≤ S.faults source.new }
@@ -114,8 +116,10 @@ impl LineReader {
 
     /// Reads where nothing is held, and says whether something is: nothing at the end of the input alone.
     pub fn fill<S: Source>(&mut self, source: &mut S) -> Result<bool, Failed>
-        ensures same { Consumes (prepend_known self.old (S.left source.old)) (prepend_known self.new (S.left source.new)) [] }
-        ensures some { IfOk result (λ b. MatchBool b (0 < length self.new) (IsAtEnd (prepend_known self.new (S.left source.new)))) }
+        ensures same { Consumes (prepend_known self.old (S.left source.old))
+            (prepend_known self.new (S.left source.new)) [] }
+        ensures some { IfOk result (λ b. MatchBool b (0 < length self.new)
+            (IsAtEnd (prepend_known self.new (S.left source.new)))) }
         ensures failed { OnErr result (self.new ≡ []) }
         ensures cause { HasCause (S.faults source.old) (S.faults source.new) result }
     {

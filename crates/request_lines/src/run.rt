@@ -63,7 +63,9 @@ pub fn answer_lines<R: Responder, S: Source, T: Sink>(
     input: &mut S,
     out: &mut T,
 ) -> End
-    ensures run { IfSome (S.left input.old) (λ bytes. Ends R.answers responder.old bytes (S.left input.new) (T.taken out.old) (T.taken out.new) result responder.new) }
+    ensures run { IfSome (S.left input.old)
+        (λ bytes. Ends R.answers responder.old bytes (S.left input.new) (T.taken out.old)
+        (T.taken out.new) result responder.new) }
     ensures read_cause { result ≡ End.ReadFault → Rose (S.faults input.old) (S.faults input.new) }
     ensures write_cause { result ≡ End.WriteFault → Rose (T.faults out.old) (T.faults out.new) }
     ensures read_later { S.faults input.old ≤ S.faults input.new }
@@ -89,7 +91,9 @@ fn answer_each<R: Responder, S: Source, T: Sink>(
     out: &mut T,
 ) -> End
     requires { reader.old ≡ [] }
-    ensures run { IfSome (S.left input.old) (λ bytes. Ends R.answers responder.old bytes (S.left input.new) (T.taken out.old) (T.taken out.new) result responder.new) }
+    ensures run { IfSome (S.left input.old)
+        (λ bytes. Ends R.answers responder.old bytes (S.left input.new) (T.taken out.old)
+        (T.taken out.new) result responder.new) }
     ensures read_cause { result ≡ End.ReadFault → Rose (S.faults input.old) (S.faults input.new) }
     ensures write_cause { result ≡ End.WriteFault → Rose (T.faults out.old) (T.faults out.new) }
     ensures read_later { S.faults input.old ≤ S.faults input.new }
@@ -127,7 +131,8 @@ fn answer_line<R: Responder, T: Sink>(
     answer: &mut Vec<u8>,
     out: &mut T,
 ) -> Result<(), Halt>
-    ensures run { Serves R.answers responder.old line.now (T.taken out.old) (T.taken out.new) result responder.new }
+    ensures run { Serves R.answers responder.old line.now (T.taken out.old)
+        (T.taken out.new) result responder.new }
     ensures later { T.faults out.old ≤ T.faults out.new }
     ensures cause { IsWriteCause (T.faults out.old) (T.faults out.new) result }
 {

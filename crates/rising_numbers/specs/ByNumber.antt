@@ -28,7 +28,8 @@ without_number number n (x ∷ xs) = if number x == n then xs else x ∷ without
 -- the least number from this one on that none of the things has, where their numbers rise from it
 abbrev pub free_from : {X : Type 0} → (X → ℕ) → ℕ → List X → ℕ
 free_from number least [] = least
-free_from number least (x ∷ xs) = if number x == least then free_from number (least + 1) xs else least
+free_from number least (x ∷ xs) =
+    if number x == least then free_from number (least + 1) xs else least
 
 -- none of the things has this number, and they have all numbers from the least up to it
 pub record IsLeastFree {X : Type 0} (number : X → ℕ) (xs : List X) (least n : ℕ) : Type 0 where

@@ -32,12 +32,15 @@ abbrev pub text_in : Option Data → List ℕ
 text_in value = unwrap_or (option_and_then as_str value) []
 
 -- a key that wants one of some words
-abbrev pub word_fault : {W : Type 0} → (List ℕ → Option W) → List ℕ → Option Data → Option SetupFault
+abbrev pub word_fault : {W : Type 0} → (List ℕ → Option W) → List ℕ → Option Data
+    → Option SetupFault
 word_fault meaning key None = Some (Missing key)
-word_fault meaning key (Some d) = fault_if (not (is_some (option_and_then meaning (as_str d)))) (BadValue key)
+word_fault meaning key (Some d) =
+    fault_if (not (is_some (option_and_then meaning (as_str d)))) (BadValue key)
 
 abbrev pub word_in : {W : Type 0} → (List ℕ → Option W) → W → Option Data → W
-word_in meaning otherwise value = unwrap_or (option_and_then meaning (option_and_then as_str value)) otherwise
+word_in meaning otherwise value =
+    unwrap_or (option_and_then meaning (option_and_then as_str value)) otherwise
 
 -- a key that wants a name that no earlier entry has
 abbrev pub new_name_fault : List ℕ → NameForm → List (List ℕ) → Option Data → Option SetupFault
@@ -59,7 +62,8 @@ count_fault key (Some most) n = fault_if (nat_lt most n) (TooMany key most)
 abbrev pub list_fault : List ℕ → NameForm → ℕ → Option ℕ → Data → Option SetupFault
 list_fault key form least most d =
     option_or (fault_if (has_fewer_than least d) (Missing key))
-    (option_or (fault_if (not (option_map_or (list_all (has_form form)) (texts_of d) false)) (BadValue key))
+    (option_or (fault_if (not (option_map_or (list_all (has_form form)) (texts_of d) false))
+    (BadValue key))
     (option_or (count_fault key most (length (cell_names (Some d))))
     (option_map Duplicate (first_double [] (cell_names (Some d))))))
 

@@ -31,7 +31,8 @@ use Rattle.field_forms.specs.Known.{has_few_options}
 
 unfoldable pub head_fault : Members → Option SetupFault
 head_fault ms = first_of
-    (whole_fault (codes "utc_offset_minutes") (neg_ℤ (pos 840)) (pos 840) (get_member (codes "utc_offset_minutes") ms)
+    (whole_fault (codes "utc_offset_minutes") (neg_ℤ (pos 840)) (pos 840)
+    (get_member (codes "utc_offset_minutes") ms)
     ∷ word_fault weekday_of (codes "week_starts") (get_member (codes "week_starts") ms)
     ∷ text_fault (codes "rebalancer") (get_member (codes "rebalancer") ms)
     ∷ [])
@@ -86,7 +87,8 @@ rights_of ms = record {
 unfoldable pub groups_fault : Members → Option SetupFault
 groups_fault ms =
     option_or (cells.tables_fault (codes "group") 0 100 (get_member (codes "group") ms))
-    (entries_fault group_fault (with_name (λ e. (group_draft e).name)) [] (tables_in (get_member (codes "group") ms)))
+    (entries_fault group_fault (with_name (λ e. (group_draft e).name)) []
+    (tables_in (get_member (codes "group") ms)))
 
 unfoldable pub groups_of : Members → List GroupDraft
 groups_of ms = map group_draft (tables_in (get_member (codes "group") ms))
@@ -94,7 +96,8 @@ groups_of ms = map group_draft (tables_in (get_member (codes "group") ms))
 unfoldable pub projects_fault : Members → Option SetupFault
 projects_fault ms =
     option_or (cells.tables_fault (codes "project") 1 50 (get_member (codes "project") ms))
-    (entries_fault project_fault (with_name (λ e. (project_draft e).key)) [] (tables_in (get_member (codes "project") ms)))
+    (entries_fault project_fault (with_name (λ e. (project_draft e).key)) []
+    (tables_in (get_member (codes "project") ms)))
 
 unfoldable pub projects_of : Members → List ProjectDraft
 projects_of ms = map project_draft (tables_in (get_member (codes "project") ms))
@@ -102,7 +105,8 @@ projects_of ms = map project_draft (tables_in (get_member (codes "project") ms))
 unfoldable pub statuses_fault : Members → Option SetupFault
 statuses_fault ms =
     option_or (cells.tables_fault (codes "status") 1 50 (get_member (codes "status") ms))
-    (entries_fault status_fault (with_name (λ e. (status_of e).name)) [] (tables_in (get_member (codes "status") ms)))
+    (entries_fault status_fault (with_name (λ e. (status_of e).name)) []
+    (tables_in (get_member (codes "status") ms)))
 
 unfoldable pub statuses_of : Members → List Status
 statuses_of ms = map status_of (tables_in (get_member (codes "status") ms))
@@ -110,7 +114,8 @@ statuses_of ms = map status_of (tables_in (get_member (codes "status") ms))
 unfoldable pub transitions_fault : Members → Option SetupFault
 transitions_fault ms =
     option_or (cells.tables_fault (codes "transition") 0 200 (get_member (codes "transition") ms))
-    (entries_fault transition_fault (with_name (λ e. (transition_draft e).name)) [] (tables_in (get_member (codes "transition") ms)))
+    (entries_fault transition_fault (with_name (λ e. (transition_draft e).name)) []
+    (tables_in (get_member (codes "transition") ms)))
 
 unfoldable pub transitions_of : Members → List TransitionDraft
 transitions_of ms = map transition_draft (tables_in (get_member (codes "transition") ms))
@@ -125,7 +130,8 @@ fields_of ms = map field_of (tables_in (get_member (codes "field") ms))
 
 unfoldable pub tables_fault : Members → Option SetupFault
 tables_fault ms = first_of
-    (groups_fault ms ∷ projects_fault ms ∷ statuses_fault ms ∷ transitions_fault ms ∷ fields_fault ms ∷ [])
+    (groups_fault ms ∷ projects_fault ms ∷ statuses_fault ms ∷ transitions_fault ms
+    ∷ fields_fault ms ∷ [])
 
 unfoldable pub tables_of : Members → Tables
 tables_of ms = record {
@@ -161,7 +167,8 @@ draft_of ms = record {
   lists = lists_of ms;
   rights = rights_of ms;
   tables = tables_of ms;
-  steps = steps_of (head_of ms).utc_offset_minutes (day_number (head_of ms).week_starts) (offsets_in ms);
+  steps = steps_of (head_of ms).utc_offset_minutes (day_number (head_of ms).week_starts)
+      (offsets_in ms);
 }
 
 pub record IsSmall (draft : Draft) : Type 0 where

@@ -5,7 +5,8 @@ use Rattle.toml.specs.Data.{Members}
 use Rattle.setup_drafts.specs.declared.fault.SetupFault.{SetupFault}
 
 -- the first fault of the entries, each looked at beside what those before it leave
-abbrev pub entries_fault : {S : Type 0} → (S → Members → Option SetupFault) → (S → Members → S) → S → List Members → Option SetupFault
+abbrev pub entries_fault : {S : Type 0} → (S → Members → Option SetupFault) → (S → Members → S) → S
+    → List Members → Option SetupFault
 entries_fault fault after before [] = None
 entries_fault fault after before (e ∷ es) =
     option_or (fault before e) (entries_fault fault after (after before e) es)

@@ -19,7 +19,8 @@ Answers fault value (Ok v) = (fault ≡ None) × (v ≡ value)
 Answers fault value (Err e) = e ≢ Memory → fault ≡ Some e
 
 -- the same, where the value is what the answer's is seen as
-abbrev pub AnswersBy : {U V : Type 0} → (U → V) → Option SetupFault → V → Result U SetupFault → Type 0
+abbrev pub AnswersBy : {U V : Type 0} → (U → V) → Option SetupFault → V → Result U SetupFault
+    → Type 0
 AnswersBy seen fault value (Ok u) = (fault ≡ None) × (seen u ≡ value)
 AnswersBy seen fault value (Err e) = e ≢ Memory → fault ≡ Some e
 

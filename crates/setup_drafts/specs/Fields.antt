@@ -21,7 +21,8 @@ number_in value = unsigned_abs (whole_in value)
 abbrev pub number_fault : List ℕ → List Field → Option Data → Option SetupFault
 number_fault key earlier value =
     option_or (whole_fault key (pos 10000) (pos 19999) value)
-    (fault_if (list_any (λ f. f.number.0 == number_in value) earlier) (Duplicate (decimal (number_in value))))
+    (fault_if (list_any (λ f. f.number.0 == number_in value) earlier)
+    (Duplicate (decimal (number_in value))))
 
 -- a choice has 1 to 200 options, and no other kind has any
 abbrev pub options_fault : List ℕ → FieldKind → Option Data → Option SetupFault
@@ -35,9 +36,11 @@ options_in _ value = []
 unfoldable pub field_fault : List Field → Members → Option SetupFault
 field_fault earlier e = first_of
     (number_fault (codes "number") earlier (get_member (codes "number") e)
-    ∷ new_name_fault (codes "name") OwnField (map (λ f. f.name) earlier) (get_member (codes "name") e)
+    ∷ new_name_fault (codes "name") OwnField (map (λ f. f.name) earlier)
+    (get_member (codes "name") e)
     ∷ word_fault field_kind_of (codes "kind") (get_member (codes "kind") e)
-    ∷ options_fault (codes "options") (word_in field_kind_of Text (get_member (codes "kind") e)) (get_member (codes "options") e)
+    ∷ options_fault (codes "options") (word_in field_kind_of Text (get_member (codes "kind") e))
+    (get_member (codes "options") e)
     ∷ [])
 
 unfoldable pub field_of : Members → Field
@@ -45,7 +48,8 @@ field_of e = record {
   number = record { 0 = number_in (get_member (codes "number") e) };
   name = text_in (get_member (codes "name") e);
   kind = word_in field_kind_of Text (get_member (codes "kind") e);
-  options = options_in (word_in field_kind_of Text (get_member (codes "kind") e)) (get_member (codes "options") e);
+  options = options_in (word_in field_kind_of Text (get_member (codes "kind") e))
+      (get_member (codes "options") e);
 }
 
 -- the fields so far, and one more

@@ -14,16 +14,20 @@ use Rattle.field_forms.specs.Values.{is_before}
 -- the keys of each kind of table
 abbrev pub keys_of : KeySet → List (List ℕ)
 keys_of Top =
-    codes "utc_offset_minutes" ∷ codes "week_starts" ∷ codes "rebalancer" ∷ codes "users" ∷ codes "types"
-    ∷ codes "priorities" ∷ codes "resolutions" ∷ codes "versions" ∷ codes "first_status" ∷ codes "plan"
+    codes "utc_offset_minutes" ∷ codes "week_starts" ∷ codes "rebalancer" ∷ codes "users"
+    ∷ codes "types"
+    ∷ codes "priorities" ∷ codes "resolutions" ∷ codes "versions" ∷ codes "first_status"
+    ∷ codes "plan"
     ∷ codes "administer" ∷ codes "group" ∷ codes "project" ∷ codes "status" ∷ codes "transition"
     ∷ codes "field" ∷ codes "offset" ∷ []
 keys_of Group = codes "name" ∷ codes "members" ∷ []
 keys_of Project =
-    codes "key" ∷ codes "lead" ∷ codes "browse" ∷ codes "create" ∷ codes "edit" ∷ codes "transition" ∷ codes "rank" ∷ []
+    codes "key" ∷ codes "lead" ∷ codes "browse" ∷ codes "create" ∷ codes "edit" ∷ codes "transition"
+    ∷ codes "rank" ∷ []
 keys_of Status = codes "name" ∷ codes "category" ∷ []
 keys_of Transition =
-    codes "name" ∷ codes "from" ∷ codes "to" ∷ codes "conditions" ∷ codes "validators" ∷ codes "post" ∷ []
+    codes "name" ∷ codes "from" ∷ codes "to" ∷ codes "conditions" ∷ codes "validators"
+    ∷ codes "post" ∷ []
 keys_of Field = codes "number" ∷ codes "name" ∷ codes "kind" ∷ codes "options" ∷ []
 keys_of Offset = codes "from" ∷ codes "minutes" ∷ []
 
@@ -49,7 +53,9 @@ unknown_below set found (e ∷ es) = unknown_below set (lesser found (unknown_ke
 -- the first unknown key of all tables below the top
 unfoldable pub unknown_in_tables : Members → Option (List ℕ)
 unknown_in_tables ms =
-    unknown_below Offset (unknown_below Field (unknown_below Transition (unknown_below Status (unknown_below Project (unknown_below Group None
+    unknown_below Offset (unknown_below Field
+    (unknown_below Transition (unknown_below Status
+    (unknown_below Project (unknown_below Group None
     (tables_in (get_member (codes "group") ms)))
     (tables_in (get_member (codes "project") ms)))
     (tables_in (get_member (codes "status") ms)))

@@ -15,7 +15,8 @@ use Rattle.setup_drafts.specs.Cells.{whole_fault, whole_in, tables_fault, tables
 
 -- the local clock of an offset and of the steps after it
 abbrev pub zone_of : ℤ → List Offset → Zone
-zone_of minutes offsets = record { first_offset = minutes; steps = map (λ o. step_at o.from o.minutes) offsets }
+zone_of minutes offsets =
+    record { first_offset = minutes; steps = map (λ o. step_at o.from o.minutes) offsets }
 
 -- the step turns the local clock back to a day before
 unfoldable pub turns_back : Zone → ℕ → ℤ → Bool
@@ -40,7 +41,8 @@ offset_fault first earlier e = first_of
     (whole_fault (codes "from") (pos 0) (pos last_second) (get_member (codes "from") e)
     ∷ fault_if (not (comes_later earlier (from_in e))) (BadValue (codes "from"))
     ∷ whole_fault (codes "minutes") (neg_ℤ (pos 840)) (pos 840) (get_member (codes "minutes") e)
-    ∷ fault_if (turns_back (zone_of first earlier) (from_in e) (minutes_in e)) (BadValue (codes "minutes"))
+    ∷ fault_if (turns_back (zone_of first earlier) (from_in e) (minutes_in e))
+    (BadValue (codes "minutes"))
     ∷ [])
 
 -- the steps so far, and one more
@@ -58,7 +60,8 @@ steps_of minutes first_day offsets = record {
 unfoldable pub offsets_fault : ℤ → Members → Option SetupFault
 offsets_fault minutes ms =
     option_or (tables_fault (codes "offset") 0 400 (get_member (codes "offset") ms))
-    (entries_fault (offset_fault minutes) with_offset [] (tables_in (get_member (codes "offset") ms)))
+    (entries_fault (offset_fault minutes) with_offset []
+    (tables_in (get_member (codes "offset") ms)))
 
 unfoldable pub offsets_in : Members → List Offset
 offsets_in ms = map offset_of (tables_in (get_member (codes "offset") ms))

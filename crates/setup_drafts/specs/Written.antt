@@ -5,7 +5,8 @@ use Rattle.toml.specs.Data.{Data, array, Items, no_items, item, Members, as_str,
 -- the texts of items that are all texts
 abbrev pub all_texts : Items → Option (List (List ℕ))
 all_texts no_items = Some []
-all_texts (item d ds) = option_and_then (λ s. option_map (λ rest. s ∷ rest) (all_texts ds)) (as_str d)
+all_texts (item d ds) =
+    option_and_then (λ s. option_map (λ rest. s ∷ rest) (all_texts ds)) (as_str d)
 
 -- the texts of an array of texts
 abbrev pub texts_of : Data → Option (List (List ℕ))
@@ -14,7 +15,8 @@ texts_of d = option_and_then all_texts (as_array d)
 -- the tables of items that are all tables
 abbrev pub all_tables : Items → Option (List Members)
 all_tables no_items = Some []
-all_tables (item d ds) = option_and_then (λ ms. option_map (λ rest. ms ∷ rest) (all_tables ds)) (as_table d)
+all_tables (item d ds) =
+    option_and_then (λ ms. option_map (λ rest. ms ∷ rest) (all_tables ds)) (as_table d)
 
 -- the tables of an array of tables
 abbrev pub tables_of : Data → Option (List Members)

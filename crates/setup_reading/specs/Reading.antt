@@ -57,7 +57,8 @@ setup_in text = option_map_or parts_or_fault (parse_document text) (Err BadToml)
 
 -- the parts without the members of the groups
 abbrev pub memberless : Parts → Parts
-memberless parts = record parts { group = map (λ g. record { name = g.name; members = [] }) parts.group }
+memberless parts =
+    record parts { group = map (λ g. record { name = g.name; members = [] }) parts.group }
 
 abbrev pub memberless_of : Result Parts SetupFault → Result Parts SetupFault
 memberless_of (Ok parts) = Ok (memberless parts)

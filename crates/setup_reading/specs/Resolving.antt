@@ -151,7 +151,8 @@ unfoldable pub resolve_fault_by : known.Names → Draft → Option SetupFault
 resolve_fault_by names draft = option_or (rights_unknown names draft) (tables_unknown names draft)
 
 unfoldable pub resolved_by : known.Names → Draft → Resolved
-resolved_by names draft = record { rights = rights_resolved names draft; tables = tables_resolved names draft }
+resolved_by names draft =
+    record { rights = rights_resolved names draft; tables = tables_resolved names draft }
 
 -- the same with the draft's own names
 unfoldable pub resolve_fault : Draft → Option SetupFault

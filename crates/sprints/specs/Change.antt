@@ -8,10 +8,13 @@ use Rattle.sprints.specs.Sprint.{sprint_of}
 
 -- the sprints with that one in another state
 abbrev pub IsInState : List Sprint → List Sprint → ℕ → SprintState → Type 0
-IsInState old new n state = IfSome (sprint_of old n) (λ sprint. new ≡ slice_set old (n - 1) (record sprint { state = state }))
+IsInState old new n state =
+    IfSome (sprint_of old n) (λ sprint. new
+    ≡ slice_set old (n - 1) (record sprint { state = state }))
 
 -- a sprint goes to the next state where there is one; else its state is the fault, and nothing changes
-abbrev pub Changes : List Sprint → List Sprint → ℕ → SprintState → Option SprintState → Result (Unit {0}) SprintFault → Type 0
+abbrev pub Changes : List Sprint → List Sprint → ℕ → SprintState → Option SprintState
+    → Result (Unit {0}) SprintFault → Type 0
 Changes old new n kept (Some next) result = (result ≡ Ok tt) × IsInState old new n next
 Changes old new n kept None result = (result ≡ Err (StateIs kept)) × (new ≡ old)
 

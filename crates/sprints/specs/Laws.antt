@@ -10,13 +10,15 @@ use Rattle.sprints.specs.Change.{IsInState}
 -- where one sprint changes its state, every other stands
 abbrev pub OthersStand : Type 0
 OthersStand =
-    (old new : List Sprint) (n : ℕ) (state : SprintState) → IsThere old n → IsInState old new n state →
+    (old new : List Sprint) (n : ℕ) (state : SprintState) → IsThere old n
+    → IsInState old new n state →
     (other : ℕ) → other ≢ n → sprint_of new other ≡ sprint_of old other
 
 -- where one sprint changes its state, every name stands
 abbrev pub NamesStand : Type 0
 NamesStand =
-    (old new : List Sprint) (n : ℕ) (state : SprintState) → IsThere old n → IsInState old new n state →
+    (old new : List Sprint) (n : ℕ) (state : SprintState) → IsThere old n
+    → IsInState old new n state →
     (any : ℕ) → name_of new any ≡ name_of old any
 
 -- nothing follows a closed sprint

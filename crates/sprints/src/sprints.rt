@@ -56,7 +56,8 @@ impl Sprints {
     /// Makes a future sprint of this name, with the next number. `Full` comes exactly at 1,000 sprints, and where room was made there
     /// is no other fault. After a fault all is as before.
     pub fn create(&mut self, name: Text) -> Result<SprintNo, SprintFault>
-        ensures created { IfOk result (λ sprint. (sprint.0 ≡ length self.old.sprints + 1) × (self.new.sprints ≡ self.old.sprints ++ future name ∷ [])) }
+        ensures created { IfOk result (λ sprint. (sprint.0 ≡ length self.old.sprints + 1)
+            × (self.new.sprints ≡ self.old.sprints ++ future name ∷ [])) }
         ensures full { (result ≡ Err SprintFault.Full) ↔ (length self.old.sprints ≡ 1000) }
         ensures refused { IfErr result (λ fault. IsWantOfRoom fault × (self.new ≡ self.old)) }
         ensures reserved { HasRoomForOne self.old → length self.old.sprints < 1000 → IsOk result }
@@ -77,7 +78,9 @@ impl Sprints {
     /// other sprints and all room stand. It takes no memory.
     pub fn start(&mut self, sprint: SprintNo, at: Moment, change: u64) -> Result<(), SprintFault>
         requires { IsThere self.old.sprints sprint.0 }
-        ensures changed { IfSome (state_of self.old.sprints sprint.0) (λ kept. Changes self.old.sprints self.new.sprints sprint.0 kept (after_start kept at change) result) }
+        ensures changed { IfSome (state_of self.old.sprints sprint.0)
+            (λ kept. Changes self.old.sprints self.new.sprints sprint.0 kept
+            (after_start kept at change) result) }
         ensures room { self.new.room ≡ self.old.room }
     {
         let kept = self.state_at(sprint);
@@ -92,7 +95,9 @@ impl Sprints {
     /// other sprints and all room stand. It takes no memory.
     pub fn close(&mut self, sprint: SprintNo, at: Moment, change: u64) -> Result<(), SprintFault>
         requires { IsThere self.old.sprints sprint.0 }
-        ensures changed { IfSome (state_of self.old.sprints sprint.0) (λ kept. Changes self.old.sprints self.new.sprints sprint.0 kept (after_close kept at change) result) }
+        ensures changed { IfSome (state_of self.old.sprints sprint.0)
+            (λ kept. Changes self.old.sprints self.new.sprints sprint.0 kept
+            (after_close kept at change) result) }
         ensures room { self.new.room ≡ self.old.room }
     {
         let kept = self.state_at(sprint);

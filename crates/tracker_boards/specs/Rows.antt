@@ -5,7 +5,8 @@ use Rattle.rising_numbers.specs.ByNumber.{by_number, put_by_number, without_numb
 use Rattle.tracker_boards.specs.Boards.{number, without_boards_of}
 
 abbrev board_of : ℕ → List ℕ → ℕ → Board
-board_of n name filter_no = record { no = record { 0 = n }; name = name; filter = record { 0 = filter_no } }
+board_of n name filter_no =
+    record { no = record { 0 = n }; name = name; filter = record { 0 = filter_no } }
 
 abbrev first : List Board
 first = board_of 1 (codes "a") 7 ∷ board_of 2 (codes "b") 9 ∷ board_of 3 (codes "c") 7 ∷ []
@@ -21,7 +22,8 @@ others_stay = refl
 pub number_again : free_from number 1 (without_boards_of 7 first) ≡ 1
 number_again = refl
 
-pub in_front : put_by_number number (board_of 1 (codes "d") 9) (without_boards_of 7 first) ≡ board_of 1 (codes "d") 9 ∷ board_of 2 (codes "b") 9 ∷ []
+pub in_front : put_by_number number (board_of 1 (codes "d") 9) (without_boards_of 7 first)
+    ≡ board_of 1 (codes "d") 9 ∷ board_of 2 (codes "b") 9 ∷ []
 in_front = refl
 
 -- by its number it is found, until it goes

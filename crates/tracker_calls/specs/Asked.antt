@@ -44,7 +44,8 @@ text_at name d = option_and_then as_str (get name d)
 
 -- the name of a saved filter, a board or a sprint
 abbrev pub title_at : List ℕ → Data → Option (List ℕ)
-title_at name d = option_and_then (λ text. if is_title text then Some text else None) (text_at name d)
+title_at name d =
+    option_and_then (λ text. if is_title text then Some text else None) (text_at name d)
 
 -- the number of a saved filter, a board or a sprint
 abbrev pub number_at : List ℕ → Data → Option ℕ
@@ -52,14 +53,17 @@ number_at name d = option_and_then (whole_within 0 4_294_967_295) (get name d)
 
 -- an issue isn't moved beside itself
 abbrev pub other_than : List ℕ → Data → Option (List ℕ)
-other_than issue d = option_and_then (λ other. if bytes_eq other issue then None else Some other) (text_at (codes "other") d)
+other_than issue d =
+    option_and_then (λ other. if bytes_eq other issue then None else Some other)
+    (text_at (codes "other") d)
 
 -- a moment of the years 1970 to 2099
 abbrev pub moment_of : ℕ → Option ℕ
 moment_of n = if nat_le n 4102444799 then Some n else None
 
 abbrev pub moment_at : List ℕ → Data → Option ℕ
-moment_at name d = option_and_then moment_of (option_and_then as_u64 (option_and_then as_number (get name d)))
+moment_at name d =
+    option_and_then moment_of (option_and_then as_u64 (option_and_then as_number (get name d)))
 
 abbrev pub is_among : List ℕ → List (List ℕ) → Bool
 is_among name [] = false
@@ -95,9 +99,12 @@ kind_named name =
     (if bytes_eq name (codes "burndown") then Some kind.Burndown else None)))))))))))))))))))))))
 
 abbrev pub call_members : CallKind → List (List ℕ)
-call_members kind.Create = codes "call" ∷ codes "external" ∷ codes "project" ∷ codes "set" ∷ codes "summary" ∷ codes "type" ∷ codes "user" ∷ []
+call_members kind.Create =
+    codes "call" ∷ codes "external" ∷ codes "project" ∷ codes "set" ∷ codes "summary" ∷ codes "type"
+    ∷ codes "user" ∷ []
 call_members kind.Edit = codes "call" ∷ codes "issue" ∷ codes "set" ∷ codes "user" ∷ []
-call_members kind.Transition = codes "call" ∷ codes "issue" ∷ codes "set" ∷ codes "transition" ∷ codes "user" ∷ []
+call_members kind.Transition =
+    codes "call" ∷ codes "issue" ∷ codes "set" ∷ codes "transition" ∷ codes "user" ∷ []
 call_members kind.Tick = codes "call" ∷ codes "to" ∷ codes "user" ∷ []
 call_members kind.MoveBefore = codes "call" ∷ codes "issue" ∷ codes "other" ∷ codes "user" ∷ []
 call_members kind.MoveAfter = codes "call" ∷ codes "issue" ∷ codes "other" ∷ codes "user" ∷ []
@@ -112,13 +119,18 @@ call_members kind.StartSprint = codes "call" ∷ codes "sprint" ∷ codes "user"
 call_members kind.CloseSprint = codes "call" ∷ codes "sprint" ∷ codes "user" ∷ []
 call_members kind.SetGroup = codes "call" ∷ codes "group" ∷ codes "members" ∷ codes "user" ∷ []
 call_members kind.Show = codes "call" ∷ codes "issue" ∷ codes "user" ∷ []
-call_members kind.History = codes "call" ∷ codes "count" ∷ codes "from" ∷ codes "issue" ∷ codes "user" ∷ []
-call_members kind.Search = codes "call" ∷ codes "count" ∷ codes "from" ∷ codes "jql" ∷ codes "user" ∷ []
+call_members kind.History =
+    codes "call" ∷ codes "count" ∷ codes "from" ∷ codes "issue" ∷ codes "user" ∷ []
+call_members kind.Search =
+    codes "call" ∷ codes "count" ∷ codes "from" ∷ codes "jql" ∷ codes "user" ∷ []
 call_members kind.Ranks = codes "call" ∷ codes "count" ∷ codes "from" ∷ codes "user" ∷ []
 call_members kind.Balance = codes "call" ∷ codes "user" ∷ []
-call_members kind.Filter = codes "call" ∷ codes "count" ∷ codes "filter" ∷ codes "from" ∷ codes "user" ∷ []
-call_members kind.Board = codes "board" ∷ codes "call" ∷ codes "count" ∷ codes "from" ∷ codes "user" ∷ []
-call_members kind.Burndown = codes "call" ∷ codes "count" ∷ codes "from" ∷ codes "sprint" ∷ codes "user" ∷ []
+call_members kind.Filter =
+    codes "call" ∷ codes "count" ∷ codes "filter" ∷ codes "from" ∷ codes "user" ∷ []
+call_members kind.Board =
+    codes "board" ∷ codes "call" ∷ codes "count" ∷ codes "from" ∷ codes "user" ∷ []
+call_members kind.Burndown =
+    codes "call" ∷ codes "count" ∷ codes "from" ∷ codes "sprint" ∷ codes "user" ∷ []
 
 abbrev pub is_member : CallKind → List ℕ → Bool
 is_member kind name = is_among name (call_members kind)
@@ -138,7 +150,8 @@ create_of d members user =
     need (text_at (codes "summary") d) (codes "summary") (λ summary.
     need (set_if_there d) (codes "set") (λ set.
     need (external_if_there d) (codes "external") (λ external.
-    no_other (first_other kind.Create (names_of members)) (Ok (user, Create project issue_type summary set external)))))))
+    no_other (first_other kind.Create (names_of members))
+    (Ok (user, Create project issue_type summary set external)))))))
 
 abbrev pub edit_of : Data → Members → List ℕ → Asked
 edit_of d members user =
@@ -151,7 +164,8 @@ transition_of d members user =
     need (text_at (codes "issue") d) (codes "issue") (λ issue.
     need (text_at (codes "transition") d) (codes "transition") (λ transition.
     need (set_if_there d) (codes "set") (λ set.
-    no_other (first_other kind.Transition (names_of members)) (Ok (user, Transition issue transition set)))))
+    no_other (first_other kind.Transition (names_of members))
+    (Ok (user, Transition issue transition set)))))
 
 abbrev pub tick_of : Data → Members → List ℕ → Asked
 tick_of d members user =
@@ -166,7 +180,8 @@ move_of kind call d members user =
     no_other (first_other kind (names_of members)) (Ok (user, call issue other))))
 
 abbrev pub rebalance_start_of : Members → List ℕ → Asked
-rebalance_start_of members user = no_other (first_other kind.RebalanceStart (names_of members)) (Ok (user, RebalanceStart))
+rebalance_start_of members user =
+    no_other (first_other kind.RebalanceStart (names_of members)) (Ok (user, RebalanceStart))
 
 abbrev pub rebalance_step_of : Data → Members → List ℕ → Asked
 rebalance_step_of d members user =
@@ -182,18 +197,21 @@ save_filter_of d members user =
 abbrev pub drop_filter_of : Data → Members → List ℕ → Asked
 drop_filter_of d members user =
     need (number_at (codes "filter") d) (codes "filter") (λ filter.
-    no_other (first_other kind.DropFilter (names_of members)) (Ok (user, DropFilter (record { 0 = filter }))))
+    no_other (first_other kind.DropFilter (names_of members))
+    (Ok (user, DropFilter (record { 0 = filter }))))
 
 abbrev pub make_board_of : Data → Members → List ℕ → Asked
 make_board_of d members user =
     need (title_at (codes "name") d) (codes "name") (λ name.
     need (number_at (codes "filter") d) (codes "filter") (λ filter.
-    no_other (first_other kind.MakeBoard (names_of members)) (Ok (user, MakeBoard name (record { 0 = filter })))))
+    no_other (first_other kind.MakeBoard (names_of members))
+    (Ok (user, MakeBoard name (record { 0 = filter })))))
 
 abbrev pub drop_board_of : Data → Members → List ℕ → Asked
 drop_board_of d members user =
     need (number_at (codes "board") d) (codes "board") (λ board.
-    no_other (first_other kind.DropBoard (names_of members)) (Ok (user, DropBoard (record { 0 = board }))))
+    no_other (first_other kind.DropBoard (names_of members))
+    (Ok (user, DropBoard (record { 0 = board }))))
 
 abbrev pub make_sprint_of : Data → Members → List ℕ → Asked
 make_sprint_of d members user =
@@ -203,12 +221,14 @@ make_sprint_of d members user =
 abbrev pub start_sprint_of : Data → Members → List ℕ → Asked
 start_sprint_of d members user =
     need (number_at (codes "sprint") d) (codes "sprint") (λ sprint.
-    no_other (first_other kind.StartSprint (names_of members)) (Ok (user, StartSprint (record { 0 = sprint }))))
+    no_other (first_other kind.StartSprint (names_of members))
+    (Ok (user, StartSprint (record { 0 = sprint }))))
 
 abbrev pub close_sprint_of : Data → Members → List ℕ → Asked
 close_sprint_of d members user =
     need (number_at (codes "sprint") d) (codes "sprint") (λ sprint.
-    no_other (first_other kind.CloseSprint (names_of members)) (Ok (user, CloseSprint (record { 0 = sprint }))))
+    no_other (first_other kind.CloseSprint (names_of members))
+    (Ok (user, CloseSprint (record { 0 = sprint }))))
 
 abbrev pub set_group_of : Data → Members → List ℕ → Asked
 set_group_of d members user =
@@ -226,44 +246,51 @@ history_of d members user =
     need (text_at (codes "issue") d) (codes "issue") (λ issue.
     need (from_if_there d) (codes "from") (λ from.
     need (count_if_there 50 d) (codes "count") (λ count.
-    no_other (first_other kind.History (names_of members)) (Ok (user, History issue (record { from = from; count = count }))))))
+    no_other (first_other kind.History (names_of members))
+    (Ok (user, History issue (record { from = from; count = count }))))))
 
 abbrev pub search_of : Data → Members → List ℕ → Asked
 search_of d members user =
     need (text_at (codes "jql") d) (codes "jql") (λ jql.
     need (from_if_there d) (codes "from") (λ from.
     need (count_if_there 1000 d) (codes "count") (λ count.
-    no_other (first_other kind.Search (names_of members)) (Ok (user, Search jql (record { from = from; count = count }))))))
+    no_other (first_other kind.Search (names_of members))
+    (Ok (user, Search jql (record { from = from; count = count }))))))
 
 abbrev pub ranks_of : Data → Members → List ℕ → Asked
 ranks_of d members user =
     need (from_if_there d) (codes "from") (λ from.
     need (count_if_there 1000 d) (codes "count") (λ count.
-    no_other (first_other kind.Ranks (names_of members)) (Ok (user, Ranks (record { from = from; count = count })))))
+    no_other (first_other kind.Ranks (names_of members))
+    (Ok (user, Ranks (record { from = from; count = count })))))
 
 abbrev pub balance_of : Members → List ℕ → Asked
-balance_of members user = no_other (first_other kind.Balance (names_of members)) (Ok (user, Balance))
+balance_of members user =
+    no_other (first_other kind.Balance (names_of members)) (Ok (user, Balance))
 
 abbrev pub filter_of : Data → Members → List ℕ → Asked
 filter_of d members user =
     need (number_at (codes "filter") d) (codes "filter") (λ filter.
     need (from_if_there d) (codes "from") (λ from.
     need (count_if_there 1000 d) (codes "count") (λ count.
-    no_other (first_other kind.Filter (names_of members)) (Ok (user, Filter (record { 0 = filter }) (record { from = from; count = count }))))))
+    no_other (first_other kind.Filter (names_of members))
+    (Ok (user, Filter (record { 0 = filter }) (record { from = from; count = count }))))))
 
 abbrev pub board_of : Data → Members → List ℕ → Asked
 board_of d members user =
     need (number_at (codes "board") d) (codes "board") (λ board.
     need (from_if_there d) (codes "from") (λ from.
     need (count_if_there 1000 d) (codes "count") (λ count.
-    no_other (first_other kind.Board (names_of members)) (Ok (user, Board (record { 0 = board }) (record { from = from; count = count }))))))
+    no_other (first_other kind.Board (names_of members))
+    (Ok (user, Board (record { 0 = board }) (record { from = from; count = count }))))))
 
 abbrev pub burndown_of : Data → Members → List ℕ → Asked
 burndown_of d members user =
     need (number_at (codes "sprint") d) (codes "sprint") (λ sprint.
     need (from_if_there d) (codes "from") (λ from.
     need (count_if_there 1000 d) (codes "count") (λ count.
-    no_other (first_other kind.Burndown (names_of members)) (Ok (user, Burndown (record { 0 = sprint }) (record { from = from; count = count }))))))
+    no_other (first_other kind.Burndown (names_of members))
+    (Ok (user, Burndown (record { 0 = sprint }) (record { from = from; count = count }))))))
 
 abbrev pub asked_by : CallKind → Data → Members → List ℕ → Asked
 asked_by kind.Create d members user = create_of d members user
@@ -296,7 +323,8 @@ abbrev pub call_of : Data → Asked
 call_of d =
     need (as_object d) (codes "line") (λ members.
     need (text_at (codes "user") d) (codes "user") (λ user.
-    need (option_and_then kind_named (text_at (codes "call") d)) (codes "call") (λ kind. asked_by kind d members user)))
+    need (option_and_then kind_named (text_at (codes "call") d)) (codes "call")
+    (λ kind. asked_by kind d members user)))
 
 -- the JSON of a line
 abbrev pub data_of : List ℕ → Option Data

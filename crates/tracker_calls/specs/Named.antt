@@ -12,7 +12,8 @@ abbrev pub is_external : List ℕ → Bool
 is_external text = is_from_to 1 64 (length text) && list_all (λ b. is_in_range 32 126 b) text
 
 abbrev pub external_given : Data → Option (Option (List ℕ))
-external_given d = option_and_then (λ text. if is_external text then Some (Some text) else None) (as_str d)
+external_given d =
+    option_and_then (λ text. if is_external text then Some (Some text) else None) (as_str d)
 
 abbrev pub external_or_none : Option Data → Option (Option (List ℕ))
 external_or_none None = Some None

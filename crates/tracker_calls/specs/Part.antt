@@ -7,7 +7,8 @@ use Rattle.tracker_calls.specs.declared.call.Part.{Part}
 -- a whole number between bounds
 abbrev pub whole_within : ℕ → ℕ → Data → Option ℕ
 whole_within least most d =
-    option_and_then (λ n. if nat_le least n && nat_le n most then Some n else None) (option_and_then as_u64 (as_number d))
+    option_and_then (λ n. if nat_le least n && nat_le n most then Some n else None)
+    (option_and_then as_u64 (as_number d))
 
 -- the same of a member that may be absent, and then is that number
 abbrev pub whole_or : ℕ → ℕ → ℕ → Option Data → Option ℕ
@@ -30,7 +31,8 @@ count_at most d = option_and_then (whole_within 1 most) (get (codes "count") d)
 abbrev pub part_fault : ℕ → Part → Option (List ℕ)
 part_fault most part =
     if not (nat_le part.from 2_000_000) then Some (codes "from")
-    else (if not (nat_le 1 part.count && nat_le part.count most) then Some (codes "count") else None)
+    else (if not (nat_le 1 part.count && nat_le part.count most) then Some (codes "count")
+    else None)
 
 -- the part of a list
 abbrev pub part_of : {A : Type 0} → Part → List A → List A

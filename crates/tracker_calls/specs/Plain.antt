@@ -82,7 +82,8 @@ AskFor kind ms call =
 abbrev pub last_value : List ℕ → Option Data → List Named → Option Data
 last_value name before [] = before
 last_value name before (m ∷ ms) =
-    last_value name (if bytes_eq name m.0.now then Some (plain_data (value_view m.1)) else before) ms
+    last_value name (if bytes_eq name m.0.now then Some (plain_data (value_view m.1)) else before)
+    ms
 
 -- lent texts by name, in byte order
 abbrev pub texts_by : List (Bor (List ℕ) × Bor (List ℕ)) → Members

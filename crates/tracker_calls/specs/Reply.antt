@@ -90,10 +90,13 @@ with_fields members (f ∷ fs) = with_fields (put f.name (shown_data f.value) me
 -- the members under `ok`
 abbrev pub create_data : Bool → ℕ → List ℕ → Data
 create_data already change issue = object
-    (member (codes "already") (boolean already) (member (codes "change") (natural change) (member (codes "issue") (string issue) no_members)))
+    (member (codes "already") (boolean already)
+    (member (codes "change") (natural change) (member (codes "issue") (string issue) no_members)))
 
 abbrev pub edit_data : Option ℕ → List ℕ → Data
-edit_data change issue = object (member (codes "change") (natural_or_null change) (member (codes "issue") (string issue) no_members))
+edit_data change issue =
+    object (member (codes "change") (natural_or_null change)
+    (member (codes "issue") (string issue) no_members))
 
 abbrev pub tick_data : ℕ → Data
 tick_data moment = object (member (codes "moment") (natural moment) no_members)
@@ -116,13 +119,17 @@ entry_data e = object
 
 abbrev pub history_data : List ToldEntry → ℕ → Data
 history_data entries total = object
-    (member (codes "entries") (array (items_of (map entry_data entries))) (member (codes "total") (natural total) no_members))
+    (member (codes "entries") (array (items_of (map entry_data entries)))
+    (member (codes "total") (natural total) no_members))
 
 abbrev pub search_data : List (List ℕ) → ℕ → Data
-search_data issues total = object (member (codes "issues") (texts_data issues) (member (codes "total") (natural total) no_members))
+search_data issues total =
+    object (member (codes "issues") (texts_data issues)
+    (member (codes "total") (natural total) no_members))
 
 abbrev pub move_data : List ℕ → List ℕ → Data
-move_data issue rank = object (member (codes "issue") (string issue) (member (codes "rank") (string rank) no_members))
+move_data issue rank =
+    object (member (codes "issue") (string issue) (member (codes "rank") (string rank) no_members))
 
 -- a key with its rank
 abbrev pub ranked_data : RankedKey → Data
@@ -130,13 +137,17 @@ ranked_data r = array (item (string r.issue) (item (string r.rank) no_items))
 
 abbrev pub ranks_data : List RankedKey → ℕ → Data
 ranks_data ranks total = object
-    (member (codes "ranks") (array (items_of (map ranked_data ranks))) (member (codes "total") (natural total) no_members))
+    (member (codes "ranks") (array (items_of (map ranked_data ranks)))
+    (member (codes "total") (natural total) no_members))
 
 abbrev pub rebalance_start_data : ℕ → ℕ → Data
-rebalance_start_data from to = object (member (codes "from") (natural from) (member (codes "to") (natural to) no_members))
+rebalance_start_data from to =
+    object (member (codes "from") (natural from) (member (codes "to") (natural to) no_members))
 
 abbrev pub rebalance_step_data : ℕ → ℕ → Data
-rebalance_step_data left moved = object (member (codes "left") (natural left) (member (codes "moved") (natural moved) no_members))
+rebalance_step_data left moved =
+    object (member (codes "left") (natural left)
+    (member (codes "moved") (natural moved) no_members))
 
 abbrev pub balance_data : BalanceState → ℕ → Bool → Data
 balance_data (state.Idle bucket) longest offer = object
@@ -153,7 +164,9 @@ balance_data (state.Moving from left to) longest offer = object
     (member (codes "to") (natural to) no_members))))))
 
 abbrev pub save_filter_data : ℕ → ℕ → Data
-save_filter_data filter members = object (member (codes "filter") (natural filter) (member (codes "members") (natural members) no_members))
+save_filter_data filter members =
+    object (member (codes "filter") (natural filter)
+    (member (codes "members") (natural members) no_members))
 
 -- answers that tell a filter or a board by its number
 abbrev pub filter_number_data : ℕ → Data
@@ -164,22 +177,28 @@ board_number_data board = object (member (codes "board") (natural board) no_memb
 
 -- a status with the issues that have it
 abbrev pub column_data : Column → Data
-column_data c = object (member (codes "issues") (texts_data c.issues) (member (codes "status") (string c.status) no_members))
+column_data c =
+    object (member (codes "issues") (texts_data c.issues)
+    (member (codes "status") (string c.status) no_members))
 
 abbrev pub board_data : List Column → ℕ → Data
 board_data columns total = object
-    (member (codes "columns") (array (items_of (map column_data columns))) (member (codes "total") (natural total) no_members))
+    (member (codes "columns") (array (items_of (map column_data columns)))
+    (member (codes "total") (natural total) no_members))
 
 abbrev pub make_sprint_data : ℕ → Data
 make_sprint_data sprint = object (member (codes "sprint") (natural sprint) no_members)
 
 -- a group and how many members it has
 abbrev pub set_group_data : List ℕ → ℕ → Data
-set_group_data group members = object (member (codes "group") (string group) (member (codes "members") (natural members) no_members))
+set_group_data group members =
+    object (member (codes "group") (string group)
+    (member (codes "members") (natural members) no_members))
 
 abbrev pub sprint_phase_data : ℕ → SprintPhase → Data
 sprint_phase_data sprint phase = object
-    (member (codes "sprint") (natural sprint) (member (codes "state") (string (phase_name phase)) no_members))
+    (member (codes "sprint") (natural sprint)
+    (member (codes "state") (string (phase_name phase)) no_members))
 
 -- a change of what a sprint has left, in thousandths of points
 abbrev pub burned_data : BurnedRow → Data
@@ -220,41 +239,59 @@ answer_data (answer.Board columns total) = board_data columns total
 answer_data (answer.MakeSprint sprint) = make_sprint_data sprint.0
 answer_data (answer.SetGroup group members) = set_group_data group members
 answer_data (answer.SprintPhase sprint phase) = sprint_phase_data sprint.0 phase
-answer_data (answer.Burndown left rows start phase total) = burndown_data left rows start phase total
+answer_data (answer.Burndown left rows start phase total) =
+    burndown_data left rows start phase total
 
 -- the members under `refused`
 abbrev pub form_data : List ℕ → Data
-form_data name = object (member (codes "member") (string name) (member (codes "no") (natural 1) no_members))
+form_data name =
+    object (member (codes "member") (string name) (member (codes "no") (natural 1) no_members))
 
 abbrev pub unknown_data : Thing → List ℕ → Data
-unknown_data kind name = object (member (codes "kind") (string (thing_name kind)) (member (codes "name") (string name) (member (codes "no") (natural 2) no_members)))
+unknown_data kind name =
+    object (member (codes "kind") (string (thing_name kind))
+    (member (codes "name") (string name) (member (codes "no") (natural 2) no_members)))
 
 abbrev pub forbidden_data : Permission → Option (List ℕ) → Data
 forbidden_data p project = object
-    (member (codes "no") (natural 3) (member (codes "permission") (string (permission_name p)) (member (codes "project") (text_or_null project) no_members)))
+    (member (codes "no") (natural 3)
+    (member (codes "permission") (string (permission_name p))
+    (member (codes "project") (text_or_null project) no_members)))
 
 -- refusals that tell a check by its number
 abbrev pub index_data : ℕ → ℕ → Data
-index_data refusal_number index = object (member (codes "index") (natural index) (member (codes "no") (natural refusal_number) no_members))
+index_data refusal_number index =
+    object (member (codes "index") (natural index)
+    (member (codes "no") (natural refusal_number) no_members))
 
 abbrev pub unfit_data : List ℕ → Data
-unfit_data field = object (member (codes "field") (string field) (member (codes "no") (natural 6) no_members))
+unfit_data field =
+    object (member (codes "field") (string field) (member (codes "no") (natural 6) no_members))
 
 abbrev pub query_data : ℕ → ℕ → Data
-query_data kind place = object (member (codes "kind") (natural kind) (member (codes "no") (natural 7) (member (codes "place") (natural place) no_members)))
+query_data kind place =
+    object (member (codes "kind") (natural kind)
+    (member (codes "no") (natural 7) (member (codes "place") (natural place) no_members)))
 
 abbrev pub no_room_data : Option (List ℕ) → Option (List ℕ) → Data
 no_room_data low high = object
-    (member (codes "high") (text_or_null high) (member (codes "low") (text_or_null low) (member (codes "no") (natural 8) no_members)))
+    (member (codes "high") (text_or_null high)
+    (member (codes "low") (text_or_null low) (member (codes "no") (natural 8) no_members)))
 
 abbrev pub sprint_is_data : SprintPhase → Data
-sprint_is_data phase = object (member (codes "no") (natural 9) (member (codes "state") (string (phase_name phase)) no_members))
+sprint_is_data phase =
+    object (member (codes "no") (natural 9)
+    (member (codes "state") (string (phase_name phase)) no_members))
 
 abbrev pub limit_data : Limit → Data
-limit_data l = object (member (codes "limit") (string (limit_name l)) (member (codes "no") (natural 10) (member (codes "number") (natural (limit_number l)) no_members)))
+limit_data l =
+    object (member (codes "limit") (string (limit_name l))
+    (member (codes "no") (natural 10)
+    (member (codes "number") (natural (limit_number l)) no_members)))
 
 abbrev pub earlier_data : ℕ → Data
-earlier_data kept = object (member (codes "kept") (natural kept) (member (codes "no") (natural 11) no_members))
+earlier_data kept =
+    object (member (codes "kept") (natural kept) (member (codes "no") (natural 11) no_members))
 
 -- the bucket, or the two of them
 abbrev pub balance_text : BalanceKept → List ℕ
@@ -262,12 +299,15 @@ balance_text (kept.Idle bucket) = codes "idle " ++ decimal bucket
 balance_text (kept.Moving from to) = codes "moving " ++ (decimal from ++ 32 ∷ decimal to)
 
 abbrev pub balance_is_data : BalanceKept → Data
-balance_is_data balance = object (member (codes "kept") (string (balance_text balance)) (member (codes "no") (natural 12) no_members))
+balance_is_data balance =
+    object (member (codes "kept") (string (balance_text balance))
+    (member (codes "no") (natural 12) no_members))
 
 -- the key of the issue that has an external id
 abbrev pub external_is_data : List ℕ → List ℕ → Data
 external_is_data external kept = object
-    (member (codes "external") (string external) (member (codes "kept") (string kept) (member (codes "no") (natural 13) no_members)))
+    (member (codes "external") (string external)
+    (member (codes "kept") (string kept) (member (codes "no") (natural 13) no_members)))
 
 abbrev pub number_data : ℕ → Data
 number_data n = object (member (codes "no") (natural n) no_members)

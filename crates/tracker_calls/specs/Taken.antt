@@ -22,7 +22,9 @@ text_in name d = unwrap_or (text_at name d) []
 
 -- who asks for which call of that kind by an object with a text `user`
 abbrev pub asked_in : CallKind → BTreeMap (String Global) Value → Asked
-asked_in kind members = asked_by kind (object_of members) (members_view members.entries) (text_in (codes "user") (object_of members))
+asked_in kind members =
+    asked_by kind (object_of members) (members_view members.entries)
+    (text_in (codes "user") (object_of members))
 
 -- the call of either move
 abbrev pub moved : CallKind → List ℕ → List ℕ → Call

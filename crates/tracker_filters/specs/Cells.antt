@@ -12,8 +12,10 @@ use Rattle.tracker_filters.specs.Saved.{number}
 use Rattle.tracker_filters.specs.Watched.{CellIsRight}
 
 -- each filter's cell of one issue is right, and no other issue's cell changes
-pub record SettlesIssue (around : Surroundings) (moment : ℕ) (fs : List Filter) (h : History) (issue : ℕ) (old new : Views) : Type 0 where
-  pub right : (n : ℕ) (f : Filter) → by_number number n fs ≡ Some f → CellIsRight around moment f h (cell_of new n issue)
+pub record SettlesIssue (around : Surroundings) (moment : ℕ) (fs : List Filter) (h : History)
+    (issue : ℕ) (old new : Views) : Type 0 where
+  pub right : (n : ℕ) (f : Filter) → by_number number n fs ≡ Some f
+      → CellIsRight around moment f h (cell_of new n issue)
   pub others : (n j : ℕ) → (j ≡ issue → ⊥) → cell_of new n j ≡ cell_of old n j
   pub same : shape new ≡ shape old
 
@@ -23,7 +25,8 @@ cell_from t = record { holds = t.holds; end = t.until }
 
 -- one filter's cells are these verdicts, and no other filter's cell changes
 pub record SettlesFilter (verdicts : List Told) (filter : ℕ) (old new : Views) : Type 0 where
-  pub these : (place : ℕ) (t : Told) → slice_get verdicts place ≡ Some t → cell_of new filter (place + 1) ≡ cell_from t
+  pub these : (place : ℕ) (t : Told) → slice_get verdicts place ≡ Some t
+      → cell_of new filter (place + 1) ≡ cell_from t
   pub others : (n j : ℕ) → (n ≡ filter → ⊥) → cell_of new n j ≡ cell_of old n j
   pub same : shape new ≡ shape old
 
@@ -36,6 +39,9 @@ abbrev pub NoneIsDue : Views → ℕ → Type 0
 NoneIsDue v to = (n issue : ℕ) → is_over to (cell_of v n issue).end ≡ false
 
 -- each cell whose end hasn't come is right at that moment
-pub record ArePending (around : Surroundings) (to : ℕ) (hs : List History) (fs : List Filter) (v : Views) : Type 0 where
-  pub each : (n place : ℕ) (f : Filter) (h : History) → by_number number n fs ≡ Some f → slice_get hs place ≡ Some h →
-      is_over to (cell_of v n (place + 1)).end ≡ false → CellIsRight around to f h (cell_of v n (place + 1))
+pub record ArePending (around : Surroundings) (to : ℕ) (hs : List History) (fs : List Filter)
+    (v : Views) : Type 0 where
+  pub each : (n place : ℕ) (f : Filter) (h : History) → by_number number n fs ≡ Some f
+      → slice_get hs place ≡ Some h →
+      is_over to (cell_of v n (place + 1)).end ≡ false
+      → CellIsRight around to f h (cell_of v n (place + 1))

@@ -85,14 +85,19 @@ abbrev pub members_cost : List Filter → ℕ → ℕ
 members_cost filters issues = sum_by (asking_cost issues) filters
 
 -- one filter's cells are right, and no other filter's cell changes
-pub record SettlesRow (around : Surroundings) (moment : ℕ) (f : Filter) (hs : List History) (old new : Views) : Type 0 where
-  pub right : (place : ℕ) (h : History) → slice_get hs place ≡ Some h → CellIsRight around moment f h (cell_of new f.no.0 (place + 1))
+pub record SettlesRow (around : Surroundings) (moment : ℕ) (f : Filter) (hs : List History)
+    (old new : Views) : Type 0 where
+  pub right : (place : ℕ) (h : History) → slice_get hs place ≡ Some h
+      → CellIsRight around moment f h (cell_of new f.no.0 (place + 1))
   pub others : (n j : ℕ) → (n ≡ f.no.0 → ⊥) → cell_of new n j ≡ cell_of old n j
   pub same : shape new ≡ shape old
 
 -- the cells of each filter that asks for members are right, and no other filter's cell changes
-pub record SettlesMembers (around : Surroundings) (moment : ℕ) (fs : List Filter) (hs : List History) (old new : Views) : Type 0 where
-  pub right : (n place : ℕ) (f : Filter) (h : History) → by_number number n fs ≡ Some f → slice_get hs place ≡ Some h →
+pub record SettlesMembers (around : Surroundings) (moment : ℕ) (fs : List Filter)
+    (hs : List History) (old new : Views) : Type 0 where
+  pub right : (n place : ℕ) (f : Filter) (h : History) → by_number number n fs ≡ Some f
+      → slice_get hs place ≡ Some h →
       asks_members f ≡ true → CellIsRight around moment f h (cell_of new n (place + 1))
-  pub others : (n j : ℕ) (f : Filter) → by_number number n fs ≡ Some f → asks_members f ≡ false → cell_of new n j ≡ cell_of old n j
+  pub others : (n j : ℕ) (f : Filter) → by_number number n fs ≡ Some f → asks_members f ≡ false
+      → cell_of new n j ≡ cell_of old n j
   pub same : shape new ≡ shape old

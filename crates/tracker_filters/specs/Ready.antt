@@ -7,7 +7,9 @@ use Rattle.jql_eval.specs.Told.{Told}
 use Rattle.jql_eval.specs.Right.{IsRight}
 
 -- one for each issue, in order, and each is right
-pub record AreVerdicts (around : Surroundings) (moment : ℕ) (query : Option Condition) (hs : List History) (verdicts : List Told) : Type 0 where
+pub record AreVerdicts (around : Surroundings) (moment : ℕ) (query : Option Condition)
+    (hs : List History) (verdicts : List Told) : Type 0 where
   pub many : length verdicts ≡ length hs
-  pub right : (place : ℕ) (h : History) (t : Told) → slice_get hs place ≡ Some h → slice_get verdicts place ≡ Some t →
+  pub right : (place : ℕ) (h : History) (t : Told) → slice_get hs place ≡ Some h
+      → slice_get verdicts place ≡ Some t →
       IsRight around h query moment t.holds t.until

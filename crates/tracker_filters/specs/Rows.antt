@@ -22,7 +22,14 @@ bo = record { 0 = 1 }
 
 -- a filter of every issue
 abbrev filter_of : ℕ → UserNo → List ℕ → Filter
-filter_of n owner name = record { no = record { 0 = n }; owner = owner; name = name; text = []; query = record { cond = None; order = record { keys = [] } } }
+filter_of n owner name =
+    record {
+      no = record { 0 = n };
+      owner = owner;
+      name = name;
+      text = [];
+      query = record { cond = None; order = record { keys = [] } };
+    }
 
 abbrev first : List Filter
 first = filter_of 1 anna (codes "a") ∷ filter_of 2 anna (codes "b") ∷ []
@@ -31,7 +38,8 @@ first = filter_of 1 anna (codes "a") ∷ filter_of 2 anna (codes "b") ∷ []
 pub second_number : free_from number 1 (filter_of 1 anna (codes "a") ∷ []) ≡ 2
 second_number = refl
 
-pub second_behind : put_by_number number (filter_of 2 anna (codes "b")) (filter_of 1 anna (codes "a") ∷ []) ≡ first
+pub second_behind : put_by_number number (filter_of 2 anna (codes "b"))
+    (filter_of 1 anna (codes "a") ∷ []) ≡ first
 second_behind = refl
 
 -- where the first one is dropped its number is given again
@@ -67,22 +75,33 @@ abbrev team : Operand
 team = Operand.MembersOf (record { 0 = 1 })
 
 abbrev in_list : List Operand → Condition
-in_list operands = now (record { subject = Subject.Field assignee; operator = Operator.In operands })
+in_list operands =
+    now (record { subject = Subject.Field assignee; operator = Operator.In operands })
 
 abbrev changed_by : List Operand → Condition
-changed_by users = past (record { field = assignee; test = PastTest.Changed []; predicates = PastPredicate.By users ∷ [] })
+changed_by users =
+    past (record {
+      field = assignee;
+      test = PastTest.Changed [];
+      predicates = PastPredicate.By users
+          ∷ [];
+    })
 
 -- one item of a list, or one author, is enough
 pub in_the_team : condition_asks (in_list (Operand.User anna ∷ team ∷ [])) ≡ true
 unfolding condition_asks
 in_the_team = refl
 
-pub by_the_team : condition_asks (all_of (condition (in_list (Operand.User bo ∷ [])) (condition (changed_by (team ∷ [])) no_conditions))) ≡ true
+pub by_the_team : condition_asks
+    (all_of (condition (in_list (Operand.User bo ∷ []))
+    (condition (changed_by (team ∷ [])) no_conditions))) ≡ true
 unfolding condition_asks
 by_the_team = refl
 
 -- users by name ask for none
-pub by_anna : condition_asks (all_of (condition (in_list (Operand.User bo ∷ [])) (condition (changed_by (Operand.User anna ∷ [])) no_conditions))) ≡ false
+pub by_anna : condition_asks (all_of
+    (condition (in_list (Operand.User bo ∷ []))
+    (condition (changed_by (Operand.User anna ∷ [])) no_conditions))) ≡ false
 unfolding condition_asks
 by_anna = refl
 

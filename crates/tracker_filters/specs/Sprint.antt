@@ -25,7 +25,8 @@ is_in_sprint n h = is_sprint n (present h number_of.SPRINT)
 -- an issue whose field sprint doesn't hold it is nowhere in it
 abbrev pub HoldOneSprint : List History → SprintNo → Type 0
 HoldOneSprint hs sprint =
-    (place : ℕ) (h : History) → slice_get hs place ≡ Some h → is_in_sprint sprint.0 h ≡ false → IsNotIn h sprint
+    (place : ℕ) (h : History) → slice_get hs place ≡ Some h → is_in_sprint sprint.0 h ≡ false
+    → IsNotIn h sprint
 
 -- what decides beside issues differs in one sprint, and no issue is in it
 pub record DifferInEmptySprint (one other : Surroundings) (hs : List History) : Type 0 where
@@ -45,9 +46,12 @@ abbrev pub sprint_cost : ℕ → ℕ → List History → ℕ
 sprint_cost filters sprint hs = sum_by (cost_in filters sprint) hs
 
 -- each filter's cells of the sprint's issues are right, and no other cell changes
-pub record SettlesSprint (around : Surroundings) (moment : ℕ) (fs : List Filter) (hs : List History) (sprint : ℕ) (old new : Views) : Type 0 where
-  pub right : (n place : ℕ) (f : Filter) (h : History) → by_number number n fs ≡ Some f → slice_get hs place ≡ Some h →
+pub record SettlesSprint (around : Surroundings) (moment : ℕ) (fs : List Filter) (hs : List History)
+    (sprint : ℕ) (old new : Views) : Type 0 where
+  pub right : (n place : ℕ) (f : Filter) (h : History) → by_number number n fs ≡ Some f
+      → slice_get hs place ≡ Some h →
       is_in_sprint sprint h ≡ true → CellIsRight around moment f h (cell_of new n (place + 1))
-  pub others : (n place : ℕ) (h : History) → slice_get hs place ≡ Some h → is_in_sprint sprint h ≡ false →
+  pub others : (n place : ℕ) (h : History) → slice_get hs place ≡ Some h
+      → is_in_sprint sprint h ≡ false →
       cell_of new n (place + 1) ≡ cell_of old n (place + 1)
   pub same : shape new ≡ shape old

@@ -35,8 +35,10 @@ abbrev pub CellIsRight : Surroundings → ℕ → Filter → History → Cell �
 CellIsRight around moment f h cell = IsRight around h (condition_of f) moment cell.holds cell.end
 
 -- each cell is right
-pub record AreRight (around : Surroundings) (moment : ℕ) (hs : List History) (fs : List Filter) (v : Views) : Type 0 where
-  pub each : (n place : ℕ) (f : Filter) (h : History) → by_number number n fs ≡ Some f → slice_get hs place ≡ Some h →
+pub record AreRight (around : Surroundings) (moment : ℕ) (hs : List History) (fs : List Filter)
+    (v : Views) : Type 0 where
+  pub each : (n place : ℕ) (f : Filter) (h : History) → by_number number n fs ≡ Some f
+      → slice_get hs place ≡ Some h →
       CellIsRight around moment f h (cell_of v n (place + 1))
 
 -- there is a row of cells for each filter, with a cell for each issue
@@ -46,7 +48,8 @@ pub record AreCellsOf (fs : List Filter) (hs : List History) (v : Views) : Type 
   pub few : length hs < 2 ^ 32
 
 -- what the filters keep true of themselves
-pub record AreWatched (fs : List Filter) (v : Views) (hs : List History) (around : Surroundings) (moment : ℕ) : Type 0 where
+pub record AreWatched (fs : List Filter) (v : Views) (hs : List History) (around : Surroundings)
+    (moment : ℕ) : Type 0 where
   pub saved : AreSaved fs
   pub cells : AreCellsOf fs hs v
   pub right : AreRight around moment hs fs v
@@ -65,5 +68,6 @@ pub record HasIssueRoom (w : WatchedFilters) : Type 0 where
 abbrev pub holders_from : ℕ → Surroundings → ℕ → Option Condition → List History → List IssueNo
 holders_from n around moment query [] = []
 holders_from n around moment query (h ∷ hs) =
-    if query_holds around h moment query then record { 0 = n } ∷ holders_from (n + 1) around moment query hs
+    if query_holds around h moment query
+    then record { 0 = n } ∷ holders_from (n + 1) around moment query hs
     else holders_from (n + 1) around moment query hs

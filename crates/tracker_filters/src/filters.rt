@@ -58,9 +58,18 @@ impl Model for Filters {
 
     ghost coded = { Prim.hlevel (codes, cond.the_row.coded) };
 
-    ghost view = { λ w. record { filters = w.list.items; views = w.views; filter_room = vec_capacity w.list; issue_room = vec_capacity w.seen; histories = histories_in w.seen.items; around = surroundings_of w.around.value; moment = w.moment.value } };
+    ghost view = { λ w. record {
+      filters = w.list.items;
+      views = w.views;
+      filter_room = vec_capacity w.list;
+      issue_room = vec_capacity w.seen;
+      histories = histories_in w.seen.items;
+      around = surroundings_of w.around.value;
+      moment = w.moment.value;
+    } };
 
-    ghost invariant = { λ w. AreWatched w.list.items w.views (histories_in w.seen.items) (surroundings_of w.around.value) w.moment.value };
+    ghost invariant = { λ w. AreWatched w.list.items w.views (histories_in w.seen.items)
+        (surroundings_of w.around.value) w.moment.value };
 }
 
 impl Filters {
@@ -267,7 +276,8 @@ impl Filters {
 
     /// Sees that a sprint has come, which no issue is in: no filter is asked, and no cell changes. It takes no memory.
     pub fn see_new_sprint(&mut self, context: &Context)
-        requires { DifferInEmptySprint self.old.around (surroundings_of context.now) self.old.histories }
+        requires { DifferInEmptySprint self.old.around
+            (surroundings_of context.now) self.old.histories }
         ensures { self.new ≡ record self.old { around = surroundings_of context.now } }
     {
         self.around = Snapshot::of(context);

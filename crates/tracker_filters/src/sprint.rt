@@ -44,7 +44,8 @@ fn settle_if_in<L: Ledger>(
         (SettlesIssue (surroundings_of context.now) at filters.now issue.now.history
         issue.now.history.no.0 views.old views.new)
         (views.new ≡ views.old) }
-    ensures steps { steps.new ≡ steps.old + cost_in (length filters.now) sprint.0 issue.now.history }
+    ensures steps { steps.new
+        ≡ steps.old + cost_in (length filters.now) sprint.0 issue.now.history }
 {
     if is_in_sprint(issue, sprint) {
         settle_issue(views, filters, issue, context, at, steps);

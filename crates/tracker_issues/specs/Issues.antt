@@ -19,11 +19,17 @@ histories_of kept = map (λ i. i.history) kept
 
 -- an issue with entries more, for which there was room
 abbrev pub with_entries : RoomyHistory → List Entry → RoomyHistory
-with_entries i entries = record { history = record i.history { entries = i.history.entries ++ entries }; room = i.room - length entries }
+with_entries i entries =
+    record {
+      history = record i.history { entries = i.history.entries ++ entries };
+      room = i.room
+          - length entries;
+    }
 
 -- what the issues keep true of themselves: the index finds what a walk would find, the totals count all entries and text bytes, and
 -- so many more issues have room in the list, among the notes of their projects and in the index
-pub record AreIndexed {S : Type 0} (hs : List History) (by_key : HashMap (String Global) ℕ S) (entries bytes room len capacity noted notes : ℕ) : Type 0 where
+pub record AreIndexed {S : Type 0} (hs : List History) (by_key : HashMap (String Global) ℕ S)
+    (entries bytes room len capacity noted notes : ℕ) : Type 0 where
   pub found : (name : List ℕ) → get_by_text by_key name ≡ place_of_issue name hs
   pub counted : entries ≡ entries_kept hs
   pub weighed : bytes ≡ bytes_kept hs

@@ -43,7 +43,8 @@ impl Model for Issues {
       tally = record { counts = i.counts.items; projects = i.projects.items };
     } };
 
-    ghost invariant = { λ i. AreIndexed (histories_of i.list.items) i.by_key i.entries i.bytes i.room
+    ghost invariant = { λ i. AreIndexed
+        (histories_of i.list.items) i.by_key i.entries i.bytes i.room
         (vec_len i.list) (vec_capacity i.list) (vec_len i.projects) (vec_capacity i.projects) };
 }
 
@@ -151,10 +152,12 @@ impl Issues {
     pub fn push(&mut self, project: ProjectNo, key: String, issue: Issue, bytes: u64)
         requires room { 1 ≤ self.old.room }
         requires there { project.0 < length self.old.tally.counts }
-        requires countable { IfSome (slice_get self.old.tally.counts project.0) (λ n. n + 1 < 2 ^ 32) }
+        requires countable { IfSome (slice_get self.old.tally.counts project.0)
+            (λ n. n + 1 < 2 ^ 32) }
         requires key { string_bytes key ≡ issue.history.key }
         requires bytes { bytes ≡ history_bytes issue.history }
-        requires few { entries_kept (histories_of self.old.kept) + length issue.history.entries < 2 ^ 64 }
+        requires few { entries_kept (histories_of self.old.kept) + length issue.history.entries
+            < 2 ^ 64 }
         requires light { bytes_kept (histories_of self.old.kept) + bytes < 2 ^ 64 }
         ensures kept { self.new.kept ≡ self.old.kept ++ issue ∷ [] }
         ensures counts { IfSome (slice_get self.old.tally.counts project.0) (λ n.
@@ -176,7 +179,10 @@ impl Issues {
     pub fn reserve_entries(&mut self, place: usize, n: usize) -> Result<(), Memory>
         requires { place < length self.old.kept }
         ensures ok { OnOk result (IfSome (slice_get self.old.kept place) (λ i.
-            self.new ≡ record self.old { kept = slice_set self.old.kept place (record i { room = n }) })) }
+            self.new ≡ record self.old {
+              kept = slice_set self.old.kept place
+                  (record i { room = n });
+            })) }
         ensures err { OnErr result (self.new ≡ self.old) }
         ensures room { self.new.room ≡ self.old.room }
         ensures tally { self.new.tally ≡ self.old.tally }
@@ -192,7 +198,8 @@ impl Issues {
         requires bytes { bytes ≡ sum_by entry_bytes group.entries }
         requires light { bytes_kept (histories_of self.old.kept) + bytes < 2 ^ 64 }
         requires group { IfSome (slice_get self.old.kept place) (λ i.
-            (length group.entries ≤ i.room) × MayAdd i.history group.change group.at group.author group.entries) }
+            (length group.entries ≤ i.room)
+            × MayAdd i.history group.change group.at group.author group.entries) }
         ensures kept { IfSome (slice_get self.old.kept place) (λ i.
             self.new.kept ≡ slice_set self.old.kept place (with_entries i group.entries)) }
         ensures room { self.new.room ≡ self.old.room }
@@ -219,7 +226,8 @@ fn no_counts(alloc: Global, projects: &[Project]) -> Result<Vec<u32>, Memory>
 fn count_one(counts: &mut [u32], project: ProjectNo)
     requires there { project.0 < length counts.old }
     requires countable { IfSome (slice_get counts.old project.0) (λ n. n + 1 < 2 ^ 32) }
-    ensures { IfSome (slice_get counts.old project.0) (λ n. counts.new ≡ slice_set counts.old project.0 (n + 1)) }
+    ensures { IfSome (slice_get counts.old project.0)
+        (λ n. counts.new ≡ slice_set counts.old project.0 (n + 1)) }
 {
     counts[usize::from(project.0)] += 1;
 }
@@ -228,7 +236,8 @@ fn count_one(counts: &mut [u32], project: ProjectNo)
 fn index_key(by_key: &mut HashMap<String, usize>, key: String, place: usize)
     requires { 1 ≤ spare by_key.old }
     ensures found { (name : List ℕ) → get_by_text by_key.new name
-        ≡ option_or (get_by_text by_key.old name) (if bytes_eq (string_bytes key) name then Some place else None) }
+        ≡ option_or (get_by_text by_key.old name)
+        (if bytes_eq (string_bytes key) name then Some place else None) }
     ensures spare { spare by_key.old ≤ spare by_key.new + 1 }
 {
     if by_key.contains_key(key.as_str()) {

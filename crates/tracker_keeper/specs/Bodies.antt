@@ -41,7 +41,9 @@ present_data balance change format moment = object
 -- each value is a member of its field's name, wherever its name belongs
 abbrev pub with_values : Names → Members → List Change → Members
 with_values names members [] = members
-with_values names members (c ∷ cs) = with_values names (put (field_name names.fields c.field.0) (value_data names c.field.0 c.to) members) cs
+with_values names members (c ∷ cs) =
+    with_values names (put (field_name names.fields c.field.0)
+    (value_data names c.field.0 c.to) members) cs
 
 unfoldable pub issue_data : Names → List ℕ → ℕ → ℕ → UserNo → List Change → Data
 issue_data names key change at author values = object
@@ -89,7 +91,9 @@ filter_data jql name owner = object
     (member (codes "owner") (string owner) no_members)))
 
 unfoldable pub board_data : ℕ → List ℕ → Data
-board_data filter name = object (member (codes "filter") (natural filter) (member (codes "name") (string name) no_members))
+board_data filter name =
+    object (member (codes "filter") (natural filter)
+    (member (codes "name") (string name) no_members))
 
 unfoldable pub members_data : List (List ℕ) → Data
 members_data names = object (member (codes "members") (texts_data names) no_members)
@@ -100,12 +104,17 @@ user_names users members = map (λ user. name_at users user.0) members
 
 unfoldable pub body_text : Names → Part → List ℕ
 body_text names (part.Setup text) = text
-body_text names (part.Present balance change format moment) = compact_text (present_data balance change format moment)
-body_text names (part.Issue row_no key change at author values) = compact_text (issue_data names key change at author values)
-body_text names (part.Group issue group) = compact_text (group_data names group.at group.author group.entries issue.0)
+body_text names (part.Present balance change format moment) =
+    compact_text (present_data balance change format moment)
+body_text names (part.Issue row_no key change at author values) =
+    compact_text (issue_data names key change at author values)
+body_text names (part.Group issue group) =
+    compact_text (group_data names group.at group.author group.entries issue.0)
 body_text names (part.Rank issue rank) = rank_text rank
 body_text names (part.External issue external) = external
 body_text names (part.Sprint row_no sprint) = compact_text (sprint_data sprint.name sprint.state)
-body_text names (part.Filter row_no owner name jql) = compact_text (filter_data jql name (name_at names.users owner.0))
+body_text names (part.Filter row_no owner name jql) =
+    compact_text (filter_data jql name (name_at names.users owner.0))
 body_text names (part.Board row_no name filter) = compact_text (board_data filter.0 name)
-body_text names (part.Members group members) = compact_text (members_data (user_names names.users members))
+body_text names (part.Members group members) =
+    compact_text (members_data (user_names names.users members))

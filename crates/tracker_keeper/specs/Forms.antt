@@ -45,7 +45,8 @@ is_balance (Moving from to) = nat_lt from 3 && (to == next_bucket from)
 abbrev pub HasStamps : SprintState → Type 0
 HasStamps Future = Unit {0}
 HasStamps (Active at change) = IsStamp at change
-HasStamps (Closed start_at start_change at change) = IsStamp start_at start_change × IsStamp at change
+HasStamps (Closed start_at start_change at change) =
+    IsStamp start_at start_change × IsStamp at change
 
 -- one of so many users
 abbrev pub is_user : ℕ → UserNo → Bool
@@ -76,7 +77,8 @@ are_among (n ∷ ns) (c ∷ cs) = if c.field.0 == n then are_among ns cs else ar
 -- opening values that are empty are left out, and the others stand in the order of the fields
 abbrev pub are_opening : Names → List Change → Bool
 are_opening names values =
-    list_all (λ c. is_filled c.to && may_hold names c.field.0 c.to) values && are_among (field_numbers names.fields) values
+    list_all (λ c. is_filled c.to && may_hold names c.field.0 c.to) values
+    && are_among (field_numbers names.fields) values
 
 -- the key is that of an issue of one of the projects
 pub record IsIssueKey (projects : List (List ℕ)) (key : List ℕ) : Type 0 where
@@ -97,7 +99,8 @@ pub record IsGroupEntry (names : Names) (change at : ℕ) (author : UserNo) (e :
 
 -- ---- what the parts of each kind want
 
-pub record IsIssuePart (names : Names) (projects : List (List ℕ)) (row_no : ℕ) (key : List ℕ) (change at : ℕ) (author : UserNo) (values : List Change) : Type 0 where
+pub record IsIssuePart (names : Names) (projects : List (List ℕ)) (row_no : ℕ) (key : List ℕ)
+    (change at : ℕ) (author : UserNo) (values : List Change) : Type 0 where
   pub numbered : IsNumber row_no
   pub keyed : IsIssueKey projects key
   pub counted : IsChangeNumber change
@@ -105,7 +108,8 @@ pub record IsIssuePart (names : Names) (projects : List (List ℕ)) (row_no : �
   pub authored : is_user (length names.users) author ≡ true
   pub opened : are_opening names values ≡ true
 
-pub record IsGroupPart (names : Names) (issue change at : ℕ) (author : UserNo) (entries : List Entry) : Type 0 where
+pub record IsGroupPart (names : Names) (issue change at : ℕ) (author : UserNo)
+    (entries : List Entry) : Type 0 where
   pub numbered : IsNumber issue
   pub counted : IsChangeNumber change
   pub timely : at ≤ last_moment
@@ -121,7 +125,8 @@ pub record IsSprintPart (row_no : ℕ) (name : List ℕ) (state : SprintState) :
   pub named : is_title name ≡ true
   pub stamped : HasStamps state
 
-pub record IsFilterPart (users : List (List ℕ)) (row_no : ℕ) (owner : UserNo) (name : List ℕ) : Type 0 where
+pub record IsFilterPart (users : List (List ℕ)) (row_no : ℕ) (owner : UserNo)
+    (name : List ℕ) : Type 0 where
   pub numbered : IsNumber row_no
   pub owned : is_user (length users) owner ≡ true
   pub named : is_title name ≡ true
@@ -135,7 +140,8 @@ pub record IsExternalPart (row_no : ℕ) (external : List ℕ) : Type 0 where
   pub numbered : IsNumber row_no
   pub formed : is_external external ≡ true
 
-pub record IsMembersPart (users groups : List (List ℕ)) (group : ℕ) (members : List UserNo) : Type 0 where
+pub record IsMembersPart (users groups : List (List ℕ)) (group : ℕ)
+    (members : List UserNo) : Type 0 where
   pub from_one : 1 ≤ group
   pub there : group ≤ length groups
   pub listed : is_user_list (length users) members ≡ true

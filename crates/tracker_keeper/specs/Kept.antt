@@ -23,14 +23,17 @@ IsSetupText text = (parts : Parts) × (setup_in text ≡ Ok parts)
 unfoldable pub IsPart : Parts → Part → Type 0
 IsPart setup (part.Setup text) = IsSetupText text
 IsPart setup (part.Present balance change format moment) = IsPresentPart balance change moment
-IsPart setup (part.Issue row_no key change at author values) = IsIssuePart (part_names setup) (part_keys setup) row_no.0 key change at author values
-IsPart setup (part.Group issue group) = IsGroupPart (part_names setup) issue.0 group.change group.at group.author group.entries
+IsPart setup (part.Issue row_no key change at author values) =
+    IsIssuePart (part_names setup) (part_keys setup) row_no.0 key change at author values
+IsPart setup (part.Group issue group) =
+    IsGroupPart (part_names setup) issue.0 group.change group.at group.author group.entries
 IsPart setup (part.Rank issue rank) = IsNumber issue.0 × IsRank rank
 IsPart setup (part.External issue external) = IsExternalPart issue.0 external
 IsPart setup (part.Sprint row_no sprint) = IsSprintPart row_no.0 sprint.name sprint.state
 IsPart setup (part.Filter row_no owner name jql) = IsFilterPart setup.users row_no.0 owner name
 IsPart setup (part.Board row_no name filter) = IsBoardPart row_no.0 name filter.0
-IsPart setup (part.Members group members) = IsMembersPart setup.users (map (λ g. g.name) setup.group) group.0 members
+IsPart setup (part.Members group members) =
+    IsMembersPart setup.users (map (λ g. g.name) setup.group) group.0 members
 
 -- the part is of that kind and has that number
 pub record IsPartAt (setup : Parts) (kind row_no : ℕ) (p : Part) : Type 0 where

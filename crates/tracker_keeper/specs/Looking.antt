@@ -41,7 +41,8 @@ abbrev pub text_at : List ℕ → Data → Option (List ℕ)
 text_at name d = option_and_then as_str (get name d)
 
 abbrev pub title_at : List ℕ → Data → Option (List ℕ)
-title_at name d = option_and_then (λ text. if is_title text then Some text else None) (text_at name d)
+title_at name d =
+    option_and_then (λ text. if is_title text then Some text else None) (text_at name d)
 
 abbrev pub whole_at : List ℕ → Data → Option ℕ
 whole_at name d = option_and_then whole_of (get name d)
@@ -55,7 +56,8 @@ small_at name d = option_and_then small_of (get name d)
 -- the user of a name
 abbrev pub user_at : List (List ℕ) → List ℕ → Data → Option UserNo
 user_at users name d =
-    option_map (λ place. record { 0 = place }) (option_and_then (λ text. place_named text users) (text_at name d))
+    option_map (λ place. record { 0 = place })
+    (option_and_then (λ text. place_named text users) (text_at name d))
 
 -- ---- parts that name nothing of the setup but users
 
@@ -71,26 +73,32 @@ bucket_of d = option_and_then (λ n. if nat_lt n 3 then Some n else None) (natur
 abbrev pub balance_of : Data → Option Balance
 balance_of (array (item one no_items)) = option_map Idle (bucket_of one)
 balance_of (array (item one (item other no_items))) =
-    option_and_then (λ from. option_and_then (λ to. if to == next_bucket from then Some (Moving from to) else None) (bucket_of other)) (bucket_of one)
+    option_and_then (λ from. option_and_then
+    (λ to. if to == next_bucket from then Some (Moving from to) else None) (bucket_of other))
+    (bucket_of one)
 balance_of _ = None
 
 abbrev pub balance_at : Data → Option Balance
 balance_at d = option_and_then balance_of (get (codes "balance") d)
 
 abbrev pub format_at : Data → Option Format
-format_at d = option_and_then (λ n. if n == 1 then Some First else if n == 2 then Some Second else None) (option_and_then natural_of (get (codes "format") d))
+format_at d =
+    option_and_then (λ n. if n == 1 then Some First else if n == 2 then Some Second else None)
+    (option_and_then natural_of (get (codes "format") d))
 
 unfoldable pub present_like : ℕ → Data → Option Part
 present_like row_no d =
     if row_no == 0 then
-    option_and_then (λ balance. option_and_then (λ change. option_and_then (λ format. option_map (λ moment.
+    option_and_then (λ balance. option_and_then
+    (λ change. option_and_then (λ format. option_map (λ moment.
     part.Present balance change format moment)
     (moment_at (codes "moment") d)) (format_at d)) (whole_at (codes "change") d)) (balance_at d)
     else None
 
 unfoldable pub external_like : ℕ → List ℕ → Option Part
 external_like row_no body =
-    option_and_then (λ n. if is_external body then Some (part.External (record { 0 = n }) body) else None) (number_in row_no)
+    option_and_then (λ n. if is_external body then Some (part.External (record { 0 = n }) body)
+    else None) (number_in row_no)
 
 -- a stamp, or null
 abbrev pub stamp_of : Data → Option (Option (ℕ × ℕ))
@@ -105,7 +113,8 @@ state_by None (Some close) = None
 
 abbrev pub state_at : Data → Option SprintState
 state_at d = option_and_then (λ start. option_and_then (λ close. state_by start close)
-    (option_and_then stamp_of (get (codes "close") d))) (option_and_then stamp_of (get (codes "start") d))
+    (option_and_then stamp_of (get (codes "close") d)))
+    (option_and_then stamp_of (get (codes "start") d))
 
 unfoldable pub sprint_like : ℕ → Data → Option Part
 sprint_like row_no d =
@@ -117,7 +126,8 @@ unfoldable pub filter_like : List (List ℕ) → ℕ → Data → Option Part
 filter_like users row_no d =
     option_and_then (λ n. option_and_then (λ owner. option_and_then (λ name. option_map (λ jql.
     part.Filter (record { 0 = n }) owner name jql)
-    (text_at (codes "jql") d)) (title_at (codes "name") d)) (user_at users (codes "owner") d)) (number_in row_no)
+    (text_at (codes "jql") d)) (title_at (codes "name") d)) (user_at users (codes "owner") d))
+    (number_in row_no)
 
 unfoldable pub board_like : ℕ → Data → Option Part
 board_like row_no d =

@@ -23,4 +23,5 @@ told_like setup kind row_no d =
 
 unfoldable pub part_like : Parts → ℕ → ℕ → List ℕ → Option Part
 part_like setup kind row_no body =
-    if kind == 6 then external_like row_no body else option_and_then (told_like setup kind row_no) (read body)
+    if kind == 6 then external_like row_no body
+    else option_and_then (told_like setup kind row_no) (read body)

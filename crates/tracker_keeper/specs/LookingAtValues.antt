@@ -25,19 +25,25 @@ use Rattle.tracker_keeper.specs.Looking.{number_in, natural_of, text_at, moment_
 
 -- the number of one of the groups, which count from 1
 abbrev pub group_in : ℕ → ℕ → Option ℕ
-group_in count row_no = if nat_le 1 row_no && (nat_le row_no count && nat_lt row_no (2 ^ 16)) then Some row_no else None
+group_in count row_no =
+    if nat_le 1 row_no && (nat_le row_no count && nat_lt row_no (2 ^ 16)) then Some row_no else None
 
 -- the user that a text names
 abbrev pub user_of : List (List ℕ) → Data → Option UserNo
-user_of users d = option_map (λ place. record { 0 = place }) (option_and_then (λ text. place_named text users) (as_str d))
+user_of users d =
+    option_map (λ place. record { 0 = place })
+    (option_and_then (λ text. place_named text users) (as_str d))
 
 abbrev pub users_in : List (List ℕ) → Items → Option (List UserNo)
 users_in users no_items = Some []
-users_in users (item d ds) = option_and_then (λ user. option_map (λ more. user ∷ more) (users_in users ds)) (user_of users d)
+users_in users (item d ds) =
+    option_and_then (λ user. option_map (λ more. user ∷ more) (users_in users ds)) (user_of users d)
 
 -- in the setup's order, each once
 abbrev pub listed_users : List (List ℕ) → Items → Option (List UserNo)
-listed_users users ds = option_and_then (λ members. if is_user_list (length users) members then Some members else None) (users_in users ds)
+listed_users users ds =
+    option_and_then (λ members. if is_user_list (length users) members then Some members else None)
+    (users_in users ds)
 
 -- the items of a member
 abbrev pub items_at : List ℕ → Data → Option Items
@@ -64,13 +70,15 @@ unless_sprint v = if is_sprint v then None else Some v
 
 abbrev pub sprint_value : Names → ℕ → ℕ → Option Value
 sprint_value names n sprint =
-    if nat_lt sprint (2 ^ 32) && fits names n (value.Sprint (record { 0 = sprint })) then Some (value.Sprint (record { 0 = sprint })) else None
+    if nat_lt sprint (2 ^ 32) && fits names n (value.Sprint (record { 0 = sprint }))
+    then Some (value.Sprint (record { 0 = sprint })) else None
 
 abbrev pub text_value : Names → ℕ → List ℕ → Option Value
 text_value names n text = option_and_then unless_sprint (value_of names n text)
 
 abbrev pub list_value : Names → ℕ → Option (List (List ℕ)) → Option Value
-list_value names n texts = option_and_then unless_sprint (option_and_then (listed_value_of names n) texts)
+list_value names n texts =
+    option_and_then unless_sprint (option_and_then (listed_value_of names n) texts)
 
 -- the value of a field that a text, a number or a list of texts tells
 abbrev pub told_by : Names → ℕ → Option (List ℕ) → Option ℕ → Option (List (List ℕ)) → Option Value
@@ -80,7 +88,9 @@ told_by names n None None texts = list_value names n texts
 
 -- the value that stands there, where null tells what is empty
 abbrev pub value_like : Names → ℕ → Data → Option Value
-value_like names n d = if is_some (as_null d) then Some value.Empty else told_by names n (as_str d) (natural_of d) (texts_of d)
+value_like names n d =
+    if is_some (as_null d) then Some value.Empty
+    else told_by names n (as_str d) (natural_of d) (texts_of d)
 
 abbrev pub unless_empty : Value → Option Value
 unless_empty v = if is_filled v then Some v else None
@@ -98,7 +108,9 @@ key_number digits = if is_numeral 10 digits then number_in (read_on 0 digits) el
 -- the key of an issue of one of the projects
 abbrev pub key_like : List (List ℕ) → List ℕ → Option (List ℕ)
 key_like projects text =
-    option_and_then (λ parts. option_and_then (λ place. option_map (λ n. key_of (name_at projects place) n) (key_number parts.1)) (place_named parts.0 projects))
+    option_and_then (λ parts. option_and_then
+    (λ place. option_map (λ n. key_of (name_at projects place) n) (key_number parts.1))
+    (place_named parts.0 projects))
     (cut_at 45 text)
 
 abbrev pub key_at : List (List ℕ) → Data → Option (List ℕ)
@@ -114,27 +126,36 @@ change_at name d = option_and_then change_in (option_and_then natural_of (get na
 -- the value of a field, where it is there, before those of others
 abbrev pub with_value : Names → ℕ → Option Data → Option (List Change) → Option (List Change)
 with_value names n None rest = rest
-with_value names n (Some v) rest = option_and_then (λ to. option_map (λ more. record { field = record { 0 = n }; to = to } ∷ more) rest) (filled_like names n v)
+with_value names n (Some v) rest =
+    option_and_then (λ to. option_map
+    (λ more. record { field = record { 0 = n }; to = to } ∷ more) rest) (filled_like names n v)
 
 -- the values of these fields, by name; a field that isn't there is passed over
 abbrev pub values_like : Names → Data → List ℕ → Option (List Change)
 values_like names d [] = Some []
-values_like names d (n ∷ ns) = with_value names n (get (field_name names.fields n) d) (values_like names d ns)
+values_like names d (n ∷ ns) =
+    with_value names n (get (field_name names.fields n) d) (values_like names d ns)
 
 abbrev pub values_at : Names → Data → Option (List Change)
-values_at names d = option_and_then (λ fields. values_like names fields (field_numbers names.fields)) (get (codes "fields") d)
+values_at names d =
+    option_and_then (λ fields. values_like names fields (field_numbers names.fields))
+    (get (codes "fields") d)
 
 unfoldable pub issue_like : Names → List (List ℕ) → ℕ → Data → Option Part
 issue_like names projects row_no d =
-    option_and_then (λ n. option_and_then (λ change. option_and_then (λ at. option_and_then (λ author. option_and_then (λ key. option_map (λ values.
+    option_and_then (λ n. option_and_then
+    (λ change. option_and_then (λ at. option_and_then
+    (λ author. option_and_then (λ key. option_map (λ values.
     part.Issue (record { 0 = n }) key change at author values)
-    (values_at names d)) (key_at projects d)) (user_at names.users (codes "author") d)) (moment_at (codes "at") d)) (change_at (codes "change") d)) (number_in row_no)
+    (values_at names d)) (key_at projects d)) (user_at names.users (codes "author") d))
+    (moment_at (codes "at") d)) (change_at (codes "change") d)) (number_in row_no)
 
 -- ---- a change group
 
 -- the number of the field of that name
 abbrev pub field_in : List Field → List ℕ → Option ℕ
-field_in fields name = option_and_then (λ n. option_map (λ form. n) (form_of fields n)) (field_named fields name)
+field_in fields name =
+    option_and_then (λ n. option_map (λ form. n) (form_of fields n)) (field_named fields name)
 
 abbrev pub value_at : Names → ℕ → ℕ → Data → Option Value
 value_at names n place d = option_and_then (value_like names n) (at place d)
@@ -146,22 +167,28 @@ field_at fields d = option_and_then (field_in fields) (option_and_then as_str (a
 abbrev pub entry_like : Names → ℕ → ℕ → UserNo → Data → Option Entry
 entry_like names change moment author d =
     option_and_then (λ n. option_and_then (λ from. option_map (λ to.
-    record { change = change; at = moment; author = author; field = record { 0 = n }; from = from; to = to })
+    record
+    { change = change; at = moment; author = author; field = record { 0 = n }; from = from; to = to })
     (value_at names n 2 d)) (value_at names n 1 d)) (field_at names.fields d)
 
 abbrev pub entries_like : Names → ℕ → ℕ → UserNo → Items → Option (List Entry)
 entries_like names change moment author no_items = Some []
 entries_like names change moment author (item d ds) =
-    option_and_then (λ e. option_map (λ more. e ∷ more) (entries_like names change moment author ds)) (entry_like names change moment author d)
+    option_and_then (λ e. option_map (λ more. e ∷ more)
+    (entries_like names change moment author ds)) (entry_like names change moment author d)
 
 abbrev pub entries_at : Names → ℕ → ℕ → UserNo → Data → Option (List Entry)
-entries_at names change moment author d = option_and_then (entries_like names change moment author) (items_at (codes "entries") d)
+entries_at names change moment author d =
+    option_and_then (entries_like names change moment author) (items_at (codes "entries") d)
 
 abbrev pub number_at : List ℕ → Data → Option ℕ
 number_at name d = option_and_then number_in (option_and_then natural_of (get name d))
 
 unfoldable pub group_like : Names → ℕ → Data → Option Part
 group_like names row_no d =
-    option_and_then (λ change. option_and_then (λ at. option_and_then (λ author. option_and_then (λ issue. option_map (λ entries.
-    part.Group (record { 0 = issue }) (record { change = change; at = at; author = author; entries = entries }))
-    (entries_at names change at author d)) (number_at (codes "issue") d)) (user_at names.users (codes "author") d)) (moment_at (codes "at") d)) (change_in row_no)
+    option_and_then (λ change. option_and_then
+    (λ at. option_and_then (λ author. option_and_then (λ issue. option_map (λ entries.
+    part.Group (record { 0 = issue })
+    (record { change = change; at = at; author = author; entries = entries }))
+    (entries_at names change at author d)) (number_at (codes "issue") d))
+    (user_at names.users (codes "author") d)) (moment_at (codes "at") d)) (change_in row_no)

@@ -13,7 +13,8 @@ Places = BTreeMap (ℕ × ℕ) (Option (List ℕ))
 
 -- what stands at the place of a kind and a number, where there is such a place
 abbrev pub place_at : Places → ℕ → ℕ → Option (Option (List ℕ))
-place_at places kind number = get (λ x y. ordering_then (nat_cmp x.0 y.0) (nat_cmp x.1 y.1)) places (kind, number)
+place_at places kind number =
+    get (λ x y. ordering_then (nat_cmp x.0 y.0) (nat_cmp x.1 y.1)) places (kind, number)
 
 -- a vacant place counts as none
 abbrev pub content : Places → Rows
@@ -44,7 +45,9 @@ HavePlaces places (op ∷ ops) = HasPlaceFor places op × HavePlaces places ops
 
 -- one place becomes this, or goes, and all others stay
 abbrev pub IsSet : ℕ → ℕ → Option (Option (List ℕ)) → Places → Places → Type 0
-IsSet kind number place old new = (k n : ℕ) → place_at new k n ≡ (if (kind == k) && (number == n) then place else place_at old k n)
+IsSet kind number place old new =
+    (k n : ℕ) → place_at new k n
+    ≡ (if (kind == k) && (number == n) then place else place_at old k n)
 
 -- no row changes
 abbrev pub KeepRows : Places → Places → Type 0

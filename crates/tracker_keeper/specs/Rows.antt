@@ -40,7 +40,8 @@ IsBelow one other = (one.kind < other.kind) ⊎ ((one.kind ≡ other.kind) × (o
 -- the body of the first row of that kind and number
 abbrev pub found : List Row → Rows
 found [] kind number = None
-found (row ∷ list) kind number = if (kind == row.kind) && (number == row.no) then Some row.body else found list kind number
+found (row ∷ list) kind number =
+    if (kind == row.kind) && (number == row.no) then Some row.body else found list kind number
 
 -- the list has each row once, by kind and then number
 pub record IsListing (rows : Rows) (list : List Row) : Type 0 where

@@ -18,7 +18,8 @@ use Rattle.tracker_loading.specs.Making.{made_of}
 -- the abstract tracker that was made
 abbrev pub made_with : Base → Given → Machine
 made_with base given =
-    made_of base.setup given.balance base.change base.moment base.issues base.externals given.ranks.items given.sprints given.filters.items base.boards
+    made_of base.setup given.balance base.change base.moment base.issues base.externals
+    given.ranks.items given.sprints given.filters.items base.boards
 
 -- what was made has all that a state needs
 pub record IsWhole (m : Machine) (base : Base) (given : Given) : Type 0 where
@@ -40,4 +41,6 @@ pub record IsDerived (m : Machine) (filters : List Filter) (d : Derived) : Type 
 
 -- the abstract tracker of both
 abbrev pub machine_with : Base → Derived → Machine
-machine_with base d = machine_of base.setup base.moment base.change base.issues base.externals d.ranks d.filters base.boards d.work
+machine_with base d =
+    machine_of base.setup base.moment base.change base.issues base.externals d.ranks d.filters
+    base.boards d.work

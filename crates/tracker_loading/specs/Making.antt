@@ -39,7 +39,8 @@ abbrev pub order_of : List RankParts → List Pair
 order_of ranks = placed [] 1 ranks
 
 -- the abstract tracker's state that the parts of one in the making are
-abbrev pub made_of : Setup → Balance → ℕ → ℕ → Shelf → IdList → List RankParts → SprintList → List Filter → BoardList → Machine
+abbrev pub made_of : Setup → Balance → ℕ → ℕ → Shelf → IdList → List RankParts → SprintList
+    → List Filter → BoardList → Machine
 made_of setup balance change moment issues externals ranks sprints filters boards = record {
   text = setup.text;
   setup = parts setup;
@@ -56,7 +57,8 @@ made_of setup balance change moment issues externals ranks sprints filters board
 
 -- what one in the making keeps true of itself, where it tallies issues by projects so, has these ranks and filters, finds these ranks
 -- taken, and notes this moment as that of the last change group
-pub record IsMaking (m : Machine) (tally : Tally) (ranks : List RankParts) (filters : List Filter) (taken : List RankParts) (group_at : ℕ) : Type 0 where
+pub record IsMaking (m : Machine) (tally : Tally) (ranks : List RankParts) (filters : List Filter)
+    (taken : List RankParts) (group_at : ℕ) : Type 0 where
   pub counted : IsTally tally m.setup m.histories
   -- each issue that has a rank has one
   pub permuted : IsPermutation (numbered_from 1 ranks) m.order
@@ -78,11 +80,15 @@ pub record IsMaking (m : Machine) (tally : Tally) (ranks : List RankParts) (filt
 -- numbers, external ids by their issues' numbers, and filters and boards by theirs; a rank is that of the first issue that has none yet,
 -- and members in rows of the second format are those of the first group that hasn't told its own
 unfoldable pub IsNextPart : Format → ℕ → Machine → Part → Type 0
-IsNextPart format told m (part.Issue issue key change at author values) = entries_kept m.histories ≡ 0
+IsNextPart format told m (part.Issue issue key change at author values) =
+    entries_kept m.histories ≡ 0
 IsNextPart format told m (part.Group issue group) = IsBehindGroups m.histories group.change
-IsNextPart format told m (part.Rank issue rank) = issue.0 ≤ length m.histories → issue.0 ≡ length m.order + 1
+IsNextPart format told m (part.Rank issue rank) =
+    issue.0 ≤ length m.histories → issue.0 ≡ length m.order + 1
 IsNextPart format told m (part.External issue external) = All (λ e. e.no.0 < issue.0) m.externals
-IsNextPart format told m (part.Filter filter_no owner name jql) = by_number filter_number filter_no.0 m.filters ≡ None
-IsNextPart format told m (part.Board board_no name filter) = by_number board_number board_no.0 m.boards ≡ None
+IsNextPart format told m (part.Filter filter_no owner name jql) =
+    by_number filter_number filter_no.0 m.filters ≡ None
+IsNextPart format told m (part.Board board_no name filter) =
+    by_number board_number board_no.0 m.boards ≡ None
 IsNextPart format told m (part.Members group members) = format ≡ Second → group.0 ≡ told + 1
 IsNextPart format told m _ = Unit {0}

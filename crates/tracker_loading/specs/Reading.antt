@@ -36,7 +36,8 @@ has_twin_at rows place row = option_map_or (has_place_of row) (slice_get rows pl
 
 -- the row before that place or the one behind it has them
 abbrev pub has_twin : List Row → ℕ → Row → Bool
-has_twin rows place row = (nat_lt 0 place && has_twin_at rows (place - 1) row) || has_twin_at rows (place + 1) row
+has_twin rows place row =
+    (nat_lt 0 place && has_twin_at rows (place - 1) row) || has_twin_at rows (place + 1) row
 
 -- the row stands before that kind and number
 abbrev pub stands_before : ℕ → ℕ → Row → Bool
@@ -45,7 +46,8 @@ stands_before kind number row = nat_lt row.kind kind || ((row.kind == kind) && n
 -- so many rows stand before that kind and number
 pub record IsFrontBefore (rows : List Row) (kind number count : ℕ) : Type 0 where
   pub within : count ≤ length rows
-  pub point : IsPartitionPoint (λ row. stands_before kind number row ≡ true) (λ row. stands_before kind number row ≡ false) rows count
+  pub point : IsPartitionPoint (λ row. stands_before kind number row ≡ true)
+      (λ row. stands_before kind number row ≡ false) rows count
 
 -- ---- what has been read
 
@@ -78,6 +80,8 @@ pub record IsSetupRow (rows : List Row) (row : Row) (setup : Parts) : Type 0 whe
   pub reads : setup_in row.body ≡ Ok setup
 
 -- behind the setup, the part is present's, and tells that a tracker stands there, by rows of that format
-pub record IsStanding (rows : List Row) (text : List ℕ) (setup : Parts) (p : Part) (format : Format) (balance : Balance) (change moment : ℕ) : Type 0 where
+pub record IsStanding (rows : List Row) (text : List ℕ) (setup : Parts) (p : Part) (format : Format)
+    (balance : Balance) (change moment : ℕ) : Type 0 where
   pub follows : MayFollow rows (HasSetup text setup) p
-  pub leads : with_part (HasSetup text setup) p ≡ Stands format 0 (standing text setup balance change moment)
+  pub leads : with_part (HasSetup text setup) p
+      ≡ Stands format 0 (standing text setup balance change moment)

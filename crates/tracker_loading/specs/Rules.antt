@@ -20,6 +20,8 @@ pub record MayStand (m : Machine) (h : History) : Type 0 where
   pub light : bytes_kept m.histories + history_bytes h ≤ 500_000_000
 
 -- the key is that of the next issue of the project at a place
-pub record IsKeyAt (setup : Parts) (histories : List History) (key : List ℕ) (place : ℕ) : Type 0 where
+pub record IsKeyAt (setup : Parts) (histories : List History) (key : List ℕ)
+    (place : ℕ) : Type 0 where
   pub there : place < length setup.project
-  pub is : key ≡ key_of (name_at (project_keys setup) place) (issues_of (name_at (project_keys setup) place) histories + 1)
+  pub is : key ≡ key_of (name_at (project_keys setup) place)
+      (issues_of (name_at (project_keys setup) place) histories + 1)

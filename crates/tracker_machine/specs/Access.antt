@@ -10,4 +10,5 @@ use Rattle.tracker_machine.specs.Checks.{permission_refusal}
 -- the caller has a permission in the issue's project
 abbrev pub access_refusal : Machine → ℕ → Permission → Option History → Option Refusal
 access_refusal m caller permission None = None
-access_refusal m caller permission (Some h) = permission_refusal m caller permission (project_number m.setup h)
+access_refusal m caller permission (Some h) =
+    permission_refusal m caller permission (project_number m.setup h)

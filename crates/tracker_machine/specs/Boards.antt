@@ -38,7 +38,8 @@ board_numbered m board_no = by_number board_number board_no.0 m.boards
 
 -- it has to be there
 abbrev pub unless_board : Machine → BoardNo → Option Refusal
-unless_board m board_no = unless_known (board_numbered m board_no) (refusal.Unknown thing.Board (decimal board_no.0))
+unless_board m board_no =
+    unless_known (board_numbered m board_no) (refusal.Unknown thing.Board (decimal board_no.0))
 
 -- ---- make_board
 
@@ -57,18 +58,24 @@ abbrev pub next_board : Machine → BoardNo
 next_board m = record { 0 = free_from board_number 1 m.boards }
 
 abbrev pub made_board : Machine → List ℕ → FilterNo → Meaning
-made_board m name filter = Makes (answer.MakeBoard (next_board m)) (NewBoard (record { no = next_board m; name = name; filter = filter }))
+made_board m name filter =
+    Makes (answer.MakeBoard (next_board m))
+    (NewBoard (record { no = next_board m; name = name; filter = filter }))
 
 abbrev pub make_board_meaning : Machine → ℕ → List ℕ → FilterNo → Meaning
-make_board_meaning m caller name filter = unless (make_board_refusal m caller filter) (made_board m name filter)
+make_board_meaning m caller name filter =
+    unless (make_board_refusal m caller filter) (made_board m name filter)
 
 -- ---- drop_board
 
 abbrev pub drop_board_refusal : Machine → ℕ → BoardNo → Option Refusal
-drop_board_refusal m caller board_no = or_then (unless_board m board_no) (permission_refusal m caller permission.Plan None)
+drop_board_refusal m caller board_no =
+    or_then (unless_board m board_no) (permission_refusal m caller permission.Plan None)
 
 abbrev pub drop_board_meaning : Machine → ℕ → BoardNo → Meaning
-drop_board_meaning m caller board_no = unless (drop_board_refusal m caller board_no) (Makes (answer.DropBoard board_no) (NoBoard board_no))
+drop_board_meaning m caller board_no =
+    unless (drop_board_refusal m caller board_no)
+    (Makes (answer.DropBoard board_no) (NoBoard board_no))
 
 -- ---- board
 
@@ -90,17 +97,20 @@ has_status place h = is_choice place (present h number.STATUS)
 
 -- the keys of the issues of the status at a place, under its name
 abbrev pub column_of : List History → ℕ → Status → Column
-column_of histories place status = record { issues = map (λ h. h.key) (filter (has_status place) histories); status = status.name }
+column_of histories place status =
+    record { issues = map (λ h. h.key) (filter (has_status place) histories); status = status.name }
 
 -- a column for each status, in the setup's order
 abbrev pub columns_from : ℕ → List Status → List History → List Column
 columns_from place [] histories = []
-columns_from place (status ∷ more) histories = column_of histories place status ∷ columns_from (place + 1) more histories
+columns_from place (status ∷ more) histories =
+    column_of histories place status ∷ columns_from (place + 1) more histories
 
 -- the part that is asked for is cut before it goes into columns
 abbrev pub board_answer : Machine → ℕ → Part → Board → Answer
 board_answer m caller part b =
-    answer.Board (columns_from 0 m.setup.status (part_of part (by_rank m.order (board_issues m caller b)))) (length (board_issues m caller b))
+    answer.Board (columns_from 0 m.setup.status
+    (part_of part (by_rank m.order (board_issues m caller b)))) (length (board_issues m caller b))
 
 abbrev pub board_told : Machine → ℕ → BoardNo → Part → Option Board → Meaning
 board_told m caller board_no part None = Refuses (refusal.Unknown thing.Board (decimal board_no.0))

@@ -70,7 +70,8 @@ count_refusal most n = only_if (nat_le 1 n && nat_le n most) (refusal.Form (code
 
 -- an issue isn't moved beside itself
 abbrev pub other_refusal : List ℕ → List ℕ → Option Refusal
-other_refusal issue other = if bytes_eq other issue then Some (refusal.Form (codes "other")) else None
+other_refusal issue other =
+    if bytes_eq other issue then Some (refusal.Form (codes "other")) else None
 
 -- a filter, a board or a sprint has a name of its form
 abbrev pub title_refusal : List ℕ → Option Refusal
@@ -80,7 +81,8 @@ title_refusal name = only_if (is_title name) (refusal.Form (codes "name"))
 
 -- the caller is one of the setup's users
 abbrev pub caller_refusal : Machine → List ℕ → Option Refusal
-caller_refusal m caller = unless_known (place_named caller m.setup.users) (refusal.Unknown thing.User caller)
+caller_refusal m caller =
+    unless_known (place_named caller m.setup.users) (refusal.Unknown thing.User caller)
 
 -- the sprint into which `set` puts the issue
 abbrev pub sprint_given : List Field → List GivenField → Option ℕ
@@ -122,17 +124,21 @@ first_with found (name ∷ names) = first_with (Some (sooner found name)) names
 
 -- each name in `set` is looked at in byte order, wherever it stands
 abbrev pub names_refusal : List Field → Option ℕ → List GivenField → Option Refusal
-names_refusal fields missing set = option_and_then (name_refusal fields missing) (first_with None (refused_names fields missing set))
+names_refusal fields missing set =
+    option_and_then (name_refusal fields missing)
+    (first_with None (refused_names fields missing set))
 
 abbrev pub set_refusal : Machine → List GivenField → Option Refusal
-set_refusal m set = names_refusal m.setup.field (missing_sprint m.sprints (sprint_given m.setup.field set)) set
+set_refusal m set =
+    names_refusal m.setup.field (missing_sprint m.sprints (sprint_given m.setup.field set)) set
 
 -- ---- permissions
 
 -- the caller has a permission in the project at a place
 abbrev pub permission_refusal : Machine → ℕ → Permission → Option ℕ → Option Refusal
 permission_refusal m caller permission place =
-    only_if (may m.setup caller permission place) (refusal.Forbidden permission (option_map (name_at (project_keys m.setup)) place))
+    only_if (may m.setup caller permission place)
+    (refusal.Forbidden permission (option_map (name_at (project_keys m.setup)) place))
 
 -- ---- sprints
 
@@ -144,11 +150,13 @@ is_in (Some h) sprint = is_in_sprint sprint h
 -- the sprint isn't closed, unless the issue is in it already
 abbrev pub sprint_closed_refusal : List Sprint → Option History → ℕ → Option Refusal
 sprint_closed_refusal sprints h sprint =
-    only_if (not (is_closed (state_in sprints sprint)) || is_in h sprint) (refusal.SprintIs phase.Closed)
+    only_if (not (is_closed (state_in sprints sprint)) || is_in h sprint)
+    (refusal.SprintIs phase.Closed)
 
 -- so is the one into which `set` puts an issue
 abbrev pub closed_refusal : Machine → List GivenField → Option History → Option Refusal
-closed_refusal m set h = option_and_then (sprint_closed_refusal m.sprints h) (sprint_given m.setup.field set)
+closed_refusal m set h =
+    option_and_then (sprint_closed_refusal m.sprints h) (sprint_given m.setup.field set)
 
 -- ---- limits
 
@@ -162,7 +170,8 @@ entries_kept histories = sum_by (λ h. length h.entries) histories
 
 -- a change finds room for an entry of each of the 43 fields that an issue can have
 abbrev pub entries_refusal : Machine → Option Refusal
-entries_refusal m = only_if (nat_le (entries_kept m.histories) 1_999_957) (refusal.Limit limit.Entries)
+entries_refusal m =
+    only_if (nat_le (entries_kept m.histories) 1_999_957) (refusal.Limit limit.Entries)
 
 -- the bytes of a text or of labels, and 62 for each version
 abbrev pub text_bytes : Value → ℕ
@@ -184,10 +193,13 @@ bytes_kept histories = sum_by history_bytes histories
 
 -- a change finds room for the text bytes that one call can add
 abbrev pub bytes_refusal : Machine → Option Refusal
-bytes_refusal m = only_if (nat_le (bytes_kept m.histories) 499_800_000) (refusal.Limit limit.TextBytes)
+bytes_refusal m =
+    only_if (nat_le (bytes_kept m.histories) 499_800_000) (refusal.Limit limit.TextBytes)
 
 -- ---- values
 
 -- each value fits its field
 abbrev pub values_refusal : Machine → (ℕ → Wanted) → Option Refusal
-values_refusal m wants = option_map (λ n. refusal.Unfit (field_name m.setup.field n)) (field_at_fault (names_in m.setup) wants)
+values_refusal m wants =
+    option_map (λ n. refusal.Unfit (field_name m.setup.field n))
+    (field_at_fault (names_in m.setup) wants)

@@ -14,14 +14,16 @@ IsChangeOf h n at = ((h.change ≡ n) × (h.at ≡ at)) ⊎ HasEntry h.entries n
 
 -- the same of the issue at a place
 abbrev pub IsChangeAt : List History → ℕ → ℕ → ℕ → Type 0
-IsChangeAt histories place n at = (h : History) × (slice_get histories place ≡ Some h) × IsChangeOf h n at
+IsChangeAt histories place n at =
+    (h : History) × (slice_get histories place ≡ Some h) × IsChangeOf h n at
 
 -- each change has a number from 1 to the last one and isn't later than now; a number belongs to one issue alone; and
 -- moments don't fall as the numbers rise
 pub record IsChronicle (histories : List History) (moment change : ℕ) : Type 0 where
   pub known : (k n at : ℕ) → IsChangeAt histories k n at → (1 ≤ n) × (n ≤ change) × (at ≤ moment)
   pub once : (j k n a b : ℕ) → IsChangeAt histories j n a → IsChangeAt histories k n b → j ≡ k
-  pub later : (j k m n a b : ℕ) → IsChangeAt histories j m a → IsChangeAt histories k n b → m < n → a ≤ b
+  pub later : (j k m n a b : ℕ) → IsChangeAt histories j m a → IsChangeAt histories k n b → m < n
+      → a ≤ b
 
 -- how many change groups these entries are, behind a change of that number
 abbrev pub groups_in : ℕ → List Entry → ℕ

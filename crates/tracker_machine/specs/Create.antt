@@ -35,15 +35,21 @@ use Rattle.tracker_machine.specs.Meaning.Meaning.{Refuses, Tells, Makes}
 
 -- type and summary have members of their own, and aren't given in `set` as well
 abbrev pub member_wanted : Names → ℕ → List GivenField → List ℕ → Wanted
-member_wanted names n set text = if is_some (given_for names.fields n set) then wanted.NoValue else wanted_or (value_of names n text)
+member_wanted names n set text =
+    if is_some (given_for names.fields n set) then wanted.NoValue
+    else wanted_or (value_of names n text)
 
 -- an issue begins in the setup's first status
 abbrev pub status_wanted : Parts → List GivenField → Wanted
-status_wanted setup set = if is_some (given_for setup.field number.STATUS.0 set) then wanted.NoValue else wanted.Value (Choice setup.first_status)
+status_wanted setup set =
+    if is_some (given_for setup.field number.STATUS.0 set) then wanted.NoValue
+    else wanted.Value (Choice setup.first_status)
 
 -- the caller reports the issue, unless `set` says otherwise
 abbrev pub reporter_wanted : Parts → ℕ → List GivenField → Wanted
-reporter_wanted setup caller set = option_map_or (wanted_given (names_in setup) number.REPORTER.0) (given_for setup.field number.REPORTER.0 set) (wanted.Value (User (record { 0 = caller })))
+reporter_wanted setup caller set =
+    option_map_or (wanted_given (names_in setup) number.REPORTER.0)
+    (given_for setup.field number.REPORTER.0 set) (wanted.Value (User (record { 0 = caller })))
 
 abbrev pub create_wants : Parts → ℕ → List ℕ → List ℕ → List GivenField → ℕ → Wanted
 create_wants setup caller issue_type summary set n =
@@ -57,10 +63,13 @@ create_wants setup caller issue_type summary set n =
 
 abbrev pub create_refusal : Machine → ℕ → List ℕ → List GivenField → Option Refusal
 create_refusal m caller project set =
-    or_then (unless_known (place_named project (project_keys m.setup)) (refusal.Unknown thing.Project project))
+    or_then (unless_known (place_named project (project_keys m.setup))
+    (refusal.Unknown thing.Project project))
     (or_then (set_refusal m set)
-    (or_then (permission_refusal m caller permission.Browse (place_named project (project_keys m.setup)))
-    (or_then (permission_refusal m caller permission.Create (place_named project (project_keys m.setup)))
+    (or_then (permission_refusal m caller permission.Browse
+    (place_named project (project_keys m.setup)))
+    (or_then (permission_refusal m caller permission.Create
+    (place_named project (project_keys m.setup)))
     (closed_refusal m set None))))
 
 -- ---- an issue that was created before
@@ -68,17 +77,20 @@ create_refusal m caller project set =
 -- the issue of an external id that is given, where there is one
 abbrev pub issue_called : Machine → Option (List ℕ) → Option History
 issue_called m external =
-    option_and_then (λ e. slice_get m.histories (e.no.0 - 1)) (option_and_then (λ id. external_named id m.externals) external)
+    option_and_then (λ e. slice_get m.histories (e.no.0 - 1))
+    (option_and_then (λ id. external_named id m.externals) external)
 
 -- the value that a text is read as is this one
 abbrev pub is_value_of : Names → ℕ → List ℕ → Value → Bool
-is_value_of names n text v = option_map_or (λ other. same_value other v) (value_of names n text) false
+is_value_of names n text v =
+    option_map_or (λ other. same_value other v) (value_of names n text) false
 
 -- the issue was created in the project of that key, with this type and this summary
 abbrev pub is_created_as : Machine → List ℕ → List ℕ → List ℕ → History → Bool
 is_created_as m project issue_type summary h =
     bytes_eq (project_of h.key) project
-    && (is_value_of (names_in m.setup) number.TYPE.0 issue_type (opening_value h.opening number.TYPE)
+    && (is_value_of (names_in m.setup) number.TYPE.0 issue_type
+    (opening_value h.opening number.TYPE)
     && same_value (Text summary) (opening_value h.opening number.SUMMARY))
 
 -- it is told where it was created as the same, and refuses the call where it was created as another one
@@ -91,7 +103,8 @@ called_before false external h = Refuses (refusal.ExternalIs external h.key)
 -- there is room for it, and each value fits
 abbrev pub new_issue_refusal : Machine → ℕ → List ℕ → List ℕ → List GivenField → Option Refusal
 new_issue_refusal m caller issue_type summary set =
-    or_then (issues_refusal m) (or_then (bytes_refusal m) (values_refusal m (create_wants m.setup caller issue_type summary set)))
+    or_then (issues_refusal m) (or_then (bytes_refusal m)
+    (values_refusal m (create_wants m.setup caller issue_type summary set)))
 
 -- the project's key as the setup spells it
 abbrev pub spelled_key : Machine → List ℕ → List ℕ
@@ -119,21 +132,28 @@ opened m caller project opening = opening_history m caller (next_key m project) 
 -- an issue of the project of that key, with this external id if any, with these values, of this rank
 abbrev pub created : Machine → ℕ → List ℕ → Option (List ℕ) → List Change → RankParts → Meaning
 created m caller project external changes rank =
-    Makes (answer.Create false (m.change + 1) (next_key m project)) (NewIssue (opened m caller project (filled changes)) rank external)
+    Makes (answer.Create false (m.change + 1) (next_key m project))
+    (NewIssue (opened m caller project (filled changes)) rank external)
 
-abbrev pub new_issue_meaning : Machine → ℕ → List ℕ → List ℕ → List ℕ → List GivenField → Option (List ℕ) → Meaning
+abbrev pub new_issue_meaning : Machine → ℕ → List ℕ → List ℕ → List ℕ → List GivenField
+    → Option (List ℕ) → Meaning
 new_issue_meaning m caller project issue_type summary set external =
     unless (new_issue_refusal m caller issue_type summary set)
     (with_given (last_rank m)
-    (created m caller project external (changes_of (names_in m.setup) (create_wants m.setup caller issue_type summary set))))
+    (created m caller project external
+    (changes_of (names_in m.setup) (create_wants m.setup caller issue_type summary set))))
 
 -- where an issue has the external id already, no other one is created
-abbrev pub create_or_tell : Machine → ℕ → List ℕ → List ℕ → List ℕ → List GivenField → Option (List ℕ) → Option History → Meaning
-create_or_tell m caller project issue_type summary set external None = new_issue_meaning m caller project issue_type summary set external
+abbrev pub create_or_tell : Machine → ℕ → List ℕ → List ℕ → List ℕ → List GivenField
+    → Option (List ℕ) → Option History → Meaning
+create_or_tell m caller project issue_type summary set external None =
+    new_issue_meaning m caller project issue_type summary set external
 create_or_tell m caller project issue_type summary set external (Some h) =
     called_before (is_created_as m project issue_type summary h) (unwrap_or external []) h
 
-abbrev pub create_meaning : Machine → ℕ → List ℕ → List ℕ → List ℕ → List GivenField → Option (List ℕ) → Meaning
+abbrev pub create_meaning : Machine → ℕ → List ℕ → List ℕ → List ℕ → List GivenField
+    → Option (List ℕ) → Meaning
 create_meaning m caller project issue_type summary set external =
     unless (create_refusal m caller project set)
-    (create_or_tell m caller (spelled_key m project) issue_type summary set external (issue_called m external))
+    (create_or_tell m caller (spelled_key m project) issue_type summary set external
+    (issue_called m external))

@@ -49,4 +49,5 @@ edit_answer issue number = answer.Edit number issue
 abbrev pub edit_meaning : Machine → ℕ → List ℕ → List GivenField → Meaning
 edit_meaning m caller issue set =
     unless (edit_refusal m caller issue set)
-    (grouped_at (edit_answer issue) m caller (place_of_issue issue m.histories) (history_named m issue) (edit_news m set (history_named m issue)))
+    (grouped_at (edit_answer issue) m caller (place_of_issue issue m.histories)
+    (history_named m issue) (edit_news m set (history_named m issue)))

@@ -60,7 +60,8 @@ pub data Effect : Type 0 where
 -- the external ids with that of an issue, if it has one
 abbrev pub with_external : List ExternalId → IssueNo → Option (List ℕ) → List ExternalId
 with_external ids issue None = ids
-with_external ids issue (Some id) = put_by_number external_number (record { no = issue; id = id }) ids
+with_external ids issue (Some id) =
+    put_by_number external_number (record { no = issue; id = id }) ids
 
 abbrev pub with_issue : Machine → History → RankParts → Option (List ℕ) → Machine
 with_issue m h rank external = record m {
@@ -76,10 +77,13 @@ longer h entries = record h { entries = h.entries ++ entries }
 
 -- the histories where the one at a place has entries more
 abbrev pub grown : List History → ℕ → List Entry → List History
-grown histories place entries = option_map_or (λ h. slice_set histories place (longer h entries)) (slice_get histories place) histories
+grown histories place entries =
+    option_map_or (λ h. slice_set histories place (longer h entries))
+    (slice_get histories place) histories
 
 abbrev pub with_group : Machine → ℕ → Group → Machine
-with_group m place group = record m { change = m.change + 1; histories = grown m.histories place group.entries }
+with_group m place group =
+    record m { change = m.change + 1; histories = grown m.histories place group.entries }
 
 abbrev pub with_new_rank : Machine → IssueNo → RankParts → Machine
 with_new_rank m issue rank = record m { order = after_move m.order (issue, rank) }
@@ -103,7 +107,11 @@ abbrev pub with_filter : Machine → SavedFilter → Machine
 with_filter m f = record m { filters = put_by_number filter_number f m.filters }
 
 abbrev pub without_filter : Machine → FilterNo → Machine
-without_filter m filter_no = record m { filters = without_number filter_number filter_no.0 m.filters; boards = without_boards_of filter_no m.boards }
+without_filter m filter_no =
+    record m {
+      filters = without_number filter_number filter_no.0 m.filters;
+      boards = without_boards_of filter_no m.boards;
+    }
 
 abbrev pub with_board : Machine → Board → Machine
 with_board m b = record m { boards = put_by_number board_number b m.boards }
@@ -113,7 +121,8 @@ without_board m board_no = record m { boards = without_number board_number board
 
 -- the setup where a group has other members
 abbrev pub regrouped : Parts → GroupNo → List UserNo → Parts
-regrouped setup group members = record setup { group = with_members setup.group (group.0 - 1) members }
+regrouped setup group members =
+    record setup { group = with_members setup.group (group.0 - 1) members }
 
 abbrev pub with_group_members : Machine → GroupNo → List UserNo → Machine
 with_group_members m group members = record m { setup = regrouped m.setup group members }
@@ -148,11 +157,13 @@ pub record MayHave (setup : Parts) (group : GroupNo) (members : List UserNo) : T
 -- an effect is of a tracker that may have it
 unfoldable pub IsAllowed : Effect → Machine → Type 0
 IsAllowed (NewMoment to) m = (m.moment ≤ to) × (to ≤ last_second)
-IsAllowed (NewIssue h rank external) m = MayOpen m h × IsNext m.order m.balance h.no rank × MayName m.externals external
+IsAllowed (NewIssue h rank external) m =
+    MayOpen m h × IsNext m.order m.balance h.no rank × MayName m.externals external
 IsAllowed (NewGroup place group) m = MayGroup m place group
 IsAllowed (NewRank issue rank) m = IsGiven m.order m.balance issue rank
 IsAllowed (NewBalance balance) m = after_start m.balance ≡ Some balance
-IsAllowed (NewRanks moves) m = IsMoving m.balance × ArePicks m.order (from_of m.balance) (to_of m.balance) moves
+IsAllowed (NewRanks moves) m =
+    IsMoving m.balance × ArePicks m.order (from_of m.balance) (to_of m.balance) moves
 IsAllowed (NewSprint name) m = MayMakeSprint m.sprints name
 IsAllowed (NewState sprint state) m = MayTurn m.moment m.change m.sprints sprint state
 IsAllowed (NewFilter f) m = MaySave m.setup m.filters f

@@ -40,7 +40,10 @@ history_refusal m caller issue =
 
 abbrev pub history_answer_of : Machine → Part → Option History → Answer
 history_answer_of m part None = answer.History [] 0
-history_answer_of m part (Some h) = answer.History (map (told_entry (names_in m.setup)) (part_of part h.entries)) (length h.entries)
+history_answer_of m part (Some h) =
+    answer.History (map (told_entry (names_in m.setup)) (part_of part h.entries)) (length h.entries)
 
 abbrev pub history_meaning : Machine → ℕ → List ℕ → Part → Meaning
-history_meaning m caller issue part = unless (history_refusal m caller issue) (Tells (history_answer_of m part (history_named m issue)))
+history_meaning m caller issue part =
+    unless (history_refusal m caller issue)
+    (Tells (history_answer_of m part (history_named m issue)))

@@ -31,30 +31,42 @@ filter_numbered m filter_no = by_number filter_number filter_no.0 m.filters
 
 -- it has to be there
 abbrev pub unless_filter : Machine → FilterNo → Option Refusal
-unless_filter m filter_no = unless_known (filter_numbered m filter_no) (refusal.Unknown thing.Filter (decimal filter_no.0))
+unless_filter m filter_no =
+    unless_known (filter_numbered m filter_no) (refusal.Unknown thing.Filter (decimal filter_no.0))
 
 -- ---- save_filter
 
 -- a name that is new to the owner finds room
 abbrev pub filters_refusal : Machine → ℕ → List ℕ → Option Refusal
 filters_refusal m caller name =
-    only_if (is_some (filter_named (record { 0 = caller }) name m.filters) || nat_lt (length m.filters) 200) (refusal.Limit limit.Filters)
+    only_if (is_some (filter_named (record { 0 = caller }) name m.filters)
+    || nat_lt (length m.filters) 200) (refusal.Limit limit.Filters)
 
 -- the number of the caller's filter of that name, or the least one that is free
 abbrev pub number_for : Machine → ℕ → List ℕ → FilterNo
 number_for m caller name =
-    option_map_or (λ f. f.no) (filter_named (record { 0 = caller }) name m.filters) (record { 0 = free_from filter_number 1 m.filters })
+    option_map_or (λ f. f.no) (filter_named (record { 0 = caller }) name m.filters)
+    (record { 0 = free_from filter_number 1 m.filters })
 
 abbrev pub filter_for : Machine → ℕ → List ℕ → List ℕ → SavedFilter
-filter_for m caller name text = record { no = number_for m caller name; owner = record { 0 = caller }; name = name; text = text }
+filter_for m caller name text =
+    record {
+      no = number_for m caller name;
+      owner = record { 0 = caller };
+      name = name;
+      text = text;
+    }
 
 -- the caller's filter of that name has this text already
 abbrev pub is_kept : Machine → ℕ → List ℕ → List ℕ → Bool
-is_kept m caller name text = option_map_or (λ f. bytes_eq f.text text) (filter_named (record { 0 = caller }) name m.filters) false
+is_kept m caller name text =
+    option_map_or (λ f. bytes_eq f.text text)
+    (filter_named (record { 0 = caller }) name m.filters) false
 
 -- its number, and how many issues its owner finds by it
 abbrev pub save_answer : Machine → ℕ → List ℕ → Query → Answer
-save_answer m caller name query = answer.SaveFilter (number_for m caller name) (length (found m caller query.condition))
+save_answer m caller name query =
+    answer.SaveFilter (number_for m caller name) (length (found m caller query.condition))
 
 -- the filter is this one from now on; where it is already, nothing is done
 abbrev pub saved : Machine → ℕ → List ℕ → List ℕ → Result Query Refusal → Meaning
@@ -64,27 +76,33 @@ saved m caller name text (Ok query) =
     else Makes (save_answer m caller name query) (NewFilter (filter_for m caller name text))
 
 unfoldable pub save_filter_meaning : Machine → ℕ → List ℕ → List ℕ → Meaning
-save_filter_meaning m caller name text = unless (filters_refusal m caller name) (saved m caller name text (asked m.setup caller text))
+save_filter_meaning m caller name text =
+    unless (filters_refusal m caller name) (saved m caller name text (asked m.setup caller text))
 
 -- ---- drop_filter
 
 -- the caller owns the filter, or may administer the tracker
 abbrev pub owner_refusal : Machine → ℕ → Option SavedFilter → Option Refusal
 owner_refusal m caller None = None
-owner_refusal m caller (Some f) = if f.owner.0 == caller then None else permission_refusal m caller permission.Administer None
+owner_refusal m caller (Some f) =
+    if f.owner.0 == caller then None else permission_refusal m caller permission.Administer None
 
 abbrev pub drop_filter_refusal : Machine → ℕ → FilterNo → Option Refusal
-drop_filter_refusal m caller filter_no = or_then (unless_filter m filter_no) (owner_refusal m caller (filter_numbered m filter_no))
+drop_filter_refusal m caller filter_no =
+    or_then (unless_filter m filter_no) (owner_refusal m caller (filter_numbered m filter_no))
 
 abbrev pub drop_filter_meaning : Machine → ℕ → FilterNo → Meaning
-drop_filter_meaning m caller filter_no = unless (drop_filter_refusal m caller filter_no) (Makes (answer.DropFilter filter_no) (NoFilter filter_no))
+drop_filter_meaning m caller filter_no =
+    unless (drop_filter_refusal m caller filter_no)
+    (Makes (answer.DropFilter filter_no) (NoFilter filter_no))
 
 -- ---- filter
 
 -- the caller and the owner may browse the issue, and the filter holds of it now
 abbrev pub is_shown : Machine → ℕ → SavedFilter → History → Bool
 is_shown m caller f h =
-    may m.setup f.owner.0 permission.Browse (project_number m.setup h) && is_found m caller (saved_query m.setup f).condition h
+    may m.setup f.owner.0 permission.Browse (project_number m.setup h)
+    && is_found m caller (saved_query m.setup f).condition h
 
 unfoldable pub shown : Machine → ℕ → SavedFilter → List History
 shown m caller f = filter (is_shown m caller f) m.histories
@@ -94,11 +112,15 @@ abbrev pub shown_in_order : Machine → ℕ → SavedFilter → List History
 shown_in_order m caller f = listed m.setup (saved_query m.setup f).keys m.order (shown m caller f)
 
 abbrev pub filter_answer : Machine → ℕ → Part → SavedFilter → Answer
-filter_answer m caller part f = answer.Filter (map (λ h. h.key) (part_of part (shown_in_order m caller f))) (length (shown m caller f))
+filter_answer m caller part f =
+    answer.Filter (map (λ h. h.key) (part_of part (shown_in_order m caller f)))
+    (length (shown m caller f))
 
 abbrev pub filter_told : Machine → ℕ → FilterNo → Part → Option SavedFilter → Meaning
-filter_told m caller filter_no part None = Refuses (refusal.Unknown thing.Filter (decimal filter_no.0))
+filter_told m caller filter_no part None =
+    Refuses (refusal.Unknown thing.Filter (decimal filter_no.0))
 filter_told m caller filter_no part (Some f) = Tells (filter_answer m caller part f)
 
 unfoldable pub filter_meaning : Machine → ℕ → FilterNo → Part → Meaning
-filter_meaning m caller filter_no part = filter_told m caller filter_no part (filter_numbered m filter_no)
+filter_meaning m caller filter_no part =
+    filter_told m caller filter_no part (filter_numbered m filter_no)

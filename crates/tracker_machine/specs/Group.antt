@@ -27,9 +27,11 @@ group_number m (c ∷ cs) = Some (m.change + 1)
 -- a group of these changes of the issue at a place; no change makes no group, and the answer says so
 abbrev pub grouped : (Option ℕ → Answer) → Machine → ℕ → ℕ → History → List Change → Meaning
 grouped answer m caller place h [] = Tells (answer None)
-grouped answer m caller place h (c ∷ cs) = Makes (answer (Some (m.change + 1))) (NewGroup place (next_group m caller h (c ∷ cs)))
+grouped answer m caller place h (c ∷ cs) =
+    Makes (answer (Some (m.change + 1))) (NewGroup place (next_group m caller h (c ∷ cs)))
 
 -- the same of an issue that may not be there
-abbrev pub grouped_at : (Option ℕ → Answer) → Machine → ℕ → Option ℕ → Option History → List Change → Meaning
+abbrev pub grouped_at : (Option ℕ → Answer) → Machine → ℕ → Option ℕ → Option History → List Change
+    → Meaning
 grouped_at answer m caller (Some place) (Some h) changes = grouped answer m caller place h changes
 grouped_at answer m caller _ _ changes = Tells (answer None)

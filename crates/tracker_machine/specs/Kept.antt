@@ -87,7 +87,8 @@ entries_of_change change entries = filter (λ e. e.change == change) entries
 -- the change group that the entries of one change are
 abbrev pub group_of : List Entry → Option Group
 group_of [] = None
-group_of (e ∷ es) = Some (record { change = e.change; at = e.at; author = e.author; entries = e ∷ es })
+group_of (e ∷ es) =
+    Some (record { change = e.change; at = e.at; author = e.author; entries = e ∷ es })
 
 -- the change group of a number, where the issue has it
 abbrev pub issue_group : ℕ → History → Option Part
@@ -104,11 +105,13 @@ rank_numbered order number = option_map (rank_part (record { 0 = number })) (ran
 
 -- the sprint of a number
 abbrev pub sprint_numbered : List Sprint → ℕ → Option Part
-sprint_numbered sprints number = option_map (sprint_part (record { 0 = number })) (sprint_of sprints number)
+sprint_numbered sprints number =
+    option_map (sprint_part (record { 0 = number })) (sprint_of sprints number)
 
 -- the members of the group of a number
 abbrev pub members_numbered : List UserGroup → ℕ → Option Part
-members_numbered groups number = option_map (λ g. members_part (record { 0 = number }) g.members) (numbered groups number)
+members_numbered groups number =
+    option_map (λ g. members_part (record { 0 = number }) g.members) (numbered groups number)
 
 -- the one part of a kind, which has number 0
 abbrev pub lone : Part → ℕ → Option Part
@@ -161,7 +164,8 @@ put_parts setup ps = map (put_part (names_in setup)) ps
 
 -- the change group of the issue at a place
 abbrev pub group_parts : List History → ℕ → Group → List Part
-group_parts histories place group = option_map_or (λ h. group_part h group ∷ []) (slice_get histories place) []
+group_parts histories place group =
+    option_map_or (λ h. group_part h group ∷ []) (slice_get histories place) []
 
 -- the external id of an issue, if it has one
 abbrev pub external_parts : IssueNo → Option (List ℕ) → List Part
@@ -175,14 +179,17 @@ rank_parts moves = map (λ move. rank_part move.0 move.1) moves
 -- a sprint in another state, where it is there
 abbrev pub state_parts : List Sprint → SprintNo → SprintState → List Part
 state_parts sprints sprint_no state =
-    option_map_or (λ s. sprint_part sprint_no (record s { state = state }) ∷ []) (sprint_of sprints sprint_no.0) []
+    option_map_or (λ s. sprint_part sprint_no (record s { state = state }) ∷ [])
+    (sprint_of sprints sprint_no.0) []
 
 -- the parts that an effect changes or makes, by kind
 unfoldable pub parts_of : Effect → Machine → List Part
 parts_of (NewMoment to) m = present_part (record m { moment = to }) ∷ []
 parts_of (NewIssue h rank external) m =
-    present_part (with_issue m h rank external) ∷ issue_part h ∷ rank_part h.no rank ∷ external_parts h.no external
-parts_of (NewGroup place group) m = present_part (with_group m place group) ∷ group_parts m.histories place group
+    present_part (with_issue m h rank external) ∷ issue_part h ∷ rank_part h.no rank
+    ∷ external_parts h.no external
+parts_of (NewGroup place group) m =
+    present_part (with_group m place group) ∷ group_parts m.histories place group
 parts_of (NewRank issue rank) m = rank_part issue rank ∷ []
 parts_of (NewBalance balance) m = present_part (with_balance m balance) ∷ []
 parts_of (NewRanks moves) m = present_part (with_moves m moves) ∷ rank_parts moves
@@ -198,7 +205,8 @@ parts_of (NewMembers group members) m = members_part group members ∷ []
 
 -- the rows of a filter's boards
 abbrev pub board_drops : FilterNo → List Board → List RowOp
-board_drops filter_no boards = map (λ b. Drop 9 (board_number b)) (filter (is_board_of filter_no) boards)
+board_drops filter_no boards =
+    map (λ b. Drop 9 (board_number b)) (filter (is_board_of filter_no) boards)
 
 -- the rows that an effect ends, by kind
 unfoldable pub drops_of : Effect → Machine → List RowOp
@@ -217,7 +225,8 @@ ops_of effect m = put_parts m.setup (parts_of effect m)
 -- the members of groups that are numbered from this number on
 abbrev pub members_from : ℕ → List UserGroup → List Part
 members_from first [] = []
-members_from first (g ∷ gs) = members_part (record { 0 = first }) g.members ∷ members_from (first + 1) gs
+members_from first (g ∷ gs) =
+    members_part (record { 0 = first }) g.members ∷ members_from (first + 1) gs
 
 abbrev pub all_members : Machine → List Part
 all_members m = members_from 1 m.setup.group

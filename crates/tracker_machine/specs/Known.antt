@@ -33,10 +33,12 @@ is_field fields name = is_some (field_named fields name)
 -- the place of the issue of that key, and its history
 abbrev pub place_of_issue : List ℕ → List History → Option ℕ
 place_of_issue name [] = None
-place_of_issue name (h ∷ hs) = if bytes_eq h.key name then Some 0 else option_map suc (place_of_issue name hs)
+place_of_issue name (h ∷ hs) =
+    if bytes_eq h.key name then Some 0 else option_map suc (place_of_issue name hs)
 
 abbrev pub history_named : Machine → List ℕ → Option History
-history_named m name = option_and_then (λ place. slice_get m.histories place) (place_of_issue name m.histories)
+history_named m name =
+    option_and_then (λ place. slice_get m.histories place) (place_of_issue name m.histories)
 
 -- the key of the issue of a number, which stands at the place before it
 abbrev pub key_numbered : List History → ℕ → List ℕ
@@ -44,7 +46,8 @@ key_numbered histories number = option_map_or (λ h. h.key) (slice_get histories
 
 -- how many issues a project has
 abbrev pub issues_of : List ℕ → List History → ℕ
-issues_of project histories = sum_by (λ h. if bytes_eq (project_of h.key) project then 1 else 0) histories
+issues_of project histories =
+    sum_by (λ h. if bytes_eq (project_of h.key) project then 1 else 0) histories
 
 -- the key of the project's next issue
 abbrev pub next_key : Machine → List ℕ → List ℕ

@@ -15,25 +15,32 @@ use Rattle.tracker_machine.specs.Checks.{first_with}
 
 -- what holds of every tracker holds after each effect that it may have
 abbrev pub EffectsKeepTrackers : Type 0
-EffectsKeepTrackers = (effect : Effect) (m : Machine) → IsAllowed effect m → IsTracker m → IsTracker (applied effect m)
+EffectsKeepTrackers =
+    (effect : Effect) (m : Machine) → IsAllowed effect m → IsTracker m
+    → IsTracker (applied effect m)
 
 -- ---- rows
 
 -- the rows after an effect are the rows before it, with the operations that keep it
 abbrev pub OperationsKeepEffects : Type 0
 OperationsKeepEffects =
-    (effect : Effect) (m : Machine) → IsAllowed effect m → IsTracker m → rows_of (applied effect m) ≡ with_ops (ops_of effect m) (rows_of m)
+    (effect : Effect) (m : Machine) → IsAllowed effect m → IsTracker m
+    → rows_of (applied effect m) ≡ with_ops (ops_of effect m) (rows_of m)
 
 -- where nothing is kept, the opening operations leave the rows of a new tracker
 abbrev pub OperationsOpenTrackers : Type 0
-OperationsOpenTrackers = (text : List ℕ) (setup : Parts) → with_ops (opening_ops (opening text setup)) no_rows ≡ rows_of (opening text setup)
+OperationsOpenTrackers =
+    (text : List ℕ) (setup : Parts)
+    → with_ops (opening_ops (opening text setup)) no_rows ≡ rows_of (opening text setup)
 
 -- the numbers of these rows are below 2 ^ 63, which a table of signed numbers can hold
 abbrev pub AreSmallOps : List RowOp → Type 0
 AreSmallOps ops = All (λ op. number_of op < 2 ^ 63) ops
 
 abbrev pub OperationsAreSmall : Type 0
-OperationsAreSmall = (effect : Effect) (m : Machine) → IsAllowed effect m → IsTracker m → AreSmallOps (ops_of effect m)
+OperationsAreSmall =
+    (effect : Effect) (m : Machine) → IsAllowed effect m → IsTracker m
+    → AreSmallOps (ops_of effect m)
 
 abbrev pub OpeningIsSmall : Type 0
 OpeningIsSmall = (m : Machine) → length m.setup.group ≤ 100 → AreSmallOps (opening_ops m)
@@ -44,11 +51,14 @@ MigrationsAreSmall = (m : Machine) → IsTracker m → AreSmallOps (migrating_op
 -- each part of a tracker is one that may be kept, of the kind and the number that it is kept under
 abbrev pub PartsMayBeKept : Type 0
 PartsMayBeKept =
-    (m : Machine) (kind number : ℕ) (p : Part) → IsSetupText m.text → IsTracker m → part_at m kind number ≡ Some p → IsPartAt m.setup kind number p
+    (m : Machine) (kind number : ℕ) (p : Part) → IsSetupText m.text → IsTracker m
+    → part_at m kind number ≡ Some p → IsPartAt m.setup kind number p
 
 -- so is each part that an effect puts, and each of a new tracker
 abbrev pub EffectsMayBeKept : Type 0
-EffectsMayBeKept = (effect : Effect) (m : Machine) → IsAllowed effect m → IsTracker m → All (IsPart m.setup) (parts_of effect m)
+EffectsMayBeKept =
+    (effect : Effect) (m : Machine) → IsAllowed effect m → IsTracker m
+    → All (IsPart m.setup) (parts_of effect m)
 
 abbrev pub OpeningMayBeKept : Type 0
 OpeningMayBeKept =
@@ -68,4 +78,6 @@ pub record IsLeastName (names : List (List ℕ)) (name : List ℕ) : Type 0 wher
 
 -- of the names in `set` that are refused, the least is told
 abbrev pub FirstNameIsLeast : Type 0
-FirstNameIsLeast = (names : List (List ℕ)) (name : List ℕ) → first_with None names ≡ Some name → IsLeastName names name
+FirstNameIsLeast =
+    (names : List (List ℕ)) (name : List ℕ) → first_with None names ≡ Some name
+    → IsLeastName names name

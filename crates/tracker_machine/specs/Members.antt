@@ -32,12 +32,14 @@ pub record IsSetupOf (text : List ℕ) (setup : Parts) : Type 0 where
 abbrev pub stranger_refusal : List (List ℕ) → List (List ℕ) → Option Refusal
 stranger_refusal users [] = None
 stranger_refusal users (name ∷ names) =
-    or_then (unless_known (place_named name users) (refusal.Unknown thing.User name)) (stranger_refusal users names)
+    or_then (unless_known (place_named name users) (refusal.Unknown thing.User name))
+    (stranger_refusal users names)
 
 -- the group is there, so is each user, and the caller may administer the tracker
 abbrev pub set_group_refusal : Machine → ℕ → List ℕ → List (List ℕ) → Option Refusal
 set_group_refusal m caller group names =
-    or_then (unless_known (place_named group (group_names m.setup)) (refusal.Unknown thing.Group group))
+    or_then (unless_known (place_named group (group_names m.setup))
+    (refusal.Unknown thing.Group group))
     (or_then (stranger_refusal m.setup.users names)
     (permission_refusal m caller permission.Administer None))
 
@@ -48,7 +50,8 @@ users_named setup names = members_in 0 setup.users names
 -- the group at a place has these members from now on
 abbrev pub regroups : Parts → ℕ → List UserNo → Meaning
 regroups setup place members =
-    Makes (answer.SetGroup (name_at (group_names setup) place) (length members)) (NewMembers (record { 0 = place + 1 }) members)
+    Makes (answer.SetGroup (name_at (group_names setup) place) (length members))
+    (NewMembers (record { 0 = place + 1 }) members)
 
 unfoldable pub set_group_meaning : Machine → ℕ → List ℕ → List (List ℕ) → Meaning
 set_group_meaning m caller group names =

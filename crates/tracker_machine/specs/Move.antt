@@ -39,8 +39,10 @@ newly_ranked m name issue rank =
     else Makes (move_answer name rank) (NewRank issue rank)
 
 -- the issue goes to the place beside the other one
-abbrev pub moved_beside : Machine → List ℕ → (IssueNo → Place) → Option History → Option History → Meaning
-moved_beside m name place (Some h) (Some other) = with_given (moved_rank m h.no (place other.no)) (newly_ranked m name h.no)
+abbrev pub moved_beside : Machine → List ℕ → (IssueNo → Place) → Option History → Option History
+    → Meaning
+moved_beside m name place (Some h) (Some other) =
+    with_given (moved_rank m h.no (place other.no)) (newly_ranked m name h.no)
 moved_beside m name place _ _ = Tells (answer.Move name [])
 
 abbrev pub move_meaning : Machine → ℕ → List ℕ → List ℕ → (IssueNo → Place) → Meaning

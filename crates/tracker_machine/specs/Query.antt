@@ -18,14 +18,17 @@ pub record Query : Type 0 where
   pub keys : List OrderKey
 
 -- what a text that is read asks for in the setup, or the fault that it has there
-abbrev pub bound_or_fault : Result (Option Condition × List OrderKey) PlacedFault → Result Query Refusal
+abbrev pub bound_or_fault : Result (Option Condition × List OrderKey) PlacedFault
+    → Result Query Refusal
 bound_or_fault (Ok bound) = Ok (record { condition = bound.0; keys = bound.1 })
 bound_or_fault (Err fault) = Err (refusal.Query (number_of_kind fault.kind) fault.place)
 
 -- what a text asks for when the user asks it, or its first fault
 abbrev pub asked_by : Parts → ℕ → (text : List ℕ) → QueryOrFault text → Result Query Refusal
-asked_by setup user text (text_is q keys is) = bound_or_fault (bound_in (scope_by setup (record { 0 = user })) q keys)
-asked_by setup user text (text_has place kind is) = Err (refusal.Query (number_of_text_fault kind) place)
+asked_by setup user text (text_is q keys is) =
+    bound_or_fault (bound_in (scope_by setup (record { 0 = user })) q keys)
+asked_by setup user text (text_has place kind is) =
+    Err (refusal.Query (number_of_text_fault kind) place)
 
 -- each text is a query or has a first fault, and never both
 unfoldable pub asked : Parts → ℕ → List ℕ → Result Query Refusal

@@ -35,4 +35,5 @@ moved_rank m issue place = rank_for m.order m.balance (Some issue) place
 
 -- the issue has this rank already
 abbrev pub has_rank : List Pair → IssueNo → RankParts → Bool
-has_rank order issue rank = option_map_or (λ own. eq_by_cmp rank_cmp own rank) (rank_in order issue.0) false
+has_rank order issue rank =
+    option_map_or (λ own. eq_by_cmp rank_cmp own rank) (rank_in order issue.0) false

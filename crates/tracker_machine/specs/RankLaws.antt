@@ -74,7 +74,8 @@ is_rebalancing line = asks_to_rebalance (line_of line)
 -- the replies to lines, none of which is marked
 abbrev pub replies_of : Machine → List (List ℕ) → List Reply
 replies_of m [] = []
-replies_of m (line ∷ lines) = asked_reply m (line_of line) ∷ replies_of (asked_next m (line_of line)) lines
+replies_of m (line ∷ lines) =
+    asked_reply m (line_of line) ∷ replies_of (asked_next m (line_of line)) lines
 
 -- the replies to those of the lines that don't rebalance
 abbrev pub other_replies : Machine → List (List ℕ) → List Reply
@@ -91,7 +92,8 @@ other_lines lines = filter (λ line. not (is_rebalancing line)) lines
 abbrev pub without_ranks : Reply → Reply
 without_ranks (reply.Ok (answer.Move issue rank)) = reply.Ok (answer.Move issue [])
 without_ranks (reply.Ok (answer.Ranks ranks total)) = reply.Ok (answer.Ranks [] 0)
-without_ranks (reply.Ok (answer.Balance state longest offer)) = reply.Ok (answer.Balance (Idle 0) 0 false)
+without_ranks (reply.Ok (answer.Balance state longest offer)) =
+    reply.Ok (answer.Balance (Idle 0) 0 false)
 without_ranks r = r
 
 -- no call finds that no rank is left for a place
@@ -151,9 +153,11 @@ OthersLeaveRanks =
 abbrev pub StepsAmong : ℕ → ℕ → Machine → List (List ℕ) → Type 0
 StepsAmong count steps m [] = steps ≡ 0
 StepsAmong count steps m (line ∷ lines) =
-    (LeavesRanks m (asked_next m (line_of line)) × StepsAmong count steps (asked_next m (line_of line)) lines)
+    (LeavesRanks m (asked_next m (line_of line))
+    × StepsAmong count steps (asked_next m (line_of line)) lines)
     ⊎ (IsAcceptedCall (call.RebalanceStep count) m line
-    × ((fewer : ℕ) × (steps ≡ suc fewer) × StepsAmong count fewer (asked_next m (line_of line)) lines))
+    × ((fewer : ℕ) × (steps ≡ suc fewer)
+    × StepsAmong count fewer (asked_next m (line_of line)) lines))
 
 -- the state after lines, none of which is marked
 abbrev pub end_of_lines : Machine → List (List ℕ) → Machine
@@ -173,5 +177,6 @@ abbrev pub RebalancingsEnd : Type 0
 RebalancingsEnd =
     (m : Machine) (start : List ℕ) (lines : List (List ℕ)) (count steps bucket : ℕ) → HasRanks m →
     length m.histories ≤ 50_000 → m.balance ≡ balance.Idle bucket → 1 ≤ count →
-    IsAcceptedCall call.RebalanceStart m start → StepsAmong count steps (asked_next m (line_of start)) lines →
+    IsAcceptedCall call.RebalanceStart m start
+    → StepsAmong count steps (asked_next m (line_of start)) lines →
     HasComeSoFar count steps (length m.histories) bucket (end_of_lines m (start ∷ lines))

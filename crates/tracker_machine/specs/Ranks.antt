@@ -19,7 +19,9 @@ abbrev pub ranked_key : List History → Pair → RankedKey
 ranked_key histories p = record { issue = key_numbered histories p.1.0; rank = rank_text p.0 }
 
 abbrev pub ranks_answer : Machine → Part → Answer
-ranks_answer m part = answer.Ranks (map (ranked_key m.histories) (part_of part m.order)) (length m.order)
+ranks_answer m part =
+    answer.Ranks (map (ranked_key m.histories) (part_of part m.order)) (length m.order)
 
 abbrev pub ranks_meaning : Machine → ℕ → Part → Meaning
-ranks_meaning m caller part = unless (permission_refusal m caller permission.Administer None) (Tells (ranks_answer m part))
+ranks_meaning m caller part =
+    unless (permission_refusal m caller permission.Administer None) (Tells (ranks_answer m part))

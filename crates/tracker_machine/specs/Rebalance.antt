@@ -31,17 +31,21 @@ balance_refusal (Moving from to) = refusal.BalanceIs (kept.Moving from to)
 
 -- a balance at rest moves to the next bucket
 abbrev pub started : Balance → Meaning
-started (Idle bucket) = Makes (answer.RebalanceStart bucket (next_bucket bucket)) (NewBalance (Moving bucket (next_bucket bucket)))
+started (Idle bucket) =
+    Makes (answer.RebalanceStart bucket (next_bucket bucket))
+    (NewBalance (Moving bucket (next_bucket bucket)))
 started (Moving from to) = Refuses (balance_refusal (Moving from to))
 
 abbrev pub rebalance_start_meaning : Machine → ℕ → Meaning
-rebalance_start_meaning m caller = unless (permission_refusal m caller permission.Administer None) (started m.balance)
+rebalance_start_meaning m caller =
+    unless (permission_refusal m caller permission.Administer None) (started m.balance)
 
 -- ---- a step
 
 -- how many ranks are left in the old bucket, and how many went to the new one
 abbrev pub step_answer : List Pair → ℕ → List Move → Answer
-step_answer order from moves = answer.RebalanceStep (left_in from (after_moves order moves)) (length moves)
+step_answer order from moves =
+    answer.RebalanceStep (left_in from (after_moves order moves)) (length moves)
 
 -- what comes of the moves of a step; where one of them finds no rank, the call is refused
 abbrev pub with_planned : List Pair → ℕ → Result (List Move) Sides → Meaning
@@ -53,7 +57,9 @@ stepped order (Idle bucket) count = Refuses (balance_refusal (Idle bucket))
 stepped order (Moving from to) count = with_planned order from (planned order from to count)
 
 abbrev pub rebalance_step_meaning : Machine → ℕ → ℕ → Meaning
-rebalance_step_meaning m caller count = unless (permission_refusal m caller permission.Administer None) (stepped m.order m.balance count)
+rebalance_step_meaning m caller count =
+    unless (permission_refusal m caller permission.Administer None)
+    (stepped m.order m.balance count)
 
 -- ---- where the ranks stand
 
@@ -66,7 +72,8 @@ abbrev pub is_offered : List Pair → Bool
 is_offered order = nat_le 128 (longest_in order)
 
 abbrev pub balance_answer : Machine → Answer
-balance_answer m = answer.Balance (balance_state m.order m.balance) (longest_in m.order) (is_offered m.order)
+balance_answer m =
+    answer.Balance (balance_state m.order m.balance) (longest_in m.order) (is_offered m.order)
 
 abbrev pub balance_meaning : Machine → Meaning
 balance_meaning m = Tells (balance_answer m)

@@ -67,14 +67,16 @@ reply_line r = reply_text r ++ 10 ∷ []
 
 abbrev pub text_of_run : Machine → List Marked → List ℕ
 text_of_run m [] = []
-text_of_run m (x ∷ xs) = reply_line (marked_reply m x.line x.mark) ++ text_of_run (marked_next m x.line x.mark) xs
+text_of_run m (x ∷ xs) =
+    reply_line (marked_reply m x.line x.mark) ++ text_of_run (marked_next m x.line x.mark) xs
 
 abbrev pub end_of_run : Machine → List Marked → Machine
 end_of_run m [] = m
 end_of_run m (x ∷ xs) = end_of_run (marked_next m x.line x.mark) xs
 
 -- these lines are answered by this text, and lead to this state, under some marks, so many of which are of a keeper that failed
-pub record IsRun (old : Machine) (lines : List (List ℕ)) (text : List ℕ) (new : Machine) (failures : ℕ) : Type 0 where
+pub record IsRun (old : Machine) (lines : List (List ℕ)) (text : List ℕ) (new : Machine)
+    (failures : ℕ) : Type 0 where
   pub marked : List Marked
   pub lines_are : map (λ x. x.line) marked ≡ lines
   pub text_is : text ≡ text_of_run old marked
@@ -88,33 +90,40 @@ pub record RepliesTo (old : Machine) (line : List ℕ) (reply : Reply) (new : Ma
   pub new_is : new ≡ marked_next old line mark
 
 -- one line of the input: a blank one is passed over, any other has its reply's line
-pub record HasReply (old : Machine) (line text : List ℕ) (new : Machine) (failures : ℕ) : Type 0 where
+pub record HasReply (old : Machine) (line text : List ℕ) (new : Machine)
+    (failures : ℕ) : Type 0 where
   pub mark : Mark
   pub text_is : text ≡ reply_line (marked_reply old line mark)
   pub new_is : new ≡ marked_next old line mark
   pub failures_are : failures ≡ failures_at mark
 
 -- a blank line asks for nothing
-pub record IsPassedOver (old : Machine) (text : List ℕ) (new : Machine) (failures : ℕ) : Type 0 where
+pub record IsPassedOver (old : Machine) (text : List ℕ) (new : Machine)
+    (failures : ℕ) : Type 0 where
   pub text_is : text ≡ []
   pub new_is : new ≡ old
   pub failures_are : failures ≡ 0
 
 abbrev pub AnswersLine : Machine → List ℕ → List ℕ → Machine → ℕ → Type 0
-AnswersLine old line text new failures = MatchBool (is_blank line) (IsPassedOver old text new failures) (HasReply old line text new failures)
+AnswersLine old line text new failures =
+    MatchBool (is_blank line) (IsPassedOver old text new failures)
+    (HasReply old line text new failures)
 
 -- after the lines that are done, no further one was answered; or the next one was, which isn't blank and is within the
 -- limits too, and this is a front of its reply's line
 abbrev pub IsFrontOfReply : Machine → List (List ℕ) → List (List ℕ) → List ℕ → Machine → ℕ → Type 0
 IsFrontOfReply m done rest front new failures =
     ((front ≡ []) × (new ≡ m) × (failures ≡ 0))
-    ⊎ ((line : List ℕ) × (more : List (List ℕ)) × (mark : Mark) × (back : List ℕ) × (rest ≡ line ∷ more)
+    ⊎ ((line : List ℕ) × (more : List (List ℕ)) × (mark : Mark) × (back : List ℕ)
+    × (rest ≡ line ∷ more)
     × AreWithinLimits (done ++ line ∷ []) × (is_blank line ≡ false)
-    × (reply_line (marked_reply m line mark) ≡ front ++ back) × (new ≡ marked_next m line mark) × (failures ≡ failures_at mark))
+    × (reply_line (marked_reply m line mark) ≡ front ++ back) × (new ≡ marked_next m line mark)
+    × (failures ≡ failures_at mark))
 
 -- the first of these lines have their whole replies, and at most the next one was answered too and has a front of its
 -- reply; this is the state after them
-pub record IsCutRun (old : Machine) (all : List (List ℕ)) (text : List ℕ) (new : Machine) (failures : ℕ) : Type 0 where
+pub record IsCutRun (old : Machine) (all : List (List ℕ)) (text : List ℕ) (new : Machine)
+    (failures : ℕ) : Type 0 where
   pub done : List (List ℕ)
   pub rest : List (List ℕ)
   pub all_is : all ≡ done ++ rest

@@ -33,7 +33,8 @@ is_named owner name f = f.owner.0 == owner.0 && bytes_eq f.name name
 -- the user's filter of a name, if there is one
 abbrev pub filter_named : UserNo → List ℕ → List SavedFilter → Option SavedFilter
 filter_named owner name [] = None
-filter_named owner name (f ∷ fs) = if is_named owner name f then Some f else filter_named owner name fs
+filter_named owner name (f ∷ fs) =
+    if is_named owner name f then Some f else filter_named owner name fs
 
 -- no user has two filters of one name
 abbrev pub HaveOwnNames : List SavedFilter → Type 0
@@ -78,7 +79,8 @@ pub record IsBoard (filters : List SavedFilter) (b : Board) : Type 0 where
 
 -- the filters and boards of a tracker: the numbers of each rise from 1 on, no user has two filters of one name, and there are
 -- not too many
-pub record AreSaved (setup : Parts) (filters : List SavedFilter) (boards : List Board) : Type 0 where
+pub record AreSaved (setup : Parts) (filters : List SavedFilter)
+    (boards : List Board) : Type 0 where
   pub rising : RiseFrom filter_number 1 filters
   pub names : HaveOwnNames filters
   pub few : length filters ≤ 200

@@ -35,13 +35,17 @@ abbrev pub surroundings_in : Parts → List Sprint → Surroundings
 surroundings_in setup sprints = record {
   sprints = map (λ s. phase_of s.state) sprints;
   members = map (λ g. g.members) setup.group;
-  calendar = record { zone = zone_of setup.utc_offset_minutes setup.offset; first_day = day_number setup.week_starts };
+  calendar = record {
+    zone = zone_of setup.utc_offset_minutes setup.offset;
+    first_day = day_number setup.week_starts;
+  };
 }
 
 -- the user may browse the issue, and the query holds of it now
 abbrev pub is_found : Machine → ℕ → Option Condition → History → Bool
 is_found m caller condition h =
-    may m.setup caller permission.Browse (project_number m.setup h) && query_holds (surroundings_in m.setup m.sprints) h m.moment condition
+    may m.setup caller permission.Browse (project_number m.setup h)
+    && query_holds (surroundings_in m.setup m.sprints) h m.moment condition
 
 unfoldable pub found : Machine → ℕ → Option Condition → List History
 found m caller condition = filter (is_found m caller condition) m.histories
@@ -52,14 +56,17 @@ ranks_cmp order one other = nat_cmp (places_before order one.no.0) (places_befor
 
 -- the issues in the order of the sort keys, and by number where none of these tells them apart
 abbrev pub comes_before : Parts → List OrderKey → List Pair → History → History → Bool
-comes_before setup keys order one other = is_lt (issue_cmp setup keys (ranks_cmp order one other) one other)
+comes_before setup keys order one other =
+    is_lt (issue_cmp setup keys (ranks_cmp order one other) one other)
 
 unfoldable pub listed : Parts → List OrderKey → List Pair → List History → List History
 listed setup keys order histories = in_order (comes_before setup keys order) histories
 
 abbrev pub search_answer : Machine → ℕ → Part → Query → Answer
 search_answer m caller part query =
-    answer.Search (map (λ h. h.key) (part_of part (listed m.setup query.keys m.order (found m caller query.condition)))) (length (found m caller query.condition))
+    answer.Search (map (λ h. h.key)
+    (part_of part (listed m.setup query.keys m.order (found m caller query.condition))))
+    (length (found m caller query.condition))
 
 -- the issues that a query finds, or its fault
 abbrev pub searched : Machine → ℕ → Part → Result Query Refusal → Meaning

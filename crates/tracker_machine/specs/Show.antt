@@ -31,7 +31,8 @@ abbrev pub shown_value : Names → ℕ → Value → Option Shown
 shown_value names n value.Empty = None
 shown_value names n (value.Text text) = Some (shown.Text text)
 shown_value names n (value.Number z) = Some (shown.Text (number_text z))
-shown_value names n (value.Choice choice) = Some (shown.Text (name_at (choices_of names n) choice.0))
+shown_value names n (value.Choice choice) =
+    Some (shown.Text (name_at (choices_of names n) choice.0))
 shown_value names n (value.User user) = Some (shown.Text (name_at names.users user.0))
 shown_value names n (value.Date day) = Some (shown.Text (date_text day.0))
 shown_value names n (value.Set choices) = Some (shown.List (chosen_names names.versions choices))
@@ -45,7 +46,8 @@ with_shown name (Some s) more = (record { name = name; value = s }) ∷ more
 abbrev pub shown_fields : Names → History → List ℕ → List ShownField
 shown_fields names h [] = []
 shown_fields names h (n ∷ ns) =
-    with_shown (field_name names.fields n) (shown_value names n (present h (record { 0 = n }))) (shown_fields names h ns)
+    with_shown (field_name names.fields n) (shown_value names n (present h (record { 0 = n })))
+    (shown_fields names h ns)
 
 -- all fields that aren't empty
 unfoldable pub shown_issue : Names → History → List ShownField
@@ -61,4 +63,5 @@ show_answer_of m None = answer.Show 0 [] [] 0
 show_answer_of m (Some h) = answer.Show h.at (shown_issue (names_in m.setup) h) h.key (updated h)
 
 abbrev pub show_meaning : Machine → ℕ → List ℕ → Meaning
-show_meaning m caller issue = unless (show_refusal m caller issue) (Tells (show_answer_of m (history_named m issue)))
+show_meaning m caller issue =
+    unless (show_refusal m caller issue) (Tells (show_answer_of m (history_named m issue)))

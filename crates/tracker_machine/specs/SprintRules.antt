@@ -38,7 +38,9 @@ with_future sprints name = sprints ++ future name ∷ []
 
 -- the sprints with that one in another state, where it is there
 abbrev pub in_state : List Sprint → ℕ → SprintState → List Sprint
-in_state sprints n state = option_map_or (λ x. slice_set sprints (n - 1) (record x { state = state })) (sprint_of sprints n) sprints
+in_state sprints n state =
+    option_map_or (λ x. slice_set sprints (n - 1) (record x { state = state }))
+    (sprint_of sprints n) sprints
 
 -- ---- issues of a sprint
 
@@ -90,7 +92,8 @@ pub record IsSprint (moment change : ℕ) (s : Sprint) : Type 0 where
   pub timely : IsTimely moment change s.state
 
 -- the sprints of a tracker: each is one, there are not too many, and all that issues have been in are there
-pub record AreSprints (moment change : ℕ) (sprints : List Sprint) (histories : List History) : Type 0 where
+pub record AreSprints (moment change : ℕ) (sprints : List Sprint)
+    (histories : List History) : Type 0 where
   pub few : length sprints ≤ 1_000
   pub each : All (IsSprint moment change) sprints
   pub issues : All (IsInSprints (length sprints)) histories
@@ -104,9 +107,11 @@ pub record MayMakeSprint (sprints : List Sprint) (name : List ℕ) : Type 0 wher
 
 -- a sprint starts or is closed now, from the state that it is in
 abbrev pub IsNextState : ℕ → ℕ → SprintState → SprintState → Type 0
-IsNextState moment change kept state = (after_start kept moment change ≡ Some state) ⊎ (after_close kept moment change ≡ Some state)
+IsNextState moment change kept state =
+    (after_start kept moment change ≡ Some state) ⊎ (after_close kept moment change ≡ Some state)
 
 -- a sprint that is there may come to this state
-pub record MayTurn (moment change : ℕ) (sprints : List Sprint) (sprint : SprintNo) (state : SprintState) : Type 0 where
+pub record MayTurn (moment change : ℕ) (sprints : List Sprint) (sprint : SprintNo)
+    (state : SprintState) : Type 0 where
   pub there : IsThere sprints sprint.0
   pub next : IsNextState moment change (state_in sprints sprint.0) state

@@ -35,11 +35,13 @@ told_phase (Closed start_at start_change at change) = phase.Closed
 
 -- the sprint has to be there
 abbrev pub unless_sprint : Machine → SprintNo → Option Refusal
-unless_sprint m sprint = unless_known (state_of m.sprints sprint.0) (refusal.Unknown thing.Sprint (decimal sprint.0))
+unless_sprint m sprint =
+    unless_known (state_of m.sprints sprint.0) (refusal.Unknown thing.Sprint (decimal sprint.0))
 
 -- it is there, and the caller may plan
 abbrev pub plan_sprint_refusal : Machine → ℕ → SprintNo → Option Refusal
-plan_sprint_refusal m caller sprint = or_then (unless_sprint m sprint) (permission_refusal m caller permission.Plan None)
+plan_sprint_refusal m caller sprint =
+    or_then (unless_sprint m sprint) (permission_refusal m caller permission.Plan None)
 
 -- ---- make_sprint
 
@@ -49,7 +51,8 @@ sprints_refusal m = only_if (nat_lt (length m.sprints) 1_000) (refusal.Limit lim
 
 -- the caller may plan, and one more sprint finds room
 abbrev pub make_sprint_refusal : Machine → ℕ → Option Refusal
-make_sprint_refusal m caller = or_then (permission_refusal m caller permission.Plan None) (sprints_refusal m)
+make_sprint_refusal m caller =
+    or_then (permission_refusal m caller permission.Plan None) (sprints_refusal m)
 
 -- sprints are numbered from 1
 abbrev pub next_sprint : Machine → SprintNo
@@ -57,30 +60,40 @@ next_sprint m = record { 0 = length m.sprints + 1 }
 
 abbrev pub make_sprint_meaning : Machine → ℕ → List ℕ → Meaning
 make_sprint_meaning m caller name =
-    unless (make_sprint_refusal m caller) (Makes (answer.MakeSprint (next_sprint m)) (NewSprint name))
+    unless (make_sprint_refusal m caller)
+    (Makes (answer.MakeSprint (next_sprint m)) (NewSprint name))
 
 -- ---- start_sprint and close_sprint
 
 -- a sprint of this state goes to the next one, where there is one; else the call is refused
 abbrev pub turned : SprintNo → SprintState → Option SprintState → Meaning
-turned sprint kept (Some next) = Makes (answer.SprintPhase sprint (told_phase next)) (NewState sprint next)
+turned sprint kept (Some next) =
+    Makes (answer.SprintPhase sprint (told_phase next)) (NewState sprint next)
 turned sprint kept None = Refuses (refusal.SprintIs (told_phase kept))
 
 abbrev pub start_sprint_meaning : Machine → ℕ → SprintNo → Meaning
 start_sprint_meaning m caller sprint =
     unless (plan_sprint_refusal m caller sprint)
-    (turned sprint (state_in m.sprints sprint.0) (after_start (state_in m.sprints sprint.0) m.moment m.change))
+    (turned sprint (state_in m.sprints sprint.0)
+    (after_start (state_in m.sprints sprint.0) m.moment m.change))
 
 abbrev pub close_sprint_meaning : Machine → ℕ → SprintNo → Meaning
 close_sprint_meaning m caller sprint =
     unless (plan_sprint_refusal m caller sprint)
-    (turned sprint (state_in m.sprints sprint.0) (after_close (state_in m.sprints sprint.0) m.moment m.change))
+    (turned sprint (state_in m.sprints sprint.0)
+    (after_close (state_in m.sprints sprint.0) m.moment m.change))
 
 -- ---- burndown
 
 -- what the remaining work of each sprint goes by
 abbrev pub work_of : Machine → Seen
-work_of m = record { done = done_of m.setup.status; sprints = m.sprints; histories = m.histories; change = m.change }
+work_of m =
+    record {
+      done = done_of m.setup.status;
+      sprints = m.sprints;
+      histories = m.histories;
+      change = m.change;
+    }
 
 -- a change of what remains, under the key of its issue
 abbrev pub told_row : List History → BurnRow → BurnedRow
@@ -101,4 +114,5 @@ burndown_answer m sprint part =
     (length (sprint_rows (work_of m) sprint.0))
 
 abbrev pub burndown_meaning : Machine → ℕ → SprintNo → Part → Meaning
-burndown_meaning m caller sprint part = unless (plan_sprint_refusal m caller sprint) (Tells (burndown_answer m sprint part))
+burndown_meaning m caller sprint part =
+    unless (plan_sprint_refusal m caller sprint) (Tells (burndown_answer m sprint part))

@@ -25,9 +25,11 @@ use Rattle.tracker_machine.specs.Sprints.{make_sprint_meaning, start_sprint_mean
 
 -- the call of a user, who is known, by place
 unfoldable pub meaning_for : Machine → ℕ → Call → Meaning
-meaning_for m user (call.Create project issue_type summary set external) = create_meaning m user project issue_type summary set external
+meaning_for m user (call.Create project issue_type summary set external) =
+    create_meaning m user project issue_type summary set external
 meaning_for m user (call.Edit issue set) = edit_meaning m user issue set
-meaning_for m user (call.Transition issue transition set) = transition_meaning m user issue transition set
+meaning_for m user (call.Transition issue transition set) =
+    transition_meaning m user issue transition set
 meaning_for m user (call.Tick to) = tick_meaning m to
 meaning_for m user (call.Show issue) = show_meaning m user issue
 meaning_for m user (call.History issue part) = history_meaning m user issue part
@@ -52,7 +54,8 @@ meaning_for m user (call.Burndown sprint part) = burndown_meaning m user sprint 
 
 -- the fault of a call's form; a call that was read from a line has none
 unfoldable pub form_refusal : Call → Option Refusal
-form_refusal (call.Create project issue_type summary set external) = or_then (twins_refusal set) (external_refusal external)
+form_refusal (call.Create project issue_type summary set external) =
+    or_then (twins_refusal set) (external_refusal external)
 form_refusal (call.Edit issue set) = twins_refusal set
 form_refusal (call.Transition issue transition set) = twins_refusal set
 form_refusal (call.History issue part) = part_refusal 50 part
@@ -76,7 +79,8 @@ user_of m caller = known_place caller m.setup.users
 
 -- what the call of somebody of that name means
 unfoldable pub meaning : Machine → List ℕ → Call → Meaning
-meaning m caller c = unless (form_refusal c) (unless (caller_refusal m caller) (meaning_for m (user_of m caller) c))
+meaning m caller c =
+    unless (form_refusal c) (unless (caller_refusal m caller) (meaning_for m (user_of m caller) c))
 
 unfoldable pub reply_of : Machine → List ℕ → Call → Reply
 reply_of m caller c = reply_to (meaning m caller c)

@@ -14,7 +14,8 @@ tick_refusal m to = if nat_lt to m.moment then Some (refusal.Earlier m.moment) e
 
 -- the moment is this one; where it is already, nothing is done
 abbrev pub ticked : Machine → ℕ → Meaning
-ticked m to = if to == m.moment then Tells (answer.Tick to) else Makes (answer.Tick to) (NewMoment to)
+ticked m to =
+    if to == m.moment then Tells (answer.Tick to) else Makes (answer.Tick to) (NewMoment to)
 
 abbrev pub tick_meaning : Machine → ℕ → Meaning
 tick_meaning m to = unless (tick_refusal m to) (ticked m to)

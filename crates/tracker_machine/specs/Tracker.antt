@@ -39,7 +39,8 @@ Holds names f v = (v ≡ Empty) ⊎ (fits names f.0 v ≡ true)
 -- so do both sides of each entry
 abbrev pub AllEntriesHold : Names → List Entry → Type 0
 AllEntriesHold names [] = Unit {0}
-AllEntriesHold names (e ∷ es) = Holds names e.field e.from × Holds names e.field e.to × AllEntriesHold names es
+AllEntriesHold names (e ∷ es) =
+    Holds names e.field e.from × Holds names e.field e.to × AllEntriesHold names es
 
 -- each entry gives its field a value that fits; none but type, summary and status may be empty
 abbrev pub AllEntriesFit : Names → List Entry → Type 0
@@ -58,7 +59,8 @@ AllSmall (e ∷ es) = (is_small e.to ≡ true) × AllSmall es
 
 -- the type, the summary and the status are there
 abbrev pub AreNamed : (FieldNo → Value) → Type 0
-AreNamed values = (values number.TYPE ≢ Empty) × (values number.SUMMARY ≢ Empty) × (values number.STATUS ≢ Empty)
+AreNamed values =
+    (values number.TYPE ≢ Empty) × (values number.SUMMARY ≢ Empty) × (values number.STATUS ≢ Empty)
 
 -- each entry is by one of so many users
 abbrev pub AreByUsers : ℕ → List Entry → Type 0
@@ -98,7 +100,8 @@ RisesAbove low (n ∷ ns) = (low < n) × RisesAbove n ns
 abbrev pub IsNextKey : Parts → List History → List ℕ → Type 0
 IsNextKey setup before key =
     (place : ℕ) × (place < length setup.project)
-    × (key ≡ key_of (name_at (project_keys setup) place) (issues_of (name_at (project_keys setup) place) before + 1))
+    × (key ≡ key_of (name_at (project_keys setup) place)
+    (issues_of (name_at (project_keys setup) place) before + 1))
 
 -- so is that of each issue, where these stand before it
 abbrev pub AreKeyed : Parts → List History → List History → Type 0

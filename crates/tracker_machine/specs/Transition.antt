@@ -28,20 +28,27 @@ transition_names setup = map (λ t. t.name) setup.transition
 
 -- the setup's transition of a name
 abbrev pub transition_named : Machine → List ℕ → Option Transition
-transition_named m name = option_and_then (λ place. slice_get m.setup.transition place) (place_named name (transition_names m.setup))
+transition_named m name =
+    option_and_then (λ place. slice_get m.setup.transition place)
+    (place_named name (transition_names m.setup))
 
 -- its conditions hold of the issue and the caller
 abbrev pub condition_refusal : Machine → ℕ → Option History → Option Transition → Option Refusal
-condition_refusal m caller (Some h) (Some t) = option_map refusal.Condition (failing_condition m.setup h (record { 0 = caller }) t)
+condition_refusal m caller (Some h) (Some t) =
+    option_map refusal.Condition (failing_condition m.setup h (record { 0 = caller }) t)
 condition_refusal m caller _ _ = None
 
 -- its validators hold of the issue after the inputs
-abbrev pub validator_refusal : Machine → ℕ → List Change → Option History → Option Transition → Option Refusal
-validator_refusal m caller inputs (Some h) (Some t) = option_map refusal.Validator (failing_validator m.setup h (record { 0 = caller }) t inputs m.moment)
+abbrev pub validator_refusal : Machine → ℕ → List Change → Option History → Option Transition
+    → Option Refusal
+validator_refusal m caller inputs (Some h) (Some t) =
+    option_map refusal.Validator (failing_validator m.setup h
+    (record { 0 = caller }) t inputs m.moment)
 validator_refusal m caller inputs _ _ = None
 
 -- the conditions, then what is given, then the validators
-abbrev pub plan_refusal : Machine → ℕ → List GivenField → Option History → Option Transition → Option Refusal
+abbrev pub plan_refusal : Machine → ℕ → List GivenField → Option History → Option Transition
+    → Option Refusal
 plan_refusal m caller set h t =
     or_then (condition_refusal m caller h t)
     (or_then (values_refusal m (set_wants m set))
@@ -50,7 +57,8 @@ plan_refusal m caller set h t =
 abbrev pub transition_refusal : Machine → ℕ → List ℕ → List ℕ → List GivenField → Option Refusal
 transition_refusal m caller issue transition set =
     or_then (unless_known (place_of_issue issue m.histories) (refusal.Unknown thing.Issue issue))
-    (or_then (unless_known (place_named transition (transition_names m.setup)) (refusal.Unknown thing.Transition transition))
+    (or_then (unless_known (place_named transition (transition_names m.setup))
+    (refusal.Unknown thing.Transition transition))
     (or_then (set_refusal m set)
     (or_then (access_refusal m caller permission.Browse (history_named m issue))
     (or_then (access_refusal m caller permission.Transition (history_named m issue))
@@ -60,8 +68,10 @@ transition_refusal m caller issue transition set =
     (plan_refusal m caller set (history_named m issue) (transition_named m transition)))))))))
 
 -- what the transition changes: the inputs, the status and what its post functions set, as far as it differs
-abbrev pub transition_news : Machine → ℕ → List GivenField → Option History → Option Transition → List Change
-transition_news m caller set (Some h) (Some t) = planned m.setup h (record { 0 = caller }) t (set_changes m set)
+abbrev pub transition_news : Machine → ℕ → List GivenField → Option History → Option Transition
+    → List Change
+transition_news m caller set (Some h) (Some t) =
+    planned m.setup h (record { 0 = caller }) t (set_changes m set)
 transition_news m caller set _ _ = []
 
 abbrev pub transition_answer : List ℕ → Option ℕ → Answer
@@ -70,5 +80,6 @@ transition_answer issue number = answer.Transition number issue
 abbrev pub transition_meaning : Machine → ℕ → List ℕ → List ℕ → List GivenField → Meaning
 transition_meaning m caller issue transition set =
     unless (transition_refusal m caller issue transition set)
-    (grouped_at (transition_answer issue) m caller (place_of_issue issue m.histories) (history_named m issue)
+    (grouped_at (transition_answer issue) m caller (place_of_issue issue m.histories)
+    (history_named m issue)
     (transition_news m caller set (history_named m issue) (transition_named m transition)))

@@ -19,7 +19,8 @@ use Rattle.tracker_machine.specs.Known.{names_field}
 -- what is given for a field: of names in the same letters the last one counts
 abbrev pub given_for : List Field → ℕ → List GivenField → Option Given
 given_for fields n [] = None
-given_for fields n (g ∷ gs) = option_or (given_for fields n gs) (if names_field fields n g.name then Some g.given else None)
+given_for fields n (g ∷ gs) =
+    option_or (given_for fields n gs) (if names_field fields n g.name then Some g.given else None)
 
 abbrev pub wanted_or : Option Value → Wanted
 wanted_or None = wanted.NoValue
@@ -27,7 +28,8 @@ wanted_or (Some v) = wanted.Value v
 
 -- fixVersion and labels take a list of texts, sprint takes a whole number, and every other field takes a text
 abbrev pub takes_text : ℕ → Bool
-takes_text n = not ((n == number.FIX_VERSION.0) || ((n == number.LABELS.0) || (n == number.SPRINT.0)))
+takes_text n =
+    not ((n == number.FIX_VERSION.0) || ((n == number.LABELS.0) || (n == number.SPRINT.0)))
 
 -- the number of a sprint, among numbers of any size
 abbrev pub sprint_number : Given → Option ℕ
@@ -41,9 +43,11 @@ sprint_wanted (Some k) = wanted.Value (value.Sprint (record { 0 = k }))
 -- null empties a field, and anything else is read as the value that the field takes
 abbrev pub wanted_by : Names → ℕ → Given → Wanted
 wanted_by names n given.Null = wanted.Value value.Empty
-wanted_by names n (given.Text text) = if takes_text n then wanted_or (value_of names n text) else wanted.NoValue
+wanted_by names n (given.Text text) =
+    if takes_text n then wanted_or (value_of names n text) else wanted.NoValue
 wanted_by names n (given.List texts) = wanted_or (listed_value_of names n texts)
-wanted_by names n (given.Number k) = if n == number.SPRINT.0 then sprint_wanted (sprint_number (given.Number k)) else wanted.NoValue
+wanted_by names n (given.Number k) =
+    if n == number.SPRINT.0 then sprint_wanted (sprint_number (given.Number k)) else wanted.NoValue
 wanted_by names n given.Other = wanted.NoValue
 
 -- the status is never given
@@ -51,7 +55,8 @@ abbrev pub wanted_given : Names → ℕ → Given → Wanted
 wanted_given names n g = if n == number.STATUS.0 then wanted.NoValue else wanted_by names n g
 
 abbrev pub wanted_in : Names → ℕ → List GivenField → Wanted
-wanted_in names n set = option_map_or (wanted_given names n) (given_for names.fields n set) wanted.Nothing
+wanted_in names n set =
+    option_map_or (wanted_given names n) (given_for names.fields n set) wanted.Nothing
 
 -- a field is at fault where what is wanted of it is none of its values, or one that doesn't fit
 abbrev pub is_fault : Names → ℕ → Wanted → Bool

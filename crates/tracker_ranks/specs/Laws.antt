@@ -19,14 +19,16 @@ abbrev pub NoIssueIsRanked : Type 0
 NoIssueIsRanked = (bucket : ℕ) → bucket < 3 → IsRanked [] (Idle bucket)
 
 -- the new issue stands behind all others, which is where its rank puts it
-pub record GoesLast (ps : List Pair) (b : Balance) (issue : IssueNo) (rank : RankParts) : Type 0 where
+pub record GoesLast (ps : List Pair) (b : Balance) (issue : IssueNo)
+    (rank : RankParts) : Type 0 where
   pub there : after_move ps (issue, rank) ≡ with_last ps issue rank
   pub issues : issues_in (with_last ps issue rank) ≡ issues_in ps ++ issue ∷ []
   pub ranked : IsRanked (with_last ps issue rank) b
 
 abbrev pub NewIssuesGoLast : Type 0
 NewIssuesGoLast =
-    (ps : List Pair) (b : Balance) (issue : IssueNo) (rank : RankParts) → IsRanked ps b → IsNext ps b issue rank →
+    (ps : List Pair) (b : Balance) (issue : IssueNo) (rank : RankParts) → IsRanked ps b
+    → IsNext ps b issue rank →
     GoesLast ps b issue rank
 
 -- a rank that is given to an issue is its own, and all others keep theirs
@@ -39,7 +41,8 @@ EachMoveGivesOneRank = (ps : List Pair) (m : Move) → GivesOneRank ps m
 
 -- the issue is taken out of the list of issues and put in again at the place, and no other rank changes; where it stands there,
 -- nothing does
-pub record MovesAlone (ps : List Pair) (b : Balance) (issue : IssueNo) (place : Place) (rank : RankParts) : Type 0 where
+pub record MovesAlone (ps : List Pair) (b : Balance) (issue : IssueNo) (place : Place)
+    (rank : RankParts) : Type 0 where
   pub issues : issues_in (after_move ps (issue, rank)) ≡ issues_moved issue place (issues_in ps)
   pub ranks : GivesOneRank ps (issue, rank)
   pub stays : stands_at ps (Some issue) place ≡ true → after_move ps (issue, rank) ≡ ps
@@ -47,19 +50,22 @@ pub record MovesAlone (ps : List Pair) (b : Balance) (issue : IssueNo) (place : 
 
 abbrev pub MovesChangeOneRank : Type 0
 MovesChangeOneRank =
-    (ps : List Pair) (b : Balance) (issue : IssueNo) (place : Place) (rank : RankParts) → IsRanked ps b →
+    (ps : List Pair) (b : Balance) (issue : IssueNo) (place : Place) (rank : RankParts)
+    → IsRanked ps b →
     AreNumbered (length ps) (Some issue) place → rank_for ps b (Some issue) place ≡ Ok rank →
     MovesAlone ps b issue place rank
 
 -- two issues have two ranks
 abbrev pub RanksDiffer : Type 0
 RanksDiffer =
-    (ps : List Pair) (one other : ℕ) (rank : RankParts) → IsOrder ps → one ≢ other → rank_in ps one ≡ Some rank →
+    (ps : List Pair) (one other : ℕ) (rank : RankParts) → IsOrder ps → one ≢ other
+    → rank_in ps one ≡ Some rank →
     rank_in ps other ≢ Some rank
 
 -- a start leaves the order as it is, which agrees with the balance after it
 abbrev pub StartsKeepRanks : Type 0
-StartsKeepRanks = (ps : List Pair) (b : Balance) → IsRanked ps b → IfSome (after_start b) (IsRanked ps)
+StartsKeepRanks =
+    (ps : List Pair) (b : Balance) → IsRanked ps b → IfSome (after_start b) (IsRanked ps)
 
 -- a step leaves the list of issues as it is, and the ranks agree with the balance after it
 pub record StepKeeps (ps : List Pair) (b : Balance) (moves : List Move) : Type 0 where
@@ -86,10 +92,12 @@ NumbersAreRanked =
 -- the ranks of the issues make one order
 abbrev pub RanksMakeOneOrder : Type 0
 RanksMakeOneOrder =
-    (ps qs : List Pair) → IsOrder ps → IsOrder qs → ((issue : ℕ) → rank_in ps issue ≡ rank_in qs issue) → ps ≡ qs
+    (ps qs : List Pair) → IsOrder ps → IsOrder qs
+    → ((issue : ℕ) → rank_in ps issue ≡ rank_in qs issue) → ps ≡ qs
 
 -- after loading, each issue has the rank of its number, and there is no other issue
 abbrev pub LoadedRanksAreThose : Type 0
 LoadedRanksAreThose =
-    (ranks : List RankParts) (b : Balance) (loaded : OrderedIssues) → IsRanked loaded.order loaded.balance →
+    (ranks : List RankParts) (b : Balance) (loaded : OrderedIssues)
+    → IsRanked loaded.order loaded.balance →
     AreLoaded ranks b loaded → (n : ℕ) → rank_in loaded.order (n + 1) ≡ slice_get ranks n

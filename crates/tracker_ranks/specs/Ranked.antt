@@ -39,7 +39,8 @@ abbrev pub rank_for : List Pair → Balance → Option IssueNo → Place → Res
 rank_for ps b asked place = rank_given ps asked place (to_of b)
 
 -- the rank puts the issue to some place
-pub record IsGiven (ps : List Pair) (b : Balance) (issue : IssueNo) (rank : RankParts) : Type 0 where
+pub record IsGiven (ps : List Pair) (b : Balance) (issue : IssueNo)
+    (rank : RankParts) : Type 0 where
   pub place : Place
   pub named : AreNumbered (length ps) (Some issue) place
   pub given : rank_for ps b (Some issue) place ≡ Ok rank

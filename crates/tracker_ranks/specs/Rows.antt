@@ -45,5 +45,6 @@ pub moved_ahead : after_move two (issue 2, ahead 0) ≡ (ahead 0, issue 2) ∷ (
 moved_ahead = refl
 
 -- a step that moves the last rank of the old bucket brings the balance to rest
-pub comes_to_rest : balance_moved ((first 0, issue 1) ∷ []) (Moving 0 1) ((issue 1, first 1) ∷ []) ≡ Idle 1
+pub comes_to_rest : balance_moved ((first 0, issue 1) ∷ []) (Moving 0 1) ((issue 1, first 1) ∷ [])
+    ≡ Idle 1
 comes_to_rest = refl

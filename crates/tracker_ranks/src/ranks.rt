@@ -182,7 +182,8 @@ impl Ranks {
     /// Makes the moves of a step. The balance comes to rest exactly where no rank of the old bucket is left. It takes no memory.
     pub fn apply(&mut self, plan: StepPlan)
         requires moving { IsMoving self.old.balance }
-        requires picks { ArePicks self.old.order (from_of self.old.balance) (to_of self.old.balance) plan }
+        requires picks { ArePicks self.old.order (from_of self.old.balance)
+            (to_of self.old.balance) plan }
         ensures { self.new ≡ record self.old {
           order = after_moves self.old.order plan;
           balance = balance_moved self.old.order self.old.balance plan;

@@ -47,19 +47,25 @@ with_setup text (Err fault) = Nothing
 
 -- a tracker that stands there, of which no more is known yet
 abbrev pub standing : List ℕ → Parts → Balance → ℕ → ℕ → Machine
-standing text setup balance change moment = record (opening text setup) { moment = moment; change = change; balance = balance }
+standing text setup balance change moment =
+    record (opening text setup) { moment = moment; change = change; balance = balance }
 
 -- the tracker in the making with what a part adds: an issue behind the others, a group behind those of its issue, a rank in its place
 -- or an external id in its place among the others, a sprint behind the others, a filter or a board by its number, and a group's members
 -- in place of those that it has by the setup's text
 unfoldable pub joined : Machine → Part → Machine
-joined m (part.Issue issue key change at author values) = record m { histories = m.histories ++ opened issue key change at author values ∷ [] }
-joined m (part.Group issue group) = record m { histories = grown m.histories (issue.0 - 1) group.entries }
+joined m (part.Issue issue key change at author values) =
+    record m { histories = m.histories ++ opened issue key change at author values ∷ [] }
+joined m (part.Group issue group) =
+    record m { histories = grown m.histories (issue.0 - 1) group.entries }
 joined m (part.Rank issue rank) = with_new_rank m issue rank
-joined m (part.External issue external) = record m { externals = with_external m.externals issue (Some external) }
+joined m (part.External issue external) =
+    record m { externals = with_external m.externals issue (Some external) }
 joined m (part.Sprint sprint_no sprint) = record m { sprints = m.sprints ++ sprint ∷ [] }
-joined m (part.Filter filter_no owner name jql) = with_filter m (record { no = filter_no; owner = owner; name = name; text = jql })
-joined m (part.Board board_no name filter) = with_board m (record { no = board_no; name = name; filter = filter })
+joined m (part.Filter filter_no owner name jql) =
+    with_filter m (record { no = filter_no; owner = owner; name = name; text = jql })
+joined m (part.Board board_no name filter) =
+    with_board m (record { no = board_no; name = name; filter = filter })
 joined m (part.Members group members) = with_group_members m group members
 joined m _ = m
 
@@ -71,7 +77,8 @@ told_with told _ = told
 -- what is gathered once a part has been read
 unfoldable pub with_part : Gathered → Part → Gathered
 with_part Nothing (part.Setup text) = with_setup text (setup_in text)
-with_part (HasSetup text setup) (part.Present balance change format moment) = Stands format 0 (standing text setup balance change moment)
+with_part (HasSetup text setup) (part.Present balance change format moment) =
+    Stands format 0 (standing text setup balance change moment)
 with_part (Stands format told m) p = Stands format (told_with told p) (joined m p)
 with_part g _ = g
 
@@ -92,4 +99,5 @@ abbrev pub due : Gathered → Option (ℕ × ℕ)
 due Nothing = Some (1, 0)
 due (HasSetup text setup) = Some (2, 0)
 due (Stands format told m) =
-    option_or (rank_due (nat_lt (length m.order) (length m.histories)) (length m.order)) (members_due format told m.setup.group)
+    option_or (rank_due (nat_lt (length m.order) (length m.histories)) (length m.order))
+    (members_due format told m.setup.group)

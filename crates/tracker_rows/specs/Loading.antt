@@ -41,7 +41,8 @@ pub record IsGood (rows : List Row) (g : Gathered) (row : Row) (p : Part) : Type
 -- these rows are good one after the other, where `rows` are all of them, and lead from one to the other
 abbrev pub AreRead : List Row → Gathered → List Row → Gathered → Type 0
 AreRead rows g [] after = after ≡ g
-AreRead rows g (row ∷ more) after = IsInTime g row × ((p : Part) × IsGood rows g row p × AreRead rows (with_part g p) more after)
+AreRead rows g (row ∷ more) after =
+    IsInTime g row × ((p : Part) × IsGood rows g row p × AreRead rows (with_part g p) more after)
 
 -- the rows, which are of this format, make this tracker: all are good, and none is missing at their end
 pub record Loads (format : Format) (rows : List Row) (m : Machine) : Type 0 where

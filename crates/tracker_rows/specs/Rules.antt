@@ -47,8 +47,10 @@ pub record IsInTurn (m : Machine) (change at : ℕ) : Type 0 where
   -- and are at most present's
   pub counted : change ≤ m.change
   -- moments don't fall as the change numbers rise
-  pub later : (place n before : ℕ) → IsChangeAt m.histories place n before → n < change → before ≤ at
-  pub earlier : (place n behind : ℕ) → IsChangeAt m.histories place n behind → change < n → at ≤ behind
+  pub later : (place n before : ℕ) → IsChangeAt m.histories place n before → n < change
+      → before ≤ at
+  pub earlier : (place n behind : ℕ) → IsChangeAt m.histories place n behind → change < n
+      → at ≤ behind
   -- and are at most present's
   pub timely : at ≤ m.moment
 
@@ -144,19 +146,23 @@ pub record MayBeBoard (m : Machine) (b : Board) : Type 0 where
 -- the part may be the next one of a tracker in the making, which has its setup and its present already. The members of groups are
 -- rows of the second format alone
 unfoldable pub MayJoin : Format → Machine → Part → Type 0
-MayJoin format m (part.Issue issue key change at author values) = MayBeIssue m (opened issue key change at author values)
+MayJoin format m (part.Issue issue key change at author values) =
+    MayBeIssue m (opened issue key change at author values)
 MayJoin format m (part.Group issue group) = MayBeGroupOf m issue group
 MayJoin format m (part.Rank issue rank) = MayBeRank m issue rank
 MayJoin format m (part.External issue external) = MayBeExternal m issue external
 MayJoin format m (part.Sprint sprint_no sprint) = MayBeSprint m sprint_no.0 sprint
-MayJoin format m (part.Filter filter_no owner name jql) = MayBeFilter m (record { no = filter_no; owner = owner; name = name; text = jql })
+MayJoin format m (part.Filter filter_no owner name jql) =
+    MayBeFilter m (record { no = filter_no; owner = owner; name = name; text = jql })
 MayJoin format m (part.Members group members) = format ≡ Second
-MayJoin format m (part.Board board_no name filter) = MayBeBoard m (record { no = board_no; name = name; filter = filter })
+MayJoin format m (part.Board board_no name filter) =
+    MayBeBoard m (record { no = board_no; name = name; filter = filter })
 MayJoin format m _ = ⊥
 
 -- the part may follow what was gathered, where these are all rows
 unfoldable pub MayFollow : List Row → Gathered → Part → Type 0
 MayFollow rows Nothing (part.Setup text) = Unit {0}
-MayFollow rows (HasSetup text setup) (part.Present balance change format moment) = MayBePresent rows change
+MayFollow rows (HasSetup text setup) (part.Present balance change format moment) =
+    MayBePresent rows change
 MayFollow rows (Stands format told m) p = MayJoin format m p
 MayFollow rows _ p = ⊥

@@ -38,7 +38,8 @@ IsBehind (Some ending) bytes = EndsBy bytes ending
 abbrev pub BeginWith : List ℕ → List Request → Option Ending → Type 0
 BeginWith bytes [] behind = IsBehind behind bytes
 BeginWith bytes (r ∷ rs) behind =
-    (text : List ℕ) × (rest : List ℕ) × (bytes ≡ text ++ rest) × IsRequest text r × BeginWith rest rs behind
+    (text : List ℕ) × (rest : List ℕ) × (bytes ≡ text ++ rest) × IsRequest text r
+    × BeginWith rest rs behind
 
 -- ---- what is written
 
@@ -54,7 +55,8 @@ refusal_response r = response r.fault.status (body_of r) true r.fault.allow
 abbrev pub responses : ℕ → List Exchange → Option Refused → List (List ℕ)
 responses left [] None = []
 responses left [] (Some r) = refusal_response r ∷ []
-responses left (x ∷ xs) last = response_to x.reply (closes left x.request) ∷ responses (left - 1) xs last
+responses left (x ∷ xs) last =
+    response_to x.reply (closes left x.request) ∷ responses (left - 1) xs last
 
 abbrev pub joined : List (List ℕ) → List ℕ
 joined [] = []
@@ -64,11 +66,13 @@ joined (text ∷ texts) = text ++ joined texts
 abbrev pub IsFront : List (List ℕ) → List ℕ → Type 0
 IsFront [] front = front ≡ []
 IsFront (text ∷ []) front = (back : List ℕ) × (text ≡ front ++ back)
-IsFront (text ∷ next ∷ texts) front = (more : List ℕ) × (front ≡ text ++ more) × IsFront (next ∷ texts) more
+IsFront (text ∷ next ∷ texts) front =
+    (more : List ℕ) × (front ≡ text ++ more) × IsFront (next ∷ texts) more
 
 -- all responses are written, but where writing failed, or memory lacked, a front of them
 abbrev pub Writes : ConnEnd → List (List ℕ) → Option (List ℕ) → Option (List ℕ) → Type 0
-Writes conn.WriteFault texts old new = (front : List ℕ) × IsFront texts front × Appends old new front
+Writes conn.WriteFault texts old new =
+    (front : List ℕ) × IsFront texts front × Appends old new front
 Writes conn.Memory texts old new = (front : List ℕ) × IsFront texts front × Appends old new front
 Writes end texts old new = Appends old new (joined texts)
 
@@ -87,18 +91,23 @@ MayClose (Some r) closed = closed ≡ false
 -- How a connection ends: by the refused request that came last, by whether the last response closed it, and by what is known of
 -- the bytes behind the requests.
 abbrev pub EndsAs : ConnEnd → Option Refused → Bool → Option Ending → Type 0
-EndsAs conn.Closed last closed behind = (last ≡ None) × (((closed ≡ true) × (behind ≡ None)) ⊎ ((closed ≡ false) × (behind ≡ Some at_end)))
+EndsAs conn.Closed last closed behind =
+    (last ≡ None)
+    × (((closed ≡ true) × (behind ≡ None)) ⊎ ((closed ≡ false) × (behind ≡ Some at_end)))
 EndsAs conn.Cut last closed behind = (last ≡ None) × (closed ≡ false) × (behind ≡ Some inside)
 EndsAs (conn.Refused status) last closed behind =
-    (r : Refused) × (r.fault.status ≡ status) × (last ≡ Some r) × (closed ≡ false) × (behind ≡ refusal_behind last)
+    (r : Refused) × (r.fault.status ≡ status) × (last ≡ Some r) × (closed ≡ false)
+    × (behind ≡ refusal_behind last)
 EndsAs conn.ReadFault last closed behind = (last ≡ None) × (closed ≡ false) × (behind ≡ None)
 EndsAs conn.WriteFault last closed behind = (behind ≡ refusal_behind last) × MayClose last closed
 EndsAs conn.Memory last closed behind = (behind ≡ refusal_behind last) × MayClose last closed
 
 -- A connection was served, on which so many responses might still be made: the requests that were read, with their events and
 -- replies, and after them perhaps one that was refused.
-pub record Serves {Teller State : Type 0} (events : Teller → List Event) (tells : Teller → State → Type 0)
-    (steps : State → Event → State → Type 0) (worker left : ℕ) (input : Option (List ℕ)) (taken_old taken_new : Option (List ℕ))
+pub record Serves {Teller State : Type 0} (events : Teller → List Event)
+    (tells : Teller → State → Type 0)
+    (steps : State → Event → State → Type 0) (worker left : ℕ) (input : Option (List ℕ))
+    (taken_old taken_new : Option (List ℕ))
     (ahead later : Option (List ℕ)) (old new : Teller) (end : ConnEnd) : Type 0 where
   pub exchanges : List Exchange
   pub last : Option Refused

@@ -37,7 +37,8 @@ Follows true ticked entered made r = IsEntered entered (made r)
 Follows false ticked entered made r = (entered ≡ []) × (r ≡ ticked)
 
 -- a call is made: first a tick to the clock's next reading by the same user, and then, if that lets it through, the call
-pub record IsMade (worker : ℕ) (user : List ℕ) (c : Call) (ahead later : Option (List ℕ)) (entered : List Event) (r : Reply)
+pub record IsMade (worker : ℕ) (user : List ℕ) (c : Call) (ahead later : Option (List ℕ))
+    (entered : List Event) (r : Reply)
     : Type 0 where
   pub moment : ℕ
   pub reads : Reads ahead later moment
@@ -50,8 +51,10 @@ pub record IsMade (worker : ℕ) (user : List ℕ) (c : Call) (ahead later : Opt
 
 -- what is asked for is answered: a call is made, and a refusal is the reply, which makes no event and takes no reading
 abbrev pub IsAnswered : ℕ → Asked → Option (List ℕ) → Option (List ℕ) → List Event → Reply → Type 0
-IsAnswered worker (Ok asked) ahead later entered r = IsMade worker asked.0 asked.1 ahead later entered r
-IsAnswered worker (Err fault) ahead later entered r = (r ≡ reply.Refused fault) × (entered ≡ []) × (later ≡ ahead)
+IsAnswered worker (Ok asked) ahead later entered r =
+    IsMade worker asked.0 asked.1 ahead later entered r
+IsAnswered worker (Err fault) ahead later entered r =
+    (r ≡ reply.Refused fault) × (entered ≡ []) × (later ≡ ahead)
 
 -- the request's call is answered, or there was not enough memory to read it
 abbrev pub Answers : ℕ → Option (List ℕ) → Option (List ℕ) → Exchange → Type 0
@@ -62,7 +65,8 @@ Answers worker ahead later x =
 -- each is answered, one after another, with the readings of a clock
 abbrev pub AreAnswered : ℕ → Option (List ℕ) → Option (List ℕ) → List Exchange → Type 0
 AreAnswered worker ahead later [] = later ≡ ahead
-AreAnswered worker ahead later (x ∷ xs) = (next : Option (List ℕ)) × Answers worker ahead next x × AreAnswered worker next later xs
+AreAnswered worker ahead later (x ∷ xs) =
+    (next : Option (List ℕ)) × Answers worker ahead next x × AreAnswered worker next later xs
 
 -- all their events, one behind another
 abbrev pub events_of : List Exchange → List Event
@@ -78,18 +82,23 @@ abbrev pub response_to : Reply → Bool → List ℕ
 response_to r close = response (status_of r) (Some (reply_text r)) close None
 
 -- A request was answered, and its response is a text of which this holds.
-pub record IsExchanged {Teller State : Type 0} (events : Teller → List Event) (tells : Teller → State → Type 0)
-    (steps : State → Event → State → Type 0) (worker : ℕ) (ahead later : Option (List ℕ)) (old new : Teller) (r : Request)
+pub record IsExchanged {Teller State : Type 0} (events : Teller → List Event)
+    (tells : Teller → State → Type 0)
+    (steps : State → Event → State → Type 0) (worker : ℕ) (ahead later : Option (List ℕ))
+    (old new : Teller) (r : Request)
     (close : Bool) (Holds : List ℕ → Type 0) : Type 0 where
   pub entered : List Event
   pub reply : Reply
-  pub answers : Answers worker ahead later (record { request = r; entered = entered; reply = reply })
+  pub answers : Answers worker ahead later
+      (record { request = r; entered = entered; reply = reply })
   pub grew : Grew events tells steps old new entered
   pub text : Holds (response_to reply close)
 
 -- a user's call was made
-pub record HasMade {Teller State : Type 0} (events : Teller → List Event) (tells : Teller → State → Type 0)
-    (steps : State → Event → State → Type 0) (worker : ℕ) (ahead later : Option (List ℕ)) (old new : Teller) (user : List ℕ)
+pub record HasMade {Teller State : Type 0} (events : Teller → List Event)
+    (tells : Teller → State → Type 0)
+    (steps : State → Event → State → Type 0) (worker : ℕ) (ahead later : Option (List ℕ))
+    (old new : Teller) (user : List ℕ)
     (c : Call) (r : Reply) : Type 0 where
   pub entered : List Event
   pub made : IsMade worker user c ahead later entered r

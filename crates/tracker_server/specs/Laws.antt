@@ -6,4 +6,6 @@ use Rattle.tracker_server.specs.Connections.{BeginWith}
 
 -- requests behind which it is known how the bytes end are those of the whole stream
 abbrev pub AreTheirs : Type 0
-AreTheirs = (bytes : List ℕ) (rs : List Request) (ending : Ending) → BeginWith bytes rs (Some ending) → AreRequests bytes rs ending
+AreTheirs =
+    (bytes : List ℕ) (rs : List Request) (ending : Ending) → BeginWith bytes rs (Some ending)
+    → AreRequests bytes rs ending

@@ -5,10 +5,12 @@ use Rattle.tracker_server.specs.declared.links.NextLink.{NextLink}
 use Rattle.tracker_server.specs.declared.links.NextLink.TheVariants as link
 
 -- the next of the links that are told comes, none is left, or all stay where it failed
-abbrev pub TakesLink : {S T C : Type 0} → Option (List (S × T × C)) → Option (List (S × T × C)) → NextLink S T C → Type 0
+abbrev pub TakesLink : {S T C : Type 0} → Option (List (S × T × C)) → Option (List (S × T × C))
+    → NextLink S T C → Type 0
 TakesLink None later next = ⊤
 TakesLink (Some ahead) None next = ⊥
-TakesLink (Some ahead) (Some later) (link.Link source sink clock) = ahead ≡ (source, sink, clock) ∷ later
+TakesLink (Some ahead) (Some later) (link.Link source sink clock) =
+    ahead ≡ (source, sink, clock) ∷ later
 TakesLink (Some ahead) (Some later) link.End = (ahead ≡ []) × (later ≡ [])
 TakesLink (Some ahead) (Some later) link.Failed = later ≡ ahead
 

@@ -80,7 +80,8 @@ impl<S: Source + Drop, T: Sink + Drop, C: Clock + Drop> Links for ListLinks<S, T
         ensures cause { HasLinkCause self.old.faults self.new.faults result }
 
         // They fail exactly at the calls that they were told.
-        ensures fails { HasFailed result ↔ FailsAt self.old.failing.items (next_call self.old.calls) }
+        ensures fails { HasFailed result
+            ↔ FailsAt self.old.failing.items (next_call self.old.calls) }
         ensures counted { self.new.calls ≡ next_call self.old.calls }
         ensures failing { self.new.failing.items ≡ self.old.failing.items }
     {

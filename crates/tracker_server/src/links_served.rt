@@ -31,7 +31,8 @@ pub fn serve_links<R: Wait, K: Links, M: Maker + Drop>(
     maker: M,
 ) -> (LinksEnd, K, M)
     ensures made { HasMadeCalls M.tells M.makes maker result.2 }
-    ensures ended { result.0 ≡ LinksEnd.Ended → IsSome (K.ahead links) → K.ahead result.1 ≡ Some [] }
+    ensures ended { result.0 ≡ LinksEnd.Ended → IsSome (K.ahead links)
+        → K.ahead result.1 ≡ Some [] }
     ensures failed { result.0 ≡ LinksEnd.Failed → Rose (K.faults links) (K.faults result.1) }
     ensures later { K.faults links ≤ K.faults result.1 }
 {

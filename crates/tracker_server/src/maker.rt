@@ -19,5 +19,6 @@ pub trait Maker {
     /// Makes one call by that user.
     fn call(&mut self, caller: &UserName, call: &Call) -> Reply
         ensures { (state : Self.State) → Self.tells self.old state
-            → (next : Self.State) × Self.tells self.new next × Self.makes state caller.now call.now result next };
+            → (next : Self.State) × Self.tells self.new next
+            × Self.makes state caller.now call.now result next };
 }

@@ -65,8 +65,10 @@ pub fn serve_connection<S: Source, T: Sink, C: Clock, W: Teller>(
     ensures serves { Serves W.events W.tells W.steps (W.worker teller.old) 16 (S.left source.old)
         (T.taken sink.old) (T.taken sink.new) (C.ahead clock.old) (C.ahead clock.new)
         teller.old teller.new result }
-    ensures read_cause { result ≡ ConnEnd.ReadFault → Rose (S.faults source.old) (S.faults source.new) }
-    ensures write_cause { result ≡ ConnEnd.WriteFault → Rose (T.faults sink.old) (T.faults sink.new) }
+    ensures read_cause { result ≡ ConnEnd.ReadFault
+        → Rose (S.faults source.old) (S.faults source.new) }
+    ensures write_cause { result ≡ ConnEnd.WriteFault
+        → Rose (T.faults sink.old) (T.faults sink.new) }
     ensures read_later { S.faults source.old ≤ S.faults source.new }
     ensures write_later { T.faults sink.old ≤ T.faults sink.new }
 {
@@ -97,8 +99,10 @@ fn serve_rest<S: Source, T: Sink, C: Clock, W: Teller>(
     ensures serves { Serves W.events W.tells W.steps (W.worker teller.old) left
         (prepend_known held.old.items (S.left source.old)) (T.taken sink.old) (T.taken sink.new)
         (C.ahead clock.old) (C.ahead clock.new) teller.old teller.new result }
-    ensures read_cause { result ≡ ConnEnd.ReadFault → Rose (S.faults source.old) (S.faults source.new) }
-    ensures write_cause { result ≡ ConnEnd.WriteFault → Rose (T.faults sink.old) (T.faults sink.new) }
+    ensures read_cause { result ≡ ConnEnd.ReadFault
+        → Rose (S.faults source.old) (S.faults source.new) }
+    ensures write_cause { result ≡ ConnEnd.WriteFault
+        → Rose (T.faults sink.old) (T.faults sink.new) }
     ensures read_later { S.faults source.old ≤ S.faults source.new }
     ensures write_later { T.faults sink.old ≤ T.faults sink.new }
 {
@@ -125,8 +129,10 @@ fn serve_next<S: Source, T: Sink, C: Clock, W: Teller>(
         (prepend_known held.new.items (S.left source.new)) (T.taken sink.old) (T.taken sink.new)
         (C.ahead clock.old) (C.ahead clock.new) teller.old teller.new result }
     ensures goes { result ≡ Step.Goes → 2 ≤ left }
-    ensures read_cause { result ≡ Step.Ends ConnEnd.ReadFault → Rose (S.faults source.old) (S.faults source.new) }
-    ensures write_cause { result ≡ Step.Ends ConnEnd.WriteFault → Rose (T.faults sink.old) (T.faults sink.new) }
+    ensures read_cause { result ≡ Step.Ends ConnEnd.ReadFault
+        → Rose (S.faults source.old) (S.faults source.new) }
+    ensures write_cause { result ≡ Step.Ends ConnEnd.WriteFault
+        → Rose (T.faults sink.old) (T.faults sink.new) }
     ensures read_later { S.faults source.old ≤ S.faults source.new }
     ensures write_later { T.faults sink.old ≤ T.faults sink.new }
 {
@@ -202,7 +208,8 @@ fn refuse<T: Sink>(alloc: Global, sink: &mut T, fault: HeadFault, head: bool) ->
 
 fn refusal_response(alloc: Global, fault: HeadFault, head: bool) -> Result<Vec<u8>, Memory>
     requires { IsStatus fault.status }
-    ensures { IfOk result (λ bytes. bytes.items ≡ refusal_response (record { fault = fault; is_head = head })) }
+    ensures { IfOk result (λ bytes. bytes.items
+        ≡ refusal_response (record { fault = fault; is_head = head })) }
 {
     if head {
         return response_bytes(alloc, fault.status, None, true, fault.allow);

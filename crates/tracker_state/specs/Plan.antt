@@ -66,7 +66,8 @@ pub record IssueFits (s : Held) (new : IssuePlan) : Type 0 where
   pub cells_room : HasIssueRoom s.watched
   pub key : string_bytes new.key ≡ new.issue.history.key
   pub there : new.project.0 < length s.machine.setup.project
-  pub next : new.issue.history.key ≡ next_key s.machine (name_at (project_keys s.machine.setup) new.project.0)
+  pub next : new.issue.history.key
+      ≡ next_key s.machine (name_at (project_keys s.machine.setup) new.project.0)
   pub external : IfSome new.external (ExternalFits s)
   pub bytes : new.bytes ≡ history_bytes new.issue.history
   pub rows_room : HasRoomFor s.work (share_now s.work.seen new.issue.history).sprint
@@ -80,13 +81,15 @@ pub record HasRowsRoom (s : Held) (h : History) (entries : List Entry) : Type 0 
 pub record GroupFits (s : Held) (new : GroupPlan) : Type 0 where
   pub room : IfSome (slice_get s.rooms new.place) (λ room. length new.group.entries ≤ room)
   pub bytes : new.bytes ≡ sum_by entry_bytes new.group.entries
-  pub rows_room : IfSome (slice_get s.machine.histories new.place) (λ h. HasRowsRoom s h new.group.entries)
+  pub rows_room : IfSome (slice_get s.machine.histories new.place)
+      (λ h. HasRowsRoom s h new.group.entries)
 
 -- there is room for the filter, it asks for what its text asks for, and its verdicts are right
 pub record FilterFits (s : Held) (ready : ReadyFilter) : Type 0 where
   pub bound : IsBound s.machine.setup ready.filter
   pub room : by_number number ready.filter.no.0 s.watched.filters ≡ None → HasFilterRoom s.watched
-  pub right : AreVerdicts s.watched.around s.watched.moment (condition_of ready.filter) s.watched.histories ready.verdicts.items
+  pub right : AreVerdicts s.watched.around s.watched.moment
+      (condition_of ready.filter) s.watched.histories ready.verdicts.items
 
 -- there is room for what the plan makes
 abbrev pub Fits : Held → Plan → Type 0
@@ -111,7 +114,8 @@ abbrev pub cost_of : Plan → Held → ℕ
 cost_of (plans.Moment to) s = due s.watched.views to
 cost_of (plans.Issue new) s = length s.watched.filters
 cost_of (plans.Group new) s = length s.watched.filters
-cost_of (plans.State sprint state) s = sum_in_sprint (length s.watched.filters) sprint.0 s.machine.histories
+cost_of (plans.State sprint state) s =
+    sum_in_sprint (length s.watched.filters) sprint.0 s.machine.histories
 cost_of (plans.Members new) s = members_cost s.watched.filters (length s.machine.histories)
 cost_of _ s = 0
 
@@ -123,7 +127,8 @@ cost_to_prepare _ m = 0
 
 -- a call that makes something has its answer ready, a plan of its effect, which may come and for which there is room, and the
 -- operations that keep it
-pub record IsReady (due : Meaning) (s : Held) (plan : Plan) (answer : Answer) (ops : List RowOp) : Type 0 where
+pub record IsReady (due : Meaning) (s : Held) (plan : Plan) (answer : Answer)
+    (ops : List RowOp) : Type 0 where
   pub means : due ≡ Makes answer (effect_of plan)
   pub keeps : ops ≡ ops_of (effect_of plan) s.machine
   pub allowed : IsAllowed (effect_of plan) s.machine

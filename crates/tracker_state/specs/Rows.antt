@@ -17,7 +17,12 @@ use Rattle.tracker_machine.specs.Kept.{members_part, put_part}
 
 -- the operation that keeps where the tracker stands
 abbrev pub present_op : Balance → ℕ → ℕ → RowOp
-present_op balance change moment = Put (record { kind = 2; no = 0; body = compact_text (present_data balance change Second moment) })
+present_op balance change moment =
+    Put (record {
+      kind = 2;
+      no = 0;
+      body = compact_text (present_data balance change Second moment);
+    })
 
 -- the operation that keeps an issue's rank
 abbrev pub rank_op : IssueNo → RankParts → RowOp

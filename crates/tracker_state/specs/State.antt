@@ -35,7 +35,8 @@ abbrev pub saved_filters : List Filter → List SavedFilter
 saved_filters filters = map saved_as filters
 
 -- the abstract tracker's state that the parts of a state are
-abbrev pub machine_of : Setup → ℕ → ℕ → Shelf → IdList → OrderedIssues → WatchedFilters → BoardList → TrackedWork → Machine
+abbrev pub machine_of : Setup → ℕ → ℕ → Shelf → IdList → OrderedIssues → WatchedFilters → BoardList
+    → TrackedWork → Machine
 machine_of setup moment change issues externals ranks watched boards work = record {
   text = setup.text;
   setup = parts setup;
@@ -81,7 +82,8 @@ pub record HaveSeen (m : Machine) (w : WatchedFilters) : Type 0 where
 
 -- what the state keeps true of itself, where it tallies issues by projects so, and has these filters, what remains of sprints, and what
 -- queries ask of beside issues
-pub record IsState (m : Machine) (tally : Tally) (w : WatchedFilters) (work : TrackedWork) (context : Context) : Type 0 where
+pub record IsState (m : Machine) (tally : Tally) (w : WatchedFilters) (work : TrackedWork)
+    (context : Context) : Type 0 where
   pub counted : IsTally tally m.setup m.histories
   pub few_changes : m.change ≤ 2_050_000
   pub tracker : IsTracker m

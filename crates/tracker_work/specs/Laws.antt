@@ -19,7 +19,9 @@ pub record IsRunningIn (seen : Seen) (s change : ℕ) : Type 0 where
   pub left : sprint_left seen s ≡ remaining_then (reading_of seen) seen.histories s seen.change
 
 abbrev pub ActiveSprintsRun : Type 0
-ActiveSprintsRun = (seen : Seen) (s at change : ℕ) → state_in seen.sprints s ≡ Active at change → IsRunningIn seen s change
+ActiveSprintsRun =
+    (seen : Seen) (s at change : ℕ) → state_in seen.sprints s ≡ Active at change
+    → IsRunningIn seen s change
 
 -- a closed sprint started with what remained then, and has left what remained at its close
 pub record IsOverIn (seen : Seen) (s start_change change : ℕ) : Type 0 where
@@ -28,5 +30,6 @@ pub record IsOverIn (seen : Seen) (s start_change change : ℕ) : Type 0 where
 
 abbrev pub ClosedSprintsAreOver : Type 0
 ClosedSprintsAreOver =
-    (seen : Seen) (s start_at start_change at change : ℕ) → state_in seen.sprints s ≡ Closed start_at start_change at change →
+    (seen : Seen) (s start_at start_change at change : ℕ)
+    → state_in seen.sprints s ≡ Closed start_at start_change at change →
     IsOverIn seen s start_change change

@@ -12,7 +12,8 @@ use Rattle.tracker_work.specs.Told.{group}
 -- no number is that of groups of two issues
 abbrev pub AreApart : List History → Type 0
 AreApart hs =
-    (i j n at : ℕ) (h o : History) → slice_get hs i ≡ Some h → slice_get hs j ≡ Some o → j ≢ i → moment_in h n ≡ Some at →
+    (i j n at : ℕ) (h o : History) → slice_get hs i ≡ Some h → slice_get hs j ≡ Some o → j ≢ i
+    → moment_in h n ≡ Some at →
     moment_in o n ≡ None
 
 -- what a tracker keeps: each history is one, and its groups have numbers from 1 up to the last one, which no other issue has; the issues

@@ -19,7 +19,15 @@ first_holds field to = record { field = field; to = to }
 
 -- all is of the moment 0
 abbrev entry : ℕ → FieldNo → Value → Value → Entry
-entry change field from to = record { change = change; at = 0; author = record { 0 = 0 }; field = field; from = from; to = to }
+entry change field from to =
+    record {
+      change = change;
+      at = 0;
+      author = record { 0 = 0 };
+      field = field;
+      from = from;
+      to = to;
+    }
 
 abbrev status_at : ℕ → Value
 status_at place = value.Choice (record { 0 = place })
@@ -36,7 +44,8 @@ first_issue entries = record {
   at = 0;
   author = record { 0 = 0 };
   opening =
-      first_holds status (status_at 0) ∷ first_holds points (of_points (pos 3000)) ∷ first_holds sprint (value.Sprint (record { 0 = 1 })) ∷ [];
+      first_holds status (status_at 0) ∷ first_holds points (of_points (pos 3000))
+      ∷ first_holds sprint (value.Sprint (record { 0 = 1 })) ∷ [];
   entries = entries;
 }
 
@@ -57,7 +66,8 @@ seen_in state entries change = record {
 }
 
 abbrev row : ℕ → ℤ → ℤ → BurnRow
-row change by left = record { at = 0; change = change; issue = record { 0 = 1 }; by = by; left = left }
+row change by left =
+    record { at = 0; change = change; issue = record { 0 = 1 }; by = by; left = left }
 
 -- it started after the first group
 abbrev reopened : Seen
@@ -69,12 +79,15 @@ start_of_the_reopened = refl
 pub left_of_the_reopened : sprint_left reopened 1 ≡ pos 5000
 left_of_the_reopened = refl
 
-pub rows_of_the_reopened : sprint_rows reopened 1 ≡ row 2 (pos 2000) (pos 5000) ∷ row 4 (negsuc 4999) (pos 0) ∷ row 5 (pos 5000) (pos 5000) ∷ []
+pub rows_of_the_reopened : sprint_rows reopened 1
+    ≡ row 2 (pos 2000) (pos 5000) ∷ row 4 (negsuc 4999) (pos 0) ∷ row 5 (pos 5000) (pos 5000) ∷ []
 rows_of_the_reopened = refl
 
 -- it closed after that, and the issue has 1 point since
 abbrev changed_later : Seen
-changed_later = seen_in (Closed 0 1 0 5) (until_reopened ++ (entry 6 points (of_points (pos 5000)) (of_points (pos 1000)) ∷ [])) 6
+changed_later =
+    seen_in (Closed 0 1 0 5) (until_reopened
+    ++ (entry 6 points (of_points (pos 5000)) (of_points (pos 1000)) ∷ [])) 6
 
 pub left_of_the_closed : sprint_left changed_later 1 ≡ pos 5000
 left_of_the_closed = refl

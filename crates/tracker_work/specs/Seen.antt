@@ -50,15 +50,18 @@ state_in sprints s = unwrap_or (state_of sprints s) Future
 
 -- what remained of a sprint at its start, or remains now where it hasn't started
 abbrev pub sprint_start : Seen → ℕ → ℤ
-sprint_start seen s = start_by (reading_of seen) seen.histories s (state_in seen.sprints s) seen.change
+sprint_start seen s =
+    start_by (reading_of seen) seen.histories s (state_in seen.sprints s) seen.change
 
 -- what remained of a sprint at its close, or remains now where it isn't closed
 abbrev pub sprint_left : Seen → ℕ → ℤ
-sprint_left seen s = left_by (reading_of seen) seen.histories s (state_in seen.sprints s) seen.change
+sprint_left seen s =
+    left_by (reading_of seen) seen.histories s (state_in seen.sprints s) seen.change
 
 -- the groups behind a sprint's start, and up to its close, that changed what remains
 abbrev pub sprint_rows : Seen → ℕ → List BurnRow
-sprint_rows seen s = rows_by (reading_of seen) seen.histories s (state_in seen.sprints s) seen.change
+sprint_rows seen s =
+    rows_by (reading_of seen) seen.histories s (state_in seen.sprints s) seen.change
 
 -- with one more sprint
 abbrev pub with_sprint : Seen → List ℕ → Seen
@@ -67,7 +70,9 @@ with_sprint seen name = record seen { sprints = seen.sprints ++ future name ∷ 
 -- with a sprint in another state, where it is there
 abbrev pub with_state : Seen → ℕ → SprintState → Seen
 with_state seen s state =
-    option_map_or (λ x. record seen { sprints = slice_set seen.sprints (s - 1) (record x { state = state }) }) (sprint_of seen.sprints s) seen
+    option_map_or (λ x. record seen
+    { sprints = slice_set seen.sprints (s - 1) (record x { state = state }) })
+    (sprint_of seen.sprints s) seen
 
 -- with the histories after one more change group
 abbrev pub with_histories : Seen → List History → Seen

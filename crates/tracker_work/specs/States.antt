@@ -43,4 +43,5 @@ IsUpTo (Some next) n = n ≤ next
 
 -- a sprint neither starts nor closes after a group above that one, up to the one before `next`
 abbrev pub StaysUntil : ℕ → Option ℕ → SprintState → Type 0
-StaysUntil after next state = (n : ℕ) → after < n → IsUpTo next n → state_before n state ≡ state_before (after + 1) state
+StaysUntil after next state =
+    (n : ℕ) → after < n → IsUpTo next n → state_before n state ≡ state_before (after + 1) state

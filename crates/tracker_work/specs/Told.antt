@@ -24,7 +24,8 @@ ends_group e None = true
 ends_group e (Some next) = not (next.change == e.change)
 
 abbrev pub told_of : ℕ → ℕ → IssueNo → Option Share → Share → Told
-told_of change at issue before after = record { change = change; at = at; issue = issue; before = before; after = after }
+told_of change at issue before after =
+    record { change = change; at = at; issue = issue; before = before; after = after }
 
 -- a group as a burndown takes it in
 abbrev pub group : Told → Group
@@ -36,7 +37,8 @@ abbrev pub groups_among : List Bool → IssueNo → Share → Share → List Ent
 groups_among done issue before share [] = []
 groups_among done issue before share (e ∷ es) =
     if ends_group e (slice_get es 0)
-    then told_of e.change e.at issue (Some before) (share_after done share e) ∷ groups_among done issue (share_after done share e) (share_after done share e) es
+    then told_of e.change e.at issue (Some before) (share_after done share e)
+    ∷ groups_among done issue (share_after done share e) (share_after done share e) es
     else groups_among done issue before (share_after done share e) es
 
 -- the groups of an issue, its creation first

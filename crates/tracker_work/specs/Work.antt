@@ -27,7 +27,8 @@ pub record TrackedWork : Type 0 where
 -- what is kept is what the histories say; each sprint that is there has room; each group has a number up to the last one; and the
 -- issues and their points are so few that every total fits
 pub record IsWork (w : TrackedWork) : Type 0 where
-  pub charts : IsBurndownOf (reading_of w.seen) w.seen.histories (state_in w.seen.sprints) w.seen.change w.burndown
+  pub charts : IsBurndownOf (reading_of w.seen) w.seen.histories
+      (state_in w.seen.sprints) w.seen.change w.burndown
   pub reserved : (s : ℕ) → IsThere w.seen.sprints s → IsReserved w.burndown s
   pub numbers : HaveNumbersUpTo w.seen.change w.seen.histories
   pub few : AreFew w.seen.histories
@@ -58,7 +59,8 @@ HasRoomFor w sprint = IfSome sprint (λ s. HasRoom w.burndown s.0)
 -- ---- starts and closes
 
 -- a sprint of this state goes to the next one, where there is one; else its state is the fault, and nothing changes
-abbrev pub Moves : Seen → Seen → ℕ → SprintState → Option SprintState → Result (Unit {0}) SprintFault → Type 0
+abbrev pub Moves : Seen → Seen → ℕ → SprintState → Option SprintState
+    → Result (Unit {0}) SprintFault → Type 0
 Moves old new s kept (Some next) result = (result ≡ Ok tt) × (new ≡ with_state old s next)
 Moves old new s kept None result = (result ≡ Err (StateIs kept)) × (new ≡ old)
 
@@ -88,7 +90,8 @@ pub record ComesLast (w : TrackedWork) (new : List History) : Type 0 where
   pub last : new ≡ w.seen.histories ++ issue ∷ []
 
 -- entries of the next change group, which an issue may get at this moment, where it counted for so much before
-pub record MayGet (w : TrackedWork) (h : History) (before : Share) (at : ℕ) (author : UserNo) (entries : List Entry) : Type 0 where
+pub record MayGet (w : TrackedWork) (h : History) (before : Share) (at : ℕ) (author : UserNo)
+    (entries : List Entry) : Type 0 where
   pub group : MayAdd h (w.seen.change + 1) at author entries
   pub before_is : before ≡ share_now w.seen h
   pub points : ArePoints (share_now w.seen (with_entries h entries)).points
@@ -96,7 +99,8 @@ pub record MayGet (w : TrackedWork) (h : History) (before : Share) (at : ℕ) (a
   pub room_after : HasRoomFor w (share_now w.seen (with_entries h entries)).sprint
 
 -- the history at this place has got such entries, and all others stand
-pub record GrowsAt (w : TrackedWork) (place : ℕ) (before : Share) (at : ℕ) (new : List History) : Type 0 where
+pub record GrowsAt (w : TrackedWork) (place : ℕ) (before : Share) (at : ℕ)
+    (new : List History) : Type 0 where
   pub issue : History
   pub author : UserNo
   pub entries : List Entry

@@ -48,9 +48,28 @@ impl Model for Work {
 
     ghost Value = { TrackedWork };
 
-    ghost view = { λ w. record { seen = record { done = w.done.items; sprints = w.sprints.sprints; histories = histories_of w.issues.value.items; change = w.change.value }; room = w.sprints.room; burndown = w.burndown } };
+    ghost view = { λ w. record {
+      seen = record {
+        done = w.done.items;
+        sprints = w.sprints.sprints;
+        histories = histories_of w.issues.value.items;
+        change = w.change.value;
+      };
+      room = w.sprints.room;
+      burndown = w.burndown;
+    } };
 
-    ghost invariant = { λ w. IsWork (record { seen = record { done = w.done.items; sprints = w.sprints.sprints; histories = histories_of w.issues.value.items; change = w.change.value }; room = w.sprints.room; burndown = w.burndown }) };
+    ghost invariant = { λ w. IsWork
+        (record {
+          seen = record {
+            done = w.done.items;
+            sprints = w.sprints.sprints;
+            histories = histories_of w.issues.value.items;
+            change = w.change.value;
+          };
+          room = w.sprints.room;
+          burndown = w.burndown;
+        }) };
 }
 
 impl Work {

@@ -30,7 +30,8 @@ abbrev pub resolved : ResolvedName → NamedField
 resolved r = (r.name.now, option_map (λ n. n.0) r.field)
 
 -- the names are those of `set`, and so is what is given by each
-pub record IsResolved (fields : List Field) (set : List GivenField) (names : List ResolvedName) : Type 0 where
+pub record IsResolved (fields : List Field) (set : List GivenField)
+    (names : List ResolvedName) : Type 0 where
   pub named : map resolved names ≡ map (named_in fields) set
   pub given : map (λ r. r.given.now) names ≡ map (λ g. g.given) set
 

@@ -16,7 +16,8 @@ use Rattle.wanted_values.specs.declared.names.UnknownName.TheVariants as unknown
 -- what a call wants of each field, by what it gives in `set`, and beside it where it is a create
 abbrev pub wants_of : Parts → List GivenField → Option Opening → ℕ → Wanted
 wants_of setup set None n = wanted_in (names_in setup) n set
-wants_of setup set (Some opening) n = create_wants setup opening.caller.0 opening.issue_type.now opening.summary.now set n
+wants_of setup set (Some opening) n =
+    create_wants setup opening.caller.0 opening.issue_type.now opening.summary.now set n
 
 -- the refusal of a name in `set` that stands for nothing
 abbrev pub unknown_name_refusal : UnknownName → Refusal

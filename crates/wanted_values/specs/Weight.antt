@@ -24,7 +24,9 @@ AllLight entries = sum_by entry_bytes entries ≤ 200_000
 
 -- so have opening values that fit
 abbrev pub OpeningsAreLight : Names → Type 0
-OpeningsAreLight names = (wants : ℕ → Wanted) → AllFit names (changes_of names wants) → AreLight (filled (changes_of names wants))
+OpeningsAreLight names =
+    (wants : ℕ → Wanted) → AllFit names (changes_of names wants)
+    → AreLight (filled (changes_of names wants))
 
 -- so has a change group that gives fields values that fit, where they held nothing or such values before
 abbrev pub GroupsAreLight : Names → Type 0

@@ -28,11 +28,14 @@ pub fn read_whole<S: Source>(
     most: usize,
 ) -> Result<Vec<u8>, InputFault>
     requires { most < 2 ^ 32 }
-    ensures whole { IfOk result (λ bytes. Consumes (S.left source.old) (S.left source.new) bytes.items) }
+    ensures whole { IfOk result (λ bytes. Consumes (S.left source.old)
+        (S.left source.new) bytes.items) }
     ensures end { IfOk result (λ bytes. IsAtEnd (S.left source.new)) }
     ensures within { IfOk result (λ bytes. length bytes.items ≤ most) }
-    ensures long { result ≡ Err InputFault.TooLong → IfSome (S.left source.old) (λ bytes. most < length bytes) }
-    ensures failed { result ≡ Err InputFault.Failed → Rose (S.faults source.old) (S.faults source.new) }
+    ensures long { result ≡ Err InputFault.TooLong
+        → IfSome (S.left source.old) (λ bytes. most < length bytes) }
+    ensures failed { result ≡ Err InputFault.Failed
+        → Rose (S.faults source.old) (S.faults source.new) }
     ensures later { S.faults source.old ≤ S.faults source.new }
 {
     let mut bytes = Vec::new(alloc);

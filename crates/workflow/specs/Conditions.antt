@@ -19,7 +19,9 @@ use Rattle.field_values.specs.declared.numbers.TheConstants.FieldNo.{STATUS as s
 
 -- the place of the issue's project, whose key stands before the hyphen of the issue's key
 unfoldable pub project_number : Parts → History → Option ℕ
-project_number setup h = option_and_then (λ parts. place_named parts.0 (map (λ p. p.key) setup.project)) (cut_at 45 h.key)
+project_number setup h =
+    option_and_then (λ parts. place_named parts.0 (map (λ p. p.key) setup.project))
+    (cut_at 45 h.key)
 
 -- the value is that user
 abbrev pub is_user : UserNo → Value → Bool
@@ -35,7 +37,8 @@ passes setup h caller IsReporter = is_user caller (present h reporter)
 -- `group:NAME`: the caller is a member of the group now
 passes setup h caller (InGroup group) = has_member setup.group caller.0 group
 -- `permission:NAME`: the caller has the permission in the issue's project
-passes setup h caller (HasPermission permission) = may setup caller.0 permission (project_number setup h)
+passes setup h caller (HasPermission permission) =
+    may setup caller.0 permission (project_number setup h)
 
 -- a condition holds where one of its tests passes; `any:` has several tests, every other condition has one
 abbrev pub condition_holds : Parts → History → UserNo → Condition → Bool
@@ -51,5 +54,6 @@ is_among statuses _ = false
 unfoldable pub failing_condition : Parts → History → UserNo → Transition → Option ℕ
 failing_condition setup h caller t =
     if is_among t.from (present h status)
-    then option_map (λ k. k + 1) (position (λ condition. not (condition_holds setup h caller condition)) t.conditions)
+    then option_map (λ k. k
+    + 1) (position (λ condition. not (condition_holds setup h caller condition)) t.conditions)
     else Some 0

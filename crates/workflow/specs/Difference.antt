@@ -10,7 +10,8 @@ use Rattle.workflow.specs.Net.{with_changes}
 -- each field stands once, by rising number from `low` on, with another value than before
 abbrev pub AreNews : (FieldNo → Value) → ℕ → List Change → Type 0
 AreNews before low [] = Unit {0}
-AreNews before low (c ∷ cs) = (low ≤ c.field.0) × (c.to ≢ before c.field) × AreNews before (c.field.0 + 1) cs
+AreNews before low (c ∷ cs) =
+    (low ≤ c.field.0) × (c.to ≢ before c.field) × AreNews before (c.field.0 + 1) cs
 
 -- with these changes and no others the fields hold what they hold after
 pub record IsDifference (before after : FieldNo → Value) (changes : List Change) : Type 0 where
@@ -20,7 +21,8 @@ pub record IsDifference (before after : FieldNo → Value) (changes : List Chang
 -- the entries of the change group that makes these changes
 abbrev pub entry_of : (FieldNo → Value) → ℕ → ℕ → UserNo → Change → Entry
 entry_of before change at author c =
-    record { change = change; at = at; author = author; field = c.field; from = before c.field; to = c.to }
+    record
+    { change = change; at = at; author = author; field = c.field; from = before c.field; to = c.to }
 
 abbrev pub entries_of : (FieldNo → Value) → ℕ → ℕ → UserNo → List Change → List Entry
 entries_of before change at author changes = map (entry_of before change at author) changes

@@ -24,27 +24,34 @@ use Rattle.workflow.specs.Plan.{first_fault, planned}
 -- what changes come to is the difference that they make
 abbrev pub NetIsTheDifference : Type 0
 NetIsTheDifference =
-    (before : FieldNo → Value) (changes : List Change) → IsDifference before (with_changes before changes) (net_changes before changes)
+    (before : FieldNo → Value) (changes : List Change)
+    → IsDifference before (with_changes before changes) (net_changes before changes)
 
 -- there is one list of changes at most that is the difference
 abbrev pub DifferencesAreOne : Type 0
 DifferencesAreOne =
-    (before after : FieldNo → Value) (one other : List Change) → IsDifference before after one → IsDifference before after other →
+    (before after : FieldNo → Value) (one other : List Change) → IsDifference before after one
+    → IsDifference before after other →
     one ≡ other
 
 -- a difference that isn't empty is a change group that a history may add
 abbrev pub DifferencesMayBeAdded : Type 0
 DifferencesMayBeAdded =
-    (h : History) (after : FieldNo → Value) (changes : List Change) (change at : ℕ) (author : UserNo) →
-    IsDifference (present h) after changes → 0 < length changes → updated h ≤ at → last_change h.change h.entries < change →
+    (h : History) (after : FieldNo → Value) (changes : List Change) (change at : ℕ)
+    (author : UserNo) →
+    IsDifference (present h) after changes → 0 < length changes → updated h ≤ at
+    → last_change h.change h.entries < change →
     MayAdd h change at author (entries_of (present h) change at author changes)
 
 -- with it, the fields hold what they hold after
 abbrev pub DifferencesAreMade : Type 0
 DifferencesAreMade =
-    (h : History) (after : FieldNo → Value) (changes : List Change) (change at : ℕ) (author : UserNo) →
+    (h : History) (after : FieldNo → Value) (changes : List Change) (change at : ℕ)
+    (author : UserNo) →
     IsDifference (present h) after changes →
-    (f : FieldNo) → present (record h { entries = h.entries ++ entries_of (present h) change at author changes }) f ≡ after f
+    (f : FieldNo)
+    → present (record h { entries = h.entries ++ entries_of (present h) change at author changes })
+    f ≡ after f
 
 -- one of the numbers, and none of them is less
 pub record IsLeastOf (numbers : List ℕ) (n : ℕ) : Type 0 where
@@ -54,7 +61,8 @@ pub record IsLeastOf (numbers : List ℕ) (n : ℕ) : Type 0 where
 -- the input that is told is the first refused one by field number
 abbrev pub RefusedInputIsTheFirst : Type 0
 RefusedInputIsTheFirst =
-    (names : Names) (inputs : List Change) (n : ℕ) → refused_input names inputs ≡ Some n → IsLeastOf (refused_numbers names inputs) n
+    (names : Names) (inputs : List Change) (n : ℕ) → refused_input names inputs ≡ Some n
+    → IsLeastOf (refused_numbers names inputs) n
 
 -- each change gives its field a value that fits
 abbrev pub AllFit : Names → List Change → Type 0
@@ -87,21 +95,27 @@ pub record IsSoundTransition (setup : Parts) (t : Transition) : Type 0 where
 pub record EditFits (names : Names) (before : FieldNo → Value) (inputs : List Change) : Type 0 where
   pub changes : AllFit names (net_changes before inputs)
   pub same_status : with_changes before (net_changes before inputs) status ≡ before status
-  pub values : (f : FieldNo) → fits names f.0 (before f) ≡ true → fits names f.0 (with_changes before (net_changes before inputs) f) ≡ true
+  pub values : (f : FieldNo) → fits names f.0 (before f) ≡ true
+      → fits names f.0 (with_changes before (net_changes before inputs) f) ≡ true
 
 abbrev pub EditsFit : Type 0
 EditsFit =
-    (names : Names) (before : FieldNo → Value) (inputs : List Change) → refused_input names inputs ≡ None → EditFits names before inputs
+    (names : Names) (before : FieldNo → Value) (inputs : List Change)
+    → refused_input names inputs ≡ None → EditFits names before inputs
 
 -- after a transition the issue has the status that it leads to, and each field whose value did fit has one that fits
-pub record PlanFits (setup : Parts) (h : History) (caller : UserNo) (t : Transition) (inputs : List Change) : Type 0 where
+pub record PlanFits (setup : Parts) (h : History) (caller : UserNo) (t : Transition)
+    (inputs : List Change) : Type 0 where
   pub changes : AllFit (names_in setup) (planned setup h caller t inputs)
   pub has_status : with_changes (present h) (planned setup h caller t inputs) status ≡ Choice t.to
   pub values : (f : FieldNo) → fits (names_in setup) f.0 (present h f) ≡ true →
-      fits (names_in setup) f.0 (with_changes (present h) (planned setup h caller t inputs) f) ≡ true
+      fits (names_in setup) f.0 (with_changes (present h) (planned setup h caller t inputs) f)
+      ≡ true
 
 abbrev pub PlansFit : Type 0
 PlansFit =
-    (setup : Parts) (h : History) (caller : UserNo) (place : ℕ) (t : Transition) (inputs : List Change) (at : ℕ) →
-    IsSound setup → slice_get setup.transition place ≡ Some t → caller.0 < length setup.users → fits (names_in setup) 6 (present h reporter) ≡ true →
+    (setup : Parts) (h : History) (caller : UserNo) (place : ℕ) (t : Transition)
+    (inputs : List Change) (at : ℕ) →
+    IsSound setup → slice_get setup.transition place ≡ Some t → caller.0 < length setup.users
+    → fits (names_in setup) 6 (present h reporter) ≡ true →
     first_fault setup h caller t inputs at ≡ None → PlanFits setup h caller t inputs

@@ -19,7 +19,8 @@ use Rattle.workflow.specs.Validators.{failing_validator}
 use Rattle.workflow.specs.PostFunctions.{change, with_post}
 
 -- the first check that fails: of the conditions, then of the inputs' values, then of the validators
-unfoldable pub first_fault : Parts → History → UserNo → Transition → List Change → ℕ → Option PlanFault
+unfoldable pub first_fault : Parts → History → UserNo → Transition → List Change → ℕ
+    → Option PlanFault
 first_fault setup h caller t inputs at =
     option_or (option_map Condition (failing_condition setup h caller t))
     (option_or (option_map (λ n. Value (record { 0 = n })) (refused_input (names_in setup) inputs))
@@ -27,7 +28,8 @@ first_fault setup h caller t inputs at =
 
 -- all that changes: the inputs, then the status, then what the post functions set
 unfoldable pub all_changes : Parts → History → UserNo → Transition → List Change → List Change
-all_changes setup h caller t inputs = with_post setup h caller (inputs ++ change status (Choice t.to) ∷ []) t.post
+all_changes setup h caller t inputs =
+    with_post setup h caller (inputs ++ change status (Choice t.to) ∷ []) t.post
 
 -- the net difference of the issue after all these
 unfoldable pub planned : Parts → History → UserNo → Transition → List Change → List Change

@@ -20,7 +20,9 @@ change field value = record { field = field; to = value }
 
 -- the lead of the issue's project
 unfoldable pub lead_of : Parts → History → Value
-lead_of setup h = option_map_or (λ p. User p.lead) (option_and_then (slice_get setup.project) (project_number setup h)) Empty
+lead_of setup h =
+    option_map_or (λ p. User p.lead)
+    (option_and_then (slice_get setup.project) (project_number setup h)) Empty
 
 -- the change that a post function makes, where the fields hold these values before it
 abbrev pub post_change : Parts → History → UserNo → (FieldNo → Value) → PostFunction → Change
@@ -41,4 +43,5 @@ post_change setup h caller values (Resolution choice) = change resolution (Choic
 abbrev pub with_post : Parts → History → UserNo → List Change → List PostFunction → List Change
 with_post setup h caller so_far [] = so_far
 with_post setup h caller so_far (post ∷ posts) =
-    with_post setup h caller (so_far ++ post_change setup h caller (with_changes (present h) so_far) post ∷ []) posts
+    with_post setup h caller (so_far
+    ++ post_change setup h caller (with_changes (present h) so_far) post ∷ []) posts

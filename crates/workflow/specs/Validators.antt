@@ -30,15 +30,22 @@ is_open day _ = false
 -- what a validator asks; the status and the post functions come later, so it doesn't see them
 abbrev pub validator_holds : Parts → History → UserNo → List Change → ℕ → Validator → Bool
 -- `required:FIELD`: the field isn't empty after the inputs
-validator_holds setup h caller inputs at (Required field) = not (is_empty (with_changes (present h) inputs field))
+validator_holds setup h caller inputs at (Required field) =
+    not (is_empty (with_changes (present h) inputs field))
 -- `changed:FIELD`: the field holds another value after the inputs than before
-validator_holds setup h caller inputs at (Changed field) = not (same_value (with_changes (present h) inputs field) (present h field))
+validator_holds setup h caller inputs at (Changed field) =
+    not (same_value (with_changes (present h) inputs field) (present h field))
 -- `due`: the due date after the inputs is empty, or not before the local day of the present moment
-validator_holds setup h caller inputs at Due = is_open (today setup at) (with_changes (present h) inputs due)
+validator_holds setup h caller inputs at Due =
+    is_open (today setup at) (with_changes (present h) inputs due)
 -- `permission:NAME`: the caller has the permission in the issue's project
-validator_holds setup h caller inputs at (Permission permission) = may setup caller.0 permission (project_number setup h)
+validator_holds setup h caller inputs at (Permission permission) =
+    may setup caller.0 permission (project_number setup h)
 
 -- the first validator that fails, counted from 1
-unfoldable pub failing_validator : Parts → History → UserNo → Transition → List Change → ℕ → Option ℕ
+unfoldable pub failing_validator : Parts → History → UserNo → Transition → List Change → ℕ
+    → Option ℕ
 failing_validator setup h caller t inputs at =
-    option_map (λ k. k + 1) (position (λ validator. not (validator_holds setup h caller inputs at validator)) t.validators)
+    option_map (λ k. k
+    + 1) (position (λ validator. not (validator_holds setup h caller inputs at validator))
+    t.validators)
