@@ -33,7 +33,8 @@ mod user_name;
 pub use body::read_body;
 pub use call::{Call, CallKind, MOST_ENTRIES, MOST_FROM, MOST_LISTED, MOST_MEMBERS, Part};
 pub use given::{Given, GivenField, GivenFields, has_twins};
-pub use line::read_line;
+pub use json::Scratch;
+pub use line::{read_line, read_line_in};
 pub use members::{is_among, misses};
 pub use named::is_external;
 pub use reply::{

@@ -9,6 +9,7 @@ use crate::members::{misses, text_at};
 use crate::plain_line::plain_line;
 use crate::reply::Refusal;
 use crate::user_name::UserName;
+use json::Scratch;
 use serde_json::{Map, Value};
 use std::alloc::Global;
 use std::str;
@@ -18,16 +19,28 @@ use std::str;
 pub fn read_line(alloc: Global, bytes: &[u8]) -> Result<(UserName, Call), Refusal>
     ensures { UnlessMemory result (line_of bytes.now) }
 {
+    let mut scratch = Scratch::new(alloc);
+    read_line_in(alloc, &mut scratch, bytes)
+}
+
+/// The same, with the memory that reading needs, which whoever reads many lines keeps from line to line.
+pub fn read_line_in(
+    alloc: Global,
+    scratch: &mut Scratch,
+    bytes: &[u8],
+) -> Result<(UserName, Call), Refusal>
+    ensures { UnlessMemory result (line_of bytes.now) }
+{
     match str::from_utf8(bytes) {
-        Ok(text) => read_text(alloc, text),
+        Ok(text) => read_text(alloc, scratch, text),
         Err(_) => misses(alloc, "line"),
     }
 }
 
-fn read_text(alloc: Global, text: &str) -> Result<(UserName, Call), Refusal>
+fn read_text(alloc: Global, scratch: &mut Scratch, text: &str) -> Result<(UserName, Call), Refusal>
     ensures { UnlessMemory result (line_of text.now) }
 {
-    match plain_line(alloc, text)? {
+    match plain_line(alloc, scratch, text)? {
         Some(asked) => Ok(asked),
         None => read_tree(alloc, text),
     }

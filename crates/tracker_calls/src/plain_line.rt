@@ -22,14 +22,17 @@ use std::alloc::Global;
 const MAX_DEPTH: usize = 127;
 
 /// The user and the call of a plain line whose members are those of its call; `None` where it isn't known to be such a line.
-pub fn plain_line(alloc: Global, text: &str) -> Result<Option<(UserName, Call)>, Memory>
+pub fn plain_line(
+    alloc: Global,
+    scratch: &mut Scratch,
+    text: &str,
+) -> Result<Option<(UserName, Call)>, Memory>
     ensures { IfOk result (λ found. IfSome found (λ asked. line_of text.now ≡ Ok asked)) }
 {
     if has_list(text) {
         return Ok(None);
     }
-    let mut scratch = Scratch::new(alloc);
-    let Ok(mut reader) = Reader::new(text, &mut scratch) else {
+    let Ok(mut reader) = Reader::new(text, scratch) else {
         return Err(Memory);
     };
     match Value::read(alloc, &mut reader, MAX_DEPTH) {

@@ -9,7 +9,7 @@ use request_lines::Responder;
 use std::alloc::{AllocError, Global};
 use std::marker::Model;
 use std::sync::ledger::Ledger;
-use tracker_calls::{Call, Reply, UserName, read_line};
+use tracker_calls::{Call, Reply, Scratch, UserName, read_line_in};
 use tracker_core::Desk;
 use tracker_import::put_reply_line;
 use tracker_keeper::Keeper;
@@ -21,6 +21,8 @@ pub struct RequestLines<L: Ledger, P: Keeper + Drop> {
     alloc: Global,
     desk: Desk<P>,
     steps: Steps<L>,
+    // Kept from line to line.
+    scratch: Scratch,
 }
 
 impl<L: Ledger, P: Keeper + Drop> Model for RequestLines<L, P> {
@@ -35,7 +37,12 @@ impl<L: Ledger, P: Keeper + Drop> RequestLines<L, P> {
     pub fn new(alloc: Global, desk: Desk<P>, steps: Steps<L>) -> Self
         ensures { result ≡ desk }
     {
-        RequestLines { alloc, desk, steps }
+        RequestLines {
+            alloc,
+            desk,
+            steps,
+            scratch: Scratch::new(alloc),
+        }
     }
 
     /// Ends it and hands the keeper back, with its rows as they are.
@@ -46,6 +53,7 @@ impl<L: Ledger, P: Keeper + Drop> RequestLines<L, P> {
             alloc: _,
             desk,
             steps: _,
+            scratch: _,
         } = self;
         desk.close()
     }
@@ -58,7 +66,7 @@ impl<L: Ledger, P: Keeper + Drop> RequestLines<L, P> {
             P.keeps self.new.keeper (rows_of self.new.machine) }
         ensures told { P.tells self.new.keeper → P.tells self.old.keeper }
     {
-        match read_line(self.alloc, line) {
+        match read_line_in(self.alloc, &mut self.scratch, line) {
             Ok((user, call)) => self.desk.call(&user, &call, &mut self.steps),
             Err(refusal) => Reply::Refused(refusal),
         }
