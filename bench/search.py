@@ -1,11 +1,12 @@
 #!/usr/bin/env python3
 """Times searches: 10,000 issues, or so many, with three changes each, and then 200 searches of each of ten kinds.
 
-usage: python3 bench/search.py PROGRAM [ISSUES]
+usage: python3 bench/search.py PROGRAM [ISSUES [STORE]]
 
-PROGRAM is the built tracker, as crates/tracker/out/tracker after `rt run` there. One run has all searches, the kinds in turns of 20; each
-turn is timed by the processor time that the run took meanwhile (Linux's schedstat). Told are the mean of a kind's searches, and the median of
-its turns, which a machine that is slow for a while moves less. Peak memory is that of the run.
+PROGRAM is the built tracker, as crates/tracker/out/tracker after `rt run` there. STORE is a file that isn't there yet: the issues are put into
+it, which takes minutes, and searched by a run that opens it again; without it, one run in memory does both. The kinds take turns of 20
+searches; each turn is timed by the processor time that the run took meanwhile (Linux's schedstat). Told are the mean of a kind's searches,
+and the median of its turns, which a machine that is slow for a while moves less. Peak memory is that of the run that searches.
 """
 import json
 import os
@@ -53,8 +54,8 @@ def load(issues):
 class Run:
     """A run of the program that answers lines as they come."""
 
-    def __init__(self, program):
-        self.child = subprocess.Popen([program, ':memory:', 'exec'], stdin=subprocess.PIPE, stdout=subprocess.PIPE)
+    def __init__(self, program, store):
+        self.child = subprocess.Popen([program, store, 'exec'], stdin=subprocess.PIPE, stdout=subprocess.PIPE)
 
     def spent(self):
         """The processor seconds so far."""
@@ -85,10 +86,17 @@ class Run:
 
 def main():
     number = int(sys.argv[2]) if len(sys.argv) > 2 else 10_000
+    store = sys.argv[3] if len(sys.argv) > 3 else None
+    if store and os.path.exists(store):
+        sys.exit(f'{store} is there already')
     issues = list(load(number))
-    run = Run(sys.argv[1])
+    run = Run(sys.argv[1], store or ':memory:')
     took = run.answer(issues)
     print(f'{len(issues)} lines for {number} issues: {took:.2f} s of processor time, {len(issues) / took:,.0f} lines a second')
+    if store:
+        run.end()
+        run = Run(sys.argv[1], store)
+        run.answer([line('cy', 'search', jql='')])
     turns = {jql: [] for jql in KINDS}
     for _ in range(EACH // IN_TURN):
         for jql in KINDS:

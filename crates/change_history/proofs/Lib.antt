@@ -2,3 +2,4 @@ pub mod Adding
 pub mod Placing
 pub mod Befores
 pub mod Present
+pub mod Smalls

@@ -2,9 +2,10 @@
 use Rattle.std.specs.Prelude.{◌≡◌, ◌+◌, ◌≤◌, [], vec_len, vec_capacity}
 use Rattle.field_values.specs.declared.value.Value.TheVariants.{Empty}
 use Rattle.change_history.specs.declared.issue.Issue.TheInside.{Inside}
-use Rattle.change_history.specs.History.{History, RoomyHistory, IsHistory, updated}
+use Rattle.change_history.specs.History.{History, RoomyHistory, IsHistory, present, updated}
 use Rattle.change_history.specs.Before.{befores_from}
 use Rattle.change_history.specs.Places.{ArePlaces}
+use Rattle.change_history.specs.Small.{AreSmall}
 
 -- its history
 abbrev pub kept_history : Inside → History
@@ -22,12 +23,13 @@ kept_history i = record {
 abbrev pub roomy_history : Inside → RoomyHistory
 roomy_history i = record { history = kept_history i; room = i.room }
 
--- what is true of it: moment, notes and places follow from the history, and each list has room for as many entries more
+-- what is true of it: moment, notes, places and small values follow from the history, and each list has room for as many entries more
 pub record IsKept (i : Inside) : Type 0 where
   pub empty_is : i.empty ≡ Empty
   pub updated_is : i.updated ≡ updated (kept_history i)
   pub befores_are : i.befores.items ≡ befores_from [] i.entries.items
   pub places_are : ArePlaces i.entries.items i.places.items
+  pub small_are : AreSmall (present (kept_history i)) i.small
   pub entries_fit : vec_len i.entries + i.room ≤ vec_capacity i.entries
   pub places_fit : vec_len i.places + i.room ≤ vec_capacity i.places
   pub befores_fit : vec_len i.befores + i.room ≤ vec_capacity i.befores

@@ -1,4 +1,5 @@
-ghost use Rattle.std.specs.Prelude.{◌≡◌, ◌≤◌, ◌+◌, ◌-◌, ◌^◌, ◌<◌, ◌++◌, ◌∷◌, length, vec_len, vec_capacity, IfOk, OnOk, OnErr, option_copied, option_map, unwrap_or, slice_get, [], take, drop, None};
+ghost use Rattle.std.specs.Prelude.{◌≡◌, ◌≤◌, ◌+◌, ◌-◌, ◌^◌, ◌<◌, ◌++◌, ◌∷◌, length, vec_len, vec_capacity, IfOk, OnOk, OnErr, option_copied, option_map, unwrap_or, slice_get, [], take, drop, None, IfSome};
+ghost use Rattle.change_history.specs.Small.{small_of, small_value};
 ghost use Rattle.change_history.specs.History.{History, present, opening_value, updated, MayAdd};
 ghost use Rattle.change_history.specs.Span.{entries_of, span_of};
 ghost use Rattle.change_history.specs.Places.{places_after, befores_by, value_at};
@@ -8,6 +9,7 @@ use crate::change::{Change, Changes};
 use crate::entry::{Entry, Group};
 use crate::key::Key;
 use crate::places::{Place, place_of, set_place};
+use crate::small::{PLACES, Small, opening_small, put_small, small_at};
 use crate::span::Span;
 use field_values::{FieldNo, IssueNo, Memory, Moment, UserNo, Value};
 use std::alloc::Global;
@@ -28,6 +30,8 @@ pub struct Issue {
     // For each entry, where the last entry of its field before it stands.
     befores: Vec<Option<usize>>,
     room: usize,
+    // By the number of each field that every tracker has, what it holds.
+    small: [Small; PLACES],
     // What a field holds that never had a value.
     empty: Value,
 }
@@ -47,6 +51,7 @@ impl Drop for Issue {
             places: _,
             befores: _,
             room: _,
+            small: _,
             empty: _,
         } = self;
     }
@@ -87,6 +92,7 @@ impl Issue {
         }) }
         ensures room { IfOk result (λ issue. issue.room ≡ 0) }
     {
+        let small = opening_small(&values.list);
         Ok(Issue {
             no,
             key,
@@ -99,6 +105,7 @@ impl Issue {
             places: Vec::new(alloc),
             befores: Vec::new(alloc),
             room: 0,
+            small,
             empty: Value::Empty,
         })
     }
@@ -152,6 +159,17 @@ impl Issue {
         match self.last_entry(field) {
             Some(at) => value_at(&self.entries, at),
             None => self.opening(field),
+        }
+    }
+
+    /// The present value of a field, where it takes no memory. Of a field that every tracker has, no list is looked at.
+    pub fn small(&self, field: FieldNo) -> Small
+        ensures small { result ≡ small_of (present self.now.history field) }
+        ensures value { IfSome (small_value result) (λ v. v ≡ present self.now.history field) }
+    {
+        match small_at(&self.small, field) {
+            Some(small) => small,
+            None => Small::of(self.value(field)),
         }
     }
 
@@ -235,7 +253,8 @@ impl Issue {
     {
         self.places.reserve(n)?;
         self.befores.reserve(n)?;
-        self.entries.reserve(n)?;
+        // Entries are large, so that half as many more are enough room.
+        self.entries.reserve_exact(n.max(self.entries.len() / 2))?;
         self.room = n;
         Ok(())
     }
@@ -253,6 +272,7 @@ impl Issue {
         self.updated = group.at;
         let first = self.entries.len();
         put_befores(&mut self.befores, &mut self.places, first, &entries);
+        put_small(&mut self.small, &entries);
         append_all(&mut self.entries, entries);
     }
 }

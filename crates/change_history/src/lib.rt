@@ -6,10 +6,12 @@ mod entry;
 mod issue;
 mod key;
 mod places;
+mod small;
 mod span;
 
 pub use change::{Change, Changes};
 pub use entry::{Entries, Entry, Group};
 pub use issue::Issue;
 pub use key::Key;
+pub use small::Small;
 pub use span::Span;

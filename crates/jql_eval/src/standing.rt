@@ -2,12 +2,17 @@
 ghost use Rattle.std.specs.Prelude.{◌≡◌, ◌==◌, unwrap_or, slice_get, neg_ℤ, pos, [], if◌then◌else◌};
 ghost use Rattle.std.specs.List.{after_first};
 ghost use Rattle.fields.specs.SetupParts.{parts};
+ghost use Rattle.field_values.specs.Parts.{Parts};
+ghost use Rattle.field_values.specs.declared.numbers.FieldNo.{FieldNo};
+ghost use Rattle.change_history.specs.History.{present};
+ghost use Rattle.change_history.specs.Small.{small_of};
+ghost use Rattle.change_history.specs.declared.small.Small.{Small};
 ghost use Rattle.jql_meaning.specs.Comparison.{project_of};
 ghost use Rattle.jql_meaning.specs.Order.{standing, standing_cmp, value_standing, category_standing, category_place, text_cmp, kind_place, key};
 ghost use Rattle.jql_eval.specs.Standings.{key_standing, seen};
 
 use crate::number::{number_cmp, number_in};
-use change_history::Issue;
+use change_history::{Issue, Small};
 use field_values::{Category, ChoiceNo, FieldNo, UserNo, Value};
 use fields::Setup;
 use jql_bound::Subject;
@@ -31,7 +36,7 @@ pub fn standing_of<'a>(setup: &'a Setup, issue: &'a Issue, subject: Subject) -> 
     ensures { seen result ≡ standing (parts setup.now) issue.now.history subject }
 {
     match subject {
-        Subject::Field(field) => value_standing(setup, field, issue.value(field)),
+        Subject::Field(field) => field_standing(setup, field, issue),
         Subject::Project => Standing::Text(key_parts(issue.key().as_str()).0),
         Subject::Key => key_standing(issue.key().as_str()),
         Subject::Created => Standing::Size(issue.created().seconds() as i64),
@@ -62,17 +67,36 @@ fn category_place(category: Category) -> i64
     }
 }
 
-fn value_standing<'a>(setup: &'a Setup, field: FieldNo, value: &'a Value) -> Standing<'a>
-    ensures { seen result ≡ value_standing (parts setup.now) field value.now }
+fn field_standing<'a>(setup: &'a Setup, field: FieldNo, issue: &'a Issue) -> Standing<'a>
+    ensures { seen result
+        ≡ value_standing (parts setup.now) field (present issue.now.history field) }
+{
+    match issue.small(field) {
+        Small::Empty => Standing::Nothing,
+        Small::Number(number) => Standing::Size(number),
+        Small::Choice(choice) => Standing::Size(choice_place(field, choice)),
+        Small::User(user) => Standing::Text(user_name(setup, user)),
+        Small::Date(day) => Standing::Size(i64::from(day.0)),
+        Small::Sprint(sprint) => Standing::Size(i64::from(sprint.0)),
+        Small::Apart => apart_standing(issue.value(field)),
+    }
+}
+
+// By a value that takes memory: texts alone have an order.
+fn apart_standing(value: &Value) -> Standing<'_>
+    requires { small_of value.now ≡ Small.Apart }
+    ensures { (setup : Parts) (field : FieldNo)
+        → seen result ≡ value_standing setup field value.now }
 {
     match value {
         Value::Text(text) => Standing::Text(text.as_str().as_bytes()),
-        Value::Number(number) => Standing::Size(*number),
-        Value::Choice(choice) => Standing::Size(choice_place(field, *choice)),
-        Value::User(user) => Standing::Text(user_name(setup, *user)),
-        Value::Date(day) => Standing::Size(i64::from(day.0)),
-        Value::Sprint(sprint) => Standing::Size(i64::from(sprint.0)),
-        Value::Empty | Value::Set(_) | Value::Labels(_) => Standing::Nothing,
+        Value::Set(_) | Value::Labels(_) => Standing::Nothing,
+        Value::Empty
+        | Value::Number(_)
+        | Value::Choice(_)
+        | Value::User(_)
+        | Value::Date(_)
+        | Value::Sprint(_) => unreachable!(),
     }
 }
 

@@ -26,7 +26,10 @@ pub fn equals(
         ≡ equals (surroundings_of context.now) issue.now.history at subject operand.now }
 {
     match subject {
-        Subject::Field(field) => equals_value(context, at, issue.value(field), operand),
+        Subject::Field(field) => match issue.small(field).value() {
+            Some(value) => equals_value(context, at, &value, operand),
+            None => equals_value(context, at, issue.value(field), operand),
+        },
         Subject::Project => is_project(issue.key(), operand),
         Subject::Key => is_issue(issue.key(), operand),
         Subject::Created => equals_moment(context, at, issue.created(), operand),
@@ -46,7 +49,10 @@ pub fn order(
         ≡ order (surroundings_of context.now) issue.now.history at subject operand.now }
 {
     match subject {
-        Subject::Field(field) => value_order(context, at, issue.value(field), operand),
+        Subject::Field(field) => match issue.small(field).value() {
+            Some(value) => value_order(context, at, &value, operand),
+            None => value_order(context, at, issue.value(field), operand),
+        },
         Subject::Project | Subject::Key => None,
         Subject::Created => moment_order(context, at, issue.created(), operand),
         Subject::Updated => moment_order(context, at, issue.updated(), operand),

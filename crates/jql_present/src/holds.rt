@@ -9,7 +9,7 @@ ghost use Rattle.jql_meaning.specs.Comparison.{equals, order, stands};
 
 use crate::compare::{equals, order};
 use crate::words;
-use change_history::Issue;
+use change_history::{Issue, Small};
 use field_values::{Moment, Value};
 use jql_bound::{Context, Inequality, Leaf, Operand, Operator, Subject, Word};
 use std::cmp::Ordering;
@@ -54,7 +54,7 @@ fn lacks_value(issue: &Issue, subject: Subject) -> bool
     ensures { result ≡ lacks_value issue.now.history subject }
 {
     match subject {
-        Subject::Field(field) => matches!(issue.value(field), Value::Empty),
+        Subject::Field(field) => matches!(issue.small(field), Small::Empty),
         _ => false,
     }
 }

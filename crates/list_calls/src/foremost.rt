@@ -16,7 +16,7 @@ use tracker_state::State;
 /// One issue in so many is in the sample that tells where to cut.
 const ONE_IN: usize = 16;
 
-/// So many more of the sample than are wanted, and a quarter of these, stand before the cut, since a sample isn't exact.
+/// Of the sample stand before the cut as many as its share of those that are wanted, a quarter more, and so many: a sample isn't exact.
 const SPARE: usize = 8;
 
 /// Lets go of issues that the first sort key has stand behind so many others. What is left keeps its turn.

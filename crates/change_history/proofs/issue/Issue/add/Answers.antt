@@ -1,10 +1,12 @@
 use Rattle.std.proofs.Common.{◌≡◌, arith, subst, sym, ap, List, ◌++◌, length, ◌∙◌}
-use Rattle.change_history.specs.History.{RoomyHistory, IsHistory, MayAdd, last_moment}
+use Rattle.change_history.specs.History.{RoomyHistory, IsHistory, MayAdd, last_moment, present}
 use Rattle.change_history.specs.contracts.issue.Issue.{the_view}
 use Rattle.change_history.specs.declared.entry.Entry.{Entry}
 use Rattle.change_history.specs.declared.entry.Group.{Group}
 use Rattle.change_history.proofs.Adding.{IsHistory-add, last_moment-group}
 use Rattle.change_history.proofs.Befores.{places-add, befores-add}
+use Rattle.change_history.proofs.Smalls.{small-add}
+use Rattle.change_history.specs.Small.{AreSmall}
 use Rattle.change_history.proofs.issue.Issue.add.Goals as goal
 
 pub invariant_of-self : goal.invariant_of-self
@@ -25,6 +27,10 @@ invariant_of-self c =
       befores_are = befores-add c.len-first.result entries c.deref.result.now _ c.self.inside.places.items c.self.inside.befores.items _ count all_lent
           c.put_befores.ensures.befores_items before.places_are before.befores_are;
       places_are = places-add c.len-first.result entries c.deref.result.now _ c.self.inside.places.items _ count all_lent c.put_befores.ensures.items before.places_are;
+      small_are = subst (λ (es : List Entry). AreSmall (present (record old { entries = es })) c.put_small.new.small)
+          (sym (all ∙ ap (λ (es : List Entry). entries ++ es) (sym c.deref-2.ensures.value)))
+          (subst (AreSmall (present (record old { entries = entries ++ c.deref-2.result.now }))) (sym c.put_small.ensures)
+          (small-add old c.self.inside.small c.deref-2.result.now before.small_are));
       entries_fit = omega (arith, before.entries_fit, c.append_all.ensures.len, c.append_all.ensures.capacity, c.len.ensures);
       places_fit = omega (arith, before.places_fit, c.put_befores.ensures.len, c.put_befores.ensures.capacity, c.deref.ensures.len, c.len.ensures);
       befores_fit = omega (arith, before.befores_fit, c.put_befores.ensures.befores_len, c.put_befores.ensures.befores_capacity, c.deref.ensures.len, c.len.ensures);

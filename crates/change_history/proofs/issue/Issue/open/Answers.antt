@@ -1,6 +1,8 @@
-use Rattle.std.proofs.Common.{List, [], arith, refl, sym, ap, ◌∙◌}
+use Rattle.std.proofs.Common.{List, [], arith, refl, sym, ap, subst, ◌∙◌}
+use Rattle.change_history.specs.declared.change.Change.{Change}
 use Rattle.change_history.specs.declared.entry.Entry.{Entry}
-use Rattle.change_history.specs.History.{last_moment}
+use Rattle.change_history.specs.History.{last_moment, opening_value, value_after}
+use Rattle.change_history.specs.Small.{AreSmall}
 use Rattle.change_history.specs.Before.{befores_from}
 use Rattle.change_history.proofs.Adding.{IsHistory-new}
 use Rattle.change_history.proofs.Befores.{places-new}
@@ -12,6 +14,10 @@ invariant_of-result c = record {
   updated_is = ap (λ (es : List Entry). last_moment c.args.at es) (sym c.new.ensures.items);
   befores_are = c.new-3.ensures.items ∙ ap (befores_from []) (sym c.new.ensures.items);
   places_are = places-new _ _ c.new.ensures.items c.new-2.ensures.items;
+  small_are =
+      let opened = subst (λ (cs : List Change). AreSmall (opening_value cs) c.opening_small-small.result) c.deref.ensures.value c.opening_small-small.ensures in
+      subst (λ (es : List Entry). AreSmall (λ f. value_after (opening_value c.values.inside.list.items f) es f) c.opening_small-small.result)
+      (sym c.new.ensures.items) opened;
   entries_fit = omega (arith, c.new.ensures.len);
   places_fit = omega (arith, c.new-2.ensures.len);
   befores_fit = omega (arith, c.new-3.ensures.len);
