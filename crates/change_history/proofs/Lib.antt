@@ -1,4 +1,5 @@
 pub mod Adding
+pub mod Cells
 pub mod Placing
 pub mod Befores
 pub mod Present

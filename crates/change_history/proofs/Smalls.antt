@@ -1,6 +1,6 @@
 -- Small values, as fields are set.
-use Rattle.std.proofs.Common.{◌≡◌, ◌≢◌, ◌==◌, ℕ, zero, suc, List, [], ◌∷◌, ◌++◌, replicate, Bool, true, false, Option, Some, None, IfSome, refl, sym, ap, ◌∙◌, subst, eq-eqb}
-use Rattle.std.specs.Prelude.{slice_get, slice_set, if◌then◌else◌}
+use Rattle.std.proofs.Common.{◌≡◌, ◌==◌, ℕ, zero, suc, List, [], ◌∷◌, ◌++◌, replicate, Bool, true, false, Some, IfSome, refl, sym, ap, ◌∙◌}
+use Rattle.std.specs.Prelude.{slice_get, if◌then◌else◌}
 use Rattle.std.proofs.lemmas.Bool.{eqb-true}
 use Rattle.field_values.specs.declared.numbers.FieldNo.{FieldNo}
 use Rattle.field_values.specs.declared.value.Value.{Value}
@@ -11,6 +11,7 @@ use Rattle.change_history.specs.declared.small.Small.TheVariants.{Empty}
 use Rattle.change_history.specs.History.{History, present, opening_value, value_after, values_after, put_value}
 use Rattle.change_history.specs.Small.{small_of, small_value, small_after, set_small, AreSmall}
 use Rattle.change_history.proofs.Adding.{values_after-value}
+use Rattle.change_history.proofs.Cells.{set_read, set_other, apart}
 
 -- a small value of a value is none other
 pub small_value-of : (v : Value) → IfSome (small_value (small_of v)) (λ w. w ≡ v)
@@ -23,22 +24,6 @@ small_value-of (value.Date day) = refl
 small_value-of (value.Set choices) = tt
 small_value-of (value.Labels labels) = tt
 small_value-of (value.Sprint sprint) = refl
-
--- what is set is read, and nothing else changes
-set_read : (small : List Small) (i : ℕ) (x s : Small) → slice_get (slice_set small i x) i ≡ Some s → s ≡ x
-set_read [] i x s read = cc
-set_read (y ∷ small) zero x s read = cc
-set_read (y ∷ small) (suc i) x s read = set_read small i x s read
-
-set_other : (small : List Small) (i : ℕ) (x : Small) (j : ℕ) → i ≢ j → slice_get (slice_set small i x) j ≡ slice_get small j
-set_other [] i x j other = refl
-set_other (y ∷ small) zero x zero other = absurd (other refl)
-set_other (y ∷ small) zero x (suc j) other = refl
-set_other (y ∷ small) (suc i) x zero other = refl
-set_other (y ∷ small) (suc i) x (suc j) other = set_other small i x j (λ e. other (ap suc e))
-
-apart : (i j : ℕ) → (i == j) ≡ false → i ≢ j
-apart i j other e = let both : true ≡ false = sym (eq-eqb i j e) ∙ other in cc
 
 set_by : (values : FieldNo → Value) (small : List Small) (f g : FieldNo) (v : Value) (s : Small) (b : Bool) → (f.0 == g.0) ≡ b
     → AreSmall values small → slice_get (set_small small f v) g.0 ≡ Some s → s ≡ small_of (if b then v else values g)

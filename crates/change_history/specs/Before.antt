@@ -13,6 +13,15 @@ last_from found place (e ∷ es) f =
 abbrev pub last_of : List Entry → FieldNo → Option ℕ
 last_of entries f = last_from None 0 entries f
 
+-- the place of the first of these entries that changes the field, the first of which stands at `place`
+abbrev pub first_from : ℕ → List Entry → FieldNo → Option ℕ
+first_from place [] f = None
+first_from place (e ∷ es) f = if e.field.0 == f.0 then Some place else first_from (place + 1) es f
+
+-- the place of the first entry that changes a field, if there is one
+abbrev pub first_of : List Entry → FieldNo → Option ℕ
+first_of entries f = first_from 0 entries f
+
 -- where the last change of an entry's field stands that came before the entry
 abbrev pub before_of : List Entry → Option Entry → ℕ → Option ℕ
 before_of entries None k = None

@@ -1,14 +1,15 @@
-ghost use Rattle.std.specs.Prelude.{◌≡◌, ◌≤◌, ◌+◌, ◌-◌, ◌^◌, ◌<◌, ◌++◌, ◌∷◌, length, vec_len, vec_capacity, IfOk, OnOk, OnErr, option_copied, option_map, unwrap_or, slice_get, [], take, drop, None, IfSome};
+ghost use Rattle.std.specs.Prelude.{◌≡◌, ◌≤◌, ◌+◌, ◌-◌, ◌^◌, ◌<◌, ◌++◌, ◌∷◌, length, vec_len, vec_capacity, IfOk, OnOk, OnErr, option_copied, option_map, unwrap_or, slice_get, [], take, drop, true, Some, IfSome, IfNone};
 ghost use Rattle.change_history.specs.Small.{small_of, small_value};
 ghost use Rattle.change_history.specs.History.{History, present, opening_value, updated, MayAdd};
 ghost use Rattle.change_history.specs.Span.{entries_of, span_of};
-ghost use Rattle.change_history.specs.Places.{places_after, befores_by, value_at};
+ghost use Rattle.change_history.specs.Places.{Spots, first_in, place_in, spots_after, befores_by, value_at};
 ghost use Rattle.change_history.specs.Before.{last_of, before_of};
+ghost use Rattle.change_history.specs.declared.entry.Entry.{Entry};
 
 use crate::change::{Change, Changes};
 use crate::entry::{Entry, Group};
 use crate::key::Key;
-use crate::places::{Place, place_of, set_place};
+use crate::places::{Bounds, NO_BOUNDS, Place, first_number, last_number, place_in, set_spot};
 use crate::small::{PLACES, Small, opening_small, put_small, small_at};
 use crate::span::Span;
 use field_values::{FieldNo, IssueNo, Memory, Moment, UserNo, Value};
@@ -25,13 +26,14 @@ pub struct Issue {
     updated: Moment,
     opening: Vec<Change>,
     entries: Vec<Entry>,
-    // Of each field that entries changed, where its last entry stands.
-    places: Vec<Place>,
-    // For each entry, where the last entry of its field before it stands.
-    befores: Vec<Option<usize>>,
+    // For each entry, the number of the last entry of its field before it.
+    befores: Vec<u32>,
+    // Of each other field that entries changed, where its last entry stands.
+    others: Vec<Place>,
     room: usize,
-    // By the number of each field that every tracker has, what it holds.
+    // By the number of each field that every tracker has, what it holds, and where its entries begin and end.
     small: [Small; PLACES],
+    bounds: [Bounds; PLACES],
     // What a field holds that never had a value.
     empty: Value,
 }
@@ -48,10 +50,11 @@ impl Drop for Issue {
             updated: _,
             opening: _,
             entries: _,
-            places: _,
             befores: _,
+            others: _,
             room: _,
             small: _,
+            bounds: _,
             empty: _,
         } = self;
     }
@@ -102,10 +105,11 @@ impl Issue {
             updated: at,
             opening: values.list,
             entries: Vec::new(alloc),
-            places: Vec::new(alloc),
             befores: Vec::new(alloc),
+            others: Vec::new(alloc),
             room: 0,
             small,
+            bounds: NO_BOUNDS,
             empty: Value::Empty,
         })
     }
@@ -184,15 +188,21 @@ impl Issue {
     pub fn last_entry(&self, field: FieldNo) -> Option<usize>
         ensures { result ≡ last_of self.now.history.entries field }
     {
-        place_of(&self.places, field)
+        place_in(last_number(&self.bounds, &self.others, field))
     }
 
     /// Where the last entry before entry k stands that changes the same field; `None` exactly where none does, or where there is
-    /// no entry k. No entry of another field is looked at.
+    /// no entry k. The first entry of a field goes from what the field was opened with. No entry of another field is looked at.
     pub fn entry_before(&self, k: usize) -> Option<usize>
-        ensures { result
+        ensures before { result
             ≡ before_of self.now.history.entries (slice_get self.now.history.entries k) k }
+        ensures opened { IfNone result ((e : Entry)
+            → slice_get self.now.history.entries k ≡ Some e
+            → e.from ≡ opening_value self.now.history.opening e.field) }
     {
+        if is_first(&self.bounds, &self.entries, k) {
+            return None;
+        }
         note_at(&self.befores, k)
     }
 
@@ -245,16 +255,18 @@ impl Issue {
         })
     }
 
-    /// Makes room for n entries more, or leaves all as it is.
+    /// Makes room for n entries more, or leaves all as it is. No issue has room for 2^32 entries.
     pub fn reserve(&mut self, n: usize) -> Result<(), Memory>
         ensures ok { OnOk result (self.new ≡ record self.old { room = n }) }
         ensures err { OnErr result (self.new ≡ self.old) }
         ensures history { self.new.history ≡ self.old.history }
     {
-        self.places.reserve(n)?;
+        if !has_numbers(self.entries.len(), n) {
+            return Err(Memory);
+        }
+        self.others.reserve(n)?;
         self.befores.reserve(n)?;
-        // Entries are large, so that half as many more are enough room.
-        self.entries.reserve_exact(n.max(self.entries.len() / 2))?;
+        reserve_entries(&mut self.entries, n)?;
         self.room = n;
         Ok(())
     }
@@ -270,8 +282,14 @@ impl Issue {
         let entries = group.entries.list;
         self.room -= entries.len();
         self.updated = group.at;
-        let first = self.entries.len();
-        put_befores(&mut self.befores, &mut self.places, first, &entries);
+        let first = self.entries.len() as u32 + 1;
+        put_befores(
+            &mut self.befores,
+            &mut self.bounds,
+            &mut self.others,
+            first,
+            &entries,
+        );
         put_small(&mut self.small, &entries);
         append_all(&mut self.entries, entries);
     }
@@ -334,38 +352,74 @@ fn entry_of(entries: &[Entry], field: FieldNo, k: usize) -> Option<&Entry>
     None
 }
 
+// Whether entry k is known to be the first one of its field. It lies where the caller looks too, as the notes don't.
+fn is_first(bounds: &[Bounds], entries: &[Entry], k: usize) -> bool
+    ensures { result ≡ true → IfSome (slice_get entries.now k)
+        (λ e. first_in (slice_get bounds.now e.field.0) ≡ k + 1) }
+{
+    match entries.get(k) {
+        Some(entry) => first_number(bounds, entry.field) as usize == k + 1,
+        None => false,
+    }
+}
+
 // The note of entry k.
-fn note_at(befores: &[Option<usize>], k: usize) -> Option<usize>
-    ensures { result ≡ unwrap_or (slice_get befores.now k) None }
+fn note_at(befores: &[u32], k: usize) -> Option<usize>
+    ensures { result ≡ place_in (unwrap_or (slice_get befores.now k) 0) }
 {
     match befores.get(k) {
-        Some(before) => *before,
+        Some(before) => place_in(*before),
         None => None,
     }
 }
 
-// Notes for each of these entries, the first of which will stand at `first`, where the last entry of its field stands, and sets
-// the places of the fields that they change.
+// Whether n entries behind so many have numbers of 32 bits.
+fn has_numbers(entries: usize, n: usize) -> bool
+    ensures { result ≡ true → entries + n < 2 ^ 32 }
+{
+    match entries.checked_add(n) {
+        Some(all) => all < 4_294_967_296,
+        None => false,
+    }
+}
+
+// Makes room for n entries more. Entries are large, so that a list that is full grows by half.
+fn reserve_entries(entries: &mut Vec<Entry>, n: usize) -> Result<(), Memory>
+    ensures items { entries.new.items ≡ entries.old.items }
+    ensures len { vec_len entries.new ≡ vec_len entries.old }
+    ensures capacity { OnOk result (vec_len entries.new + n ≤ vec_capacity entries.new) }
+    ensures kept { vec_capacity entries.old ≤ vec_capacity entries.new }
+{
+    if entries.capacity() - entries.len() < n {
+        entries.reserve_exact(n.max(entries.len() / 2))?;
+    }
+    Ok(())
+}
+
+// Notes for each of these entries, of which the first will have the number `first`, which one of its field comes before it, and sets
+// where the entries of the fields that they change begin and end.
 fn put_befores(
-    befores: &mut Vec<Option<usize>>,
-    places: &mut Vec<Place>,
-    first: usize,
+    befores: &mut Vec<u32>,
+    bounds: &mut [Bounds],
+    others: &mut Vec<Place>,
+    first: u32,
     entries: &[Entry],
 )
-    requires room { vec_len places.old + length entries.now ≤ vec_capacity places.old }
+    requires room { vec_len others.old + length entries.now ≤ vec_capacity others.old }
     requires befores { vec_len befores.old + length entries.now ≤ vec_capacity befores.old }
-    requires few { first + length entries.now < 2 ^ 64 }
-    ensures items { places.new.items ≡ places_after places.old.items first entries.now }
-    ensures len { vec_len places.new ≤ vec_len places.old + length entries.now }
-    ensures capacity { vec_capacity places.old ≤ vec_capacity places.new }
-    ensures befores_items { befores.new.items
-        ≡ befores.old.items ++ befores_by places.old.items first entries.now }
+    requires few { first + length entries.now ≤ 2 ^ 32 }
+    ensures spots { (record { bounds = bounds.new; others = others.new.items }) ≡ spots_after
+        (record { bounds = bounds.old; others = others.old.items }) first entries.now }
+    ensures len { vec_len others.new ≤ vec_len others.old + length entries.now }
+    ensures capacity { vec_capacity others.old ≤ vec_capacity others.new }
+    ensures befores_items { befores.new.items ≡ befores.old.items ++ befores_by
+        (record { bounds = bounds.old; others = others.old.items }) first entries.now }
     ensures befores_len { vec_len befores.new ≡ vec_len befores.old + length entries.now }
     ensures befores_capacity { vec_capacity befores.old ≤ vec_capacity befores.new }
 {
     for (index, entry) in entries.iter().enumerate() {
-        befores.push_reserved(place_of(places, entry.field));
-        set_place(places, entry.field, first + index);
+        befores.push_reserved(last_number(bounds, others, entry.field));
+        set_spot(bounds, others, entry.field, first + index as u32);
     }
 }
 

@@ -13,7 +13,7 @@ use crate::told::shown_value;
 use change_history::Issue;
 use fields::{Field, FieldNo, Memory, Permission, Setup, UserNo, built_in_fields};
 use std::alloc::Global;
-use tracker_calls::{Answer, Refusal, ShownField, ShownFields, ToldText};
+use tracker_calls::{Answer, Refusal, Shown, ShownField, ShownFields, ToldText};
 use tracker_state::{Prepared, State, check_access, known_issue};
 
 /// Tells the issue's present values.
@@ -134,9 +134,26 @@ fn put_field(
         ++ with_shown (field_name setup.now.field field.0)
         (shown_value (names_in (parts setup.now)) field.0 (present issue.now.history field)) []) }
 {
-    let Some(value) = shown_value(alloc, setup, field, issue.value(field))? else {
+    let Some(value) = shown_present(alloc, setup, issue, field)? else {
         return Ok(());
     };
     let name = ToldText::copy_of(alloc, setup.field_name(field))?;
     fields.push(ShownField { name, value })
+}
+
+// The field's present value as it is told; nothing where it is empty. One that takes no memory is looked for in the issue alone.
+fn shown_present(
+    alloc: Global,
+    setup: &Setup,
+    issue: &Issue,
+    field: FieldNo,
+) -> Result<Option<Shown>, Memory>
+    requires { Holds (names_in (parts setup.now)) field (present issue.now.history field) }
+    ensures { IfOk result (λ o. o
+        ≡ shown_value (names_in (parts setup.now)) field.0 (present issue.now.history field)) }
+{
+    match issue.small(field).value() {
+        Some(value) => shown_value(alloc, setup, field, &value),
+        None => shown_value(alloc, setup, field, issue.value(field)),
+    }
 }

@@ -1,5 +1,6 @@
 // WAS: whether one span of the field is such a one.
-ghost use Rattle.std.specs.Prelude.{◌≡◌, ◌&&◌};
+ghost use Rattle.std.specs.Prelude.{◌≡◌, ◌&&◌, IfSome};
+ghost use Rattle.change_history.specs.History.{opening_value};
 ghost use Rattle.jql_meaning.specs.Surroundings.{surroundings_of};
 ghost use Rattle.jql_meaning.specs.Naming.{has_named};
 ghost use Rattle.jql_meaning.specs.Windows.{is_by_each};
@@ -10,7 +11,7 @@ use crate::changes::is_by_each;
 use crate::naming::has_named;
 use crate::windows::{Interval, common_interval, meets};
 use change_history::{Issue, Span};
-use field_values::{FieldNo, Moment};
+use field_values::{FieldNo, Moment, Value};
 use jql_bound::{Context, Operand, PastPredicate};
 
 /// Whether one of the field's spans is of one of the values, by an author who is asked for, and has a moment in every window.
@@ -27,6 +28,7 @@ pub fn was(
 {
     let interval = common_interval(context, at, predicates);
     let mut end = None;
+    let mut before = None;
     let mut place = issue.last_entry(field);
     while let Some(k) = place {
         // An entry stands at each of these places.
@@ -43,15 +45,27 @@ pub fn was(
             return true;
         }
         end = Some(entry.at);
+        before = Some(&entry.from);
         place = issue.entry_before(k);
     }
     let first = Span {
         begin: issue.created(),
         end,
         author: issue.author(),
-        value: issue.opening(field),
+        value: opened_with(issue, field, before),
     };
     span_answers(context, at, interval, operands, predicates, &first)
+}
+
+// What the field was opened with: what its first entry goes from, where it has one. The opening values lie elsewhere.
+fn opened_with<'a>(issue: &'a Issue, field: FieldNo, before: Option<&'a Value>) -> &'a Value
+    requires { IfSome before (λ v. v.now ≡ opening_value issue.now.history.opening field) }
+    ensures { result.now ≡ opening_value issue.now.history.opening field }
+{
+    match before {
+        Some(value) => value,
+        None => issue.opening(field),
+    }
 }
 
 fn span_answers(

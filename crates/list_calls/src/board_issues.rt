@@ -8,8 +8,8 @@ use crate::filter_issues::shown;
 use crate::in_order::put_by_rank;
 use crate::listing::count_of;
 use board::Board;
-use change_history::Issue;
-use fields::{BoardNo, FieldNo, Memory, Names, Status, Text, UserNo, Value};
+use change_history::{Issue, Small};
+use fields::{BoardNo, FieldNo, Memory, Names, Status, Text, UserNo};
 use std::alloc::Global;
 use tracker_calls::{Answer, Column, Columns, Part, Refusal};
 use tracker_state::{Prepared, State, part_of};
@@ -101,8 +101,8 @@ fn column(alloc: Global, place: usize, status: &Status, issues: &[&Issue]) -> Re
 fn has_status(issue: &Issue, place: usize) -> bool
     ensures { result ≡ has_status place issue.now.history }
 {
-    match issue.value(FieldNo::STATUS) {
-        Value::Choice(choice) => usize::from(choice.0) == place,
+    match issue.small(FieldNo::STATUS) {
+        Small::Choice(choice) => usize::from(choice.0) == place,
         _ => false,
     }
 }

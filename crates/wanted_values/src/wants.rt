@@ -1,5 +1,5 @@
 // What a call wants of an issue's fields: each value is read and tested, field by field.
-ghost use Rattle.std.specs.Prelude.{◌≡◌, ◌∷◌, ◌++◌, [], option_map, IfOk, OnOk, Some, None, map, if◌then◌else◌};
+ghost use Rattle.std.specs.Prelude.{◌≡◌, ◌∷◌, ◌++◌, [], option_map, IfOk, OnOk, Some, None, true, ◌==◌, ◌||◌, map, if◌then◌else◌};
 ghost use Rattle.std.specs.Option.{is_some};
 ghost use Rattle.field_forms.specs.Known.{value_of, listed_value_of};
 ghost use Rattle.fields.specs.SetupParts.{parts, names_in};
@@ -244,6 +244,28 @@ fn put_change(changes: &mut Vec<Change>, field: FieldNo, wanted: Wanted) -> Resu
     }
 }
 
+// Whether a create says something of the field beside `set`.
+fn is_beside(field: FieldNo) -> bool
+    ensures { result ≡ (field.0 == FieldNo.TYPE.0 || (field.0 == FieldNo.SUMMARY.0
+        || (field.0 == FieldNo.STATUS.0 || field.0 == FieldNo.REPORTER.0))) }
+{
+    match field {
+        FieldNo::TYPE | FieldNo::SUMMARY | FieldNo::STATUS | FieldNo::REPORTER => true,
+        _ => false,
+    }
+}
+
+// Whether the call leaves the field alone, as most calls do most fields.
+fn is_left(set: &ResolvedSet<'_>, opening: Option<Opening<'_>>, field: FieldNo) -> bool
+    ensures { result ≡ true
+        → wants_of set.now.setup set.now.set opening.entry field.0 ≡ Wanted.Nothing }
+{
+    if opening.is_some() && is_beside(field) {
+        return false;
+    }
+    !is_given(set, field)
+}
+
 // Puts what comes of one more field behind what came of others.
 fn put_outcome(
     alloc: Global,
@@ -259,6 +281,9 @@ fn put_outcome(
     ensures changes { OnOk result (outcome.new.changes.items ≡ outcome.old.changes.items
         ++ change_to field.0 (wants_of set.now.setup set.now.set opening.entry field.0)) }
 {
+    if is_left(set, opening, field) {
+        return Ok(());
+    }
     let wanted = wanted(alloc, set, opening, field)?;
     outcome.fault = fault_after(set.setup(), outcome.fault, field, &wanted);
     put_change(&mut outcome.changes, field, wanted)

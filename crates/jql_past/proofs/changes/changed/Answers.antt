@@ -31,7 +31,7 @@ loop-place-preserved c =
     let es = c.args.issue.now.history.entries in
     let there : slice_get es c.in-Some.k ≡ Some c.in-Some-entry.entry.now = sym c.in-Some-entry.ensures in
     let of = of_field es c.args.field c.loop-place.place c.in-Some.k c.in-Some-entry.entry.now c.in-Some.is c.loop-place.invariant.stands there in
-    let step = walk_on es c.args.field c.in-Some.k c.in-Some-entry.entry.now c.entry_before-place.result there of c.entry_before-place.ensures in
+    let step = walk_on es c.args.field c.in-Some.k c.in-Some-entry.entry.now c.entry_before-place.result there of c.entry_before-place.ensures.before in
     record {
       stands = step.stands;
       same = c.loop-place.invariant.same ∙ ap (λ (r : Option ℕ). list_any p (up_to es c.args.field r)) c.in-Some.is
@@ -44,5 +44,5 @@ loop-place-smaller c =
     let es = c.args.issue.now.history.entries in
     let there : slice_get es c.in-Some.k ≡ Some c.in-Some-entry.entry.now = sym c.in-Some-entry.ensures in
     let of = of_field es c.args.field c.loop-place.place c.in-Some.k c.in-Some-entry.entry.now c.in-Some.is c.loop-place.invariant.stands there in
-    let step = walk_on es c.args.field c.in-Some.k c.in-Some-entry.entry.now c.entry_before-place.result there of c.entry_before-place.ensures in
+    let step = walk_on es c.args.field c.in-Some.k c.in-Some-entry.entry.now c.entry_before-place.result there of c.entry_before-place.ensures.before in
     rw c.in-Some.is (omega (arith, step.earlier))

@@ -22,7 +22,7 @@ loop-place-preserved c =
     let e = c.in-Some-entry.entry.now in
     let there : slice_get es c.in-Some.k ≡ Some e = sym c.in-Some-entry.ensures in
     let of = of_field es c.args.field c.loop-place.place c.in-Some.k e c.in-Some.is c.loop-place.invariant.stands there in
-    let step = walk_on es c.args.field c.in-Some.k e c.entry_before-place.result there of c.entry_before-place.ensures in
+    let step = walk_on es c.args.field c.in-Some.k e c.entry_before-place.result there of c.entry_before-place.ensures.before in
     let left : up_to es c.args.field c.loop-place.place ≡ up_to es c.args.field c.entry_before-place.result ++ e ∷ [] =
     ap (up_to es c.args.field) c.in-Some.is ∙ up_to_here es c.args.field c.in-Some.k e there of ∙ ap (λ l. l ++ e ∷ []) (sym step.left) in
     record {
@@ -36,7 +36,7 @@ loop-place-smaller c =
     let es = c.args.issue.now.history.entries in
     let there : slice_get es c.in-Some.k ≡ Some c.in-Some-entry.entry.now = sym c.in-Some-entry.ensures in
     let of = of_field es c.args.field c.loop-place.place c.in-Some.k c.in-Some-entry.entry.now c.in-Some.is c.loop-place.invariant.stands there in
-    let step = walk_on es c.args.field c.in-Some.k c.in-Some-entry.entry.now c.entry_before-place.result there of c.entry_before-place.ensures in
+    let step = walk_on es c.args.field c.in-Some.k c.in-Some-entry.entry.now c.entry_before-place.result there of c.entry_before-place.ensures.before in
     rw c.in-Some.is (omega (arith, step.earlier))
 
 pub returns : goal.returns

@@ -1,4 +1,4 @@
-use Rattle.std.proofs.Common.{◌≡◌, IfSome, Some, sym, ap, subst, ◌∙◌}
+use Rattle.std.proofs.Common.{◌≡◌, IfSome, sym, ap, subst, ◌∙◌}
 use Rattle.field_values.specs.declared.value.Value.{Value}
 use Rattle.change_history.specs.declared.small.Small.{Small}
 use Rattle.change_history.specs.History.{RoomyHistory, present}
