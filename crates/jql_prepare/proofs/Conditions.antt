@@ -1,7 +1,10 @@
 -- Conditions of conditions that hold of the same issues.
-use Rattle.std.proofs.Common.{◌≡◌, ◌≢◌, ◌<◌, ◌≤◌, ◌+◌, ◌==◌, ℕ, zero, suc, ◌&&◌, ◌||◌, Bool, List, [], ◌∷◌, length, slice_get, set, Some, refl, sym, ap, ap₂, subst, ◌∙◌, arith, inl, inr, rules, Vec, Global}
+use Rattle.std.proofs.Common.{◌≡◌, ◌≢◌, ◌<◌, ◌≤◌, ◌+◌, ◌==◌, ℕ, zero, suc, ◌&&◌, ◌||◌, Bool, true, false, not, List, [], ◌∷◌, length, slice_get, set, Some, refl, sym, ap, ap₂, subst, ◌∙◌, arith, inl, inr, rules, Vec, Global}
+use Rattle.std.specs.List.{list_any}
+use Rattle.std.specs.List.Sorted.{IsPermutation}
 use Rattle.std.proofs.lemmas.Bool.{cases_Bool, eqb-true, eq-eqb}
 use Rattle.std.proofs.lemmas.Option.{same_Some, slice_get_within}
+use Rattle.std.proofs.lemmas.List.Sorted.{list_any-IsPermutation}
 use Rattle.change_history.specs.History.{History}
 use Rattle.jql_bound.specs.declared.cond.Cond.{Cond, All, Any, Now, the_lemmas}
 use Rattle.jql_bound.specs.declared.leaf.Leaf.{Leaf}
@@ -60,15 +63,45 @@ module _ (s : Surroundings) (at : ℕ) where
   some_same (c ∷ cs) (d ∷ ds) h same =
       ap₂ (λ (a b : Bool). a || b) (first_same c d cs ds same h) (some_same cs ds h (rest_same c d cs ds same))
 
-  pub All_same : (old new : Vec Cond Global) → AreSame s at old.items new.items → IsSame s at (All old) (All new)
-  unfolding holds
-  All_same old new same = λ h.
-      ap (holds s h at) (view-All new) ∙ all_same old.items new.items h same ∙ sym (ap (holds s h at) (view-All old))
+  -- ---- in another order
 
-  pub Any_same : (old new : Vec Cond Global) → AreSame s at old.items new.items → IsSame s at (Any old) (Any new)
+  some_any : (conds : List Cond) (h : History) → some_holds s h at (views conds) ≡ list_any (λ c. holds s h at (view c)) conds
   unfolding holds
-  Any_same old new same = λ h.
-      ap (holds s h at) (view-Any new) ∙ some_same old.items new.items h same ∙ sym (ap (holds s h at) (view-Any old))
+  some_any [] h = refl
+  some_any (c ∷ cs) h = ap (λ (b : Bool). holds s h at (view c) || b) (some_any cs h)
+
+  -- all of them hold where none of them doesn't
+  all_any : (conds : List Cond) (h : History) → all_hold s h at (views conds) ≡ not (list_any (λ c. not (holds s h at (view c))) conds)
+  unfolding holds
+  all_any [] h = refl
+  all_any (c ∷ cs) h = ap (λ (b : Bool). holds s h at (view c) && b) (all_any cs h) ∙ both (holds s h at (view c)) (list_any (λ c. not (holds s h at (view c))) cs)
+    where
+      both : (a b : Bool) → (a && not b) ≡ not (not a || b)
+      both true b = refl
+      both false b = refl
+
+  -- whether all of them hold, or one of them, goes by no order
+  some_permuted : (old new : List Cond) (h : History) → IsPermutation old new → some_holds s h at (views new) ≡ some_holds s h at (views old)
+  some_permuted old new h same =
+      some_any new h ∙ sym (list_any-IsPermutation (λ c. holds s h at (view c)) old new same) ∙ sym (some_any old h)
+
+  all_permuted : (old new : List Cond) (h : History) → IsPermutation old new → all_hold s h at (views new) ≡ all_hold s h at (views old)
+  all_permuted old new h same =
+      all_any new h ∙ ap not (sym (list_any-IsPermutation (λ c. not (holds s h at (view c))) old new same)) ∙ sym (all_any old h)
+
+  -- ---- of the same kind
+
+  pub All_same : (old mid new : Vec Cond Global) → AreSame s at old.items mid.items → IsPermutation mid.items new.items → IsSame s at (All old) (All new)
+  unfolding holds
+  All_same old mid new same permuted = λ h.
+      ap (holds s h at) (view-All new) ∙ all_permuted mid.items new.items h permuted
+      ∙ all_same old.items mid.items h same ∙ sym (ap (holds s h at) (view-All old))
+
+  pub Any_same : (old mid new : Vec Cond Global) → AreSame s at old.items mid.items → IsPermutation mid.items new.items → IsSame s at (Any old) (Any new)
+  unfolding holds
+  Any_same old mid new same permuted = λ h.
+      ap (holds s h at) (view-Any new) ∙ some_permuted mid.items new.items h permuted
+      ∙ some_same old.items mid.items h same ∙ sym (ap (holds s h at) (view-Any old))
 
   pub Now_same : (old new : Leaf) → ((h : History) → holds_now s new h at ≡ holds_now s old h at) → IsSame s at (Now old) (Now new)
   unfolding holds

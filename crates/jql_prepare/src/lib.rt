@@ -1,6 +1,8 @@
-//! A query made ready for many issues at one moment: what its dates mean at that moment is worked out once.
+//! A query made ready for many issues at one moment: what its dates mean at that moment is worked out once, and what costs less
+//! is asked first.
 #![tactic(auto)]
 
+mod cheapest;
 mod date;
 mod leaf;
 mod query;

@@ -1,4 +1,4 @@
-// Queries whose dates are worked out.
+// Queries whose dates are worked out and whose conditions are in order.
 ghost use Rattle.std.specs.Prelude.{◌≡◌, option_map};
 ghost use Rattle.change_history.specs.History.{History};
 ghost use Rattle.jql_bound.specs.Condition.{view};
@@ -6,12 +6,14 @@ ghost use Rattle.jql_meaning.specs.Surroundings.{surroundings_of};
 ghost use Rattle.jql_meaning.specs.Truth.{query_holds};
 ghost use Rattle.jql_prepare.specs.Same.{IsSame, AreSame};
 
+use crate::cheapest::cheapest_first;
 use crate::leaf::settled_leaf;
 use field_values::Moment;
 use jql_bound::{Bound, Cond, Context, Leaf, Operator, Subject};
 use std::mem;
 
-/// Has the query hold of the same issues at the moment, with the dates that it compares by size worked out. It takes no memory.
+/// Has the query hold of the same issues at the moment, with the dates that it compares by size worked out, and with conditions
+/// that cost less asked before others beside them. It takes no memory.
 #[tactic(auto, unfolding(jql_meaning::specs::Truth::query_holds))]
 pub fn settle(query: &mut Bound, context: &Context, at: Moment)
     ensures holds { (h : History) →
@@ -47,8 +49,8 @@ fn settled_cond(cond: Cond, context: &Context, at: Moment) -> Cond
     ensures { IsSame (surroundings_of context.now) at cond result }
 {
     match cond {
-        Cond::All(conds) => Cond::All(settled_each(conds, context, at)),
-        Cond::Any(conds) => Cond::Any(settled_each(conds, context, at)),
+        Cond::All(conds) => Cond::All(cheapest_first(settled_each(conds, context, at))),
+        Cond::Any(conds) => Cond::Any(cheapest_first(settled_each(conds, context, at))),
         Cond::Now(leaf) => Cond::Now(settled_leaf(leaf, context, at)),
         // Most dates of the past are written out.
         Cond::Past(leaf) => Cond::Past(leaf),

@@ -14,12 +14,12 @@ later xs i k x d le = grind (arith, common_steps, le)
 pub settled_cond-returns-in-All : goal.settled_cond-returns-in-All
 settled_cond-returns-in-All t c =
     let s = surroundings_of c.args.context.now in
-    subst (λ (x : Cond). IsSame s c.args.at x (All c.settled_each.result)) (sym c.in-All.is) (All_same s c.args.at c.in-All.conds c.settled_each.result c.settled_each.ensures)
+    subst (λ (x : Cond). IsSame s c.args.at x (All c.cheapest_first.result)) (sym c.in-All.is) (All_same s c.args.at c.in-All.conds c.settled_each.result c.cheapest_first.result c.settled_each.ensures c.cheapest_first.ensures)
 
 pub settled_cond-returns-in-Any : goal.settled_cond-returns-in-Any
 settled_cond-returns-in-Any t c =
     let s = surroundings_of c.args.context.now in
-    subst (λ (x : Cond). IsSame s c.args.at x (Any c.settled_each-in-Any.result)) (sym c.in-Any.is) (Any_same s c.args.at c.in-Any.conds c.settled_each-in-Any.result c.settled_each-in-Any.ensures)
+    subst (λ (x : Cond). IsSame s c.args.at x (Any c.cheapest_first-in-Any.result)) (sym c.in-Any.is) (Any_same s c.args.at c.in-Any.conds c.settled_each-in-Any.result c.cheapest_first-in-Any.result c.settled_each-in-Any.ensures c.cheapest_first-in-Any.ensures)
 
 pub settled_cond-returns-in-Now : goal.settled_cond-returns-in-Now
 settled_cond-returns-in-Now t c =
