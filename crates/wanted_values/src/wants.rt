@@ -1,5 +1,5 @@
 // What a call wants of an issue's fields: each value is read and tested, field by field.
-ghost use Rattle.std.specs.Prelude.{◌≡◌, ◌∷◌, ◌++◌, [], option_map, IfOk, OnOk, Some, None, true, ◌==◌, ◌||◌, map, if◌then◌else◌};
+ghost use Rattle.std.specs.Prelude.{◌≡◌, ◌∷◌, ◌++◌, [], option_map, IfOk, OnOk, Some, None, true, map, if◌then◌else◌};
 ghost use Rattle.std.specs.Option.{is_some};
 ghost use Rattle.field_forms.specs.Known.{value_of, listed_value_of};
 ghost use Rattle.fields.specs.SetupParts.{parts, names_in};
@@ -244,14 +244,15 @@ fn put_change(changes: &mut Vec<Change>, field: FieldNo, wanted: Wanted) -> Resu
     }
 }
 
-// Whether a create says something of the field beside `set`.
-fn is_beside(field: FieldNo) -> bool
-    ensures { result ≡ (field.0 == FieldNo.TYPE.0 || (field.0 == FieldNo.SUMMARY.0
-        || (field.0 == FieldNo.STATUS.0 || field.0 == FieldNo.REPORTER.0))) }
+// Whether a create leaves the field alone.
+fn is_left_at_opening(set: &ResolvedSet<'_>, opening: Opening<'_>, field: FieldNo) -> bool
+    ensures { result ≡ true → create_wants set.now.setup opening.entry.caller.0
+        opening.entry.issue_type.now opening.entry.summary.now set.now.set field.0
+        ≡ Wanted.Nothing }
 {
     match field {
-        FieldNo::TYPE | FieldNo::SUMMARY | FieldNo::STATUS | FieldNo::REPORTER => true,
-        _ => false,
+        FieldNo::TYPE | FieldNo::SUMMARY | FieldNo::STATUS | FieldNo::REPORTER => false,
+        _ => !is_given(set, field),
     }
 }
 
@@ -260,10 +261,10 @@ fn is_left(set: &ResolvedSet<'_>, opening: Option<Opening<'_>>, field: FieldNo) 
     ensures { result ≡ true
         → wants_of set.now.setup set.now.set opening.entry field.0 ≡ Wanted.Nothing }
 {
-    if opening.is_some() && is_beside(field) {
-        return false;
+    match opening {
+        Some(opening) => is_left_at_opening(set, opening, field),
+        None => !is_given(set, field),
     }
-    !is_given(set, field)
 }
 
 // Puts what comes of one more field behind what came of others.
