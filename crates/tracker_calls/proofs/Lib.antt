@@ -1,3 +1,5 @@
+pub mod ByName
+pub mod ShortTexts
 pub mod Sorting
 pub mod AskedLines
 pub mod Twins

@@ -3,6 +3,7 @@ ghost use Rattle.std.specs.Prelude.{◌≡◌, map};
 ghost use Rattle.tracker_calls.specs.Asked.{kind_named, call_members};
 
 use crate::given::GivenFields;
+use crate::short_text::is_same;
 use field_values::{BoardNo, FilterNo, Moment, Names, SprintNo, Text};
 
 /// What a line asks for.
@@ -246,32 +247,56 @@ pub enum CallKind {
 pub fn kind_named(name: &str) -> Option<CallKind>
     ensures { result ≡ kind_named name.now }
 {
-    match name {
-        "create" => Some(CallKind::Create),
-        "edit" => Some(CallKind::Edit),
-        "transition" => Some(CallKind::Transition),
-        "tick" => Some(CallKind::Tick),
-        "move_before" => Some(CallKind::MoveBefore),
-        "move_after" => Some(CallKind::MoveAfter),
-        "rebalance_start" => Some(CallKind::RebalanceStart),
-        "rebalance_step" => Some(CallKind::RebalanceStep),
-        "save_filter" => Some(CallKind::SaveFilter),
-        "drop_filter" => Some(CallKind::DropFilter),
-        "make_board" => Some(CallKind::MakeBoard),
-        "drop_board" => Some(CallKind::DropBoard),
-        "make_sprint" => Some(CallKind::MakeSprint),
-        "start_sprint" => Some(CallKind::StartSprint),
-        "close_sprint" => Some(CallKind::CloseSprint),
-        "set_group" => Some(CallKind::SetGroup),
-        "show" => Some(CallKind::Show),
-        "history" => Some(CallKind::History),
-        "search" => Some(CallKind::Search),
-        "ranks" => Some(CallKind::Ranks),
-        "balance" => Some(CallKind::Balance),
-        "filter" => Some(CallKind::Filter),
-        "board" => Some(CallKind::Board),
-        "burndown" => Some(CallKind::Burndown),
-        _ => None,
+    if is_same(name, "create") {
+        Some(CallKind::Create)
+    } else if is_same(name, "edit") {
+        Some(CallKind::Edit)
+    } else if is_same(name, "transition") {
+        Some(CallKind::Transition)
+    } else if is_same(name, "tick") {
+        Some(CallKind::Tick)
+    } else if is_same(name, "move_before") {
+        Some(CallKind::MoveBefore)
+    } else if is_same(name, "move_after") {
+        Some(CallKind::MoveAfter)
+    } else if is_same(name, "rebalance_start") {
+        Some(CallKind::RebalanceStart)
+    } else if is_same(name, "rebalance_step") {
+        Some(CallKind::RebalanceStep)
+    } else if is_same(name, "save_filter") {
+        Some(CallKind::SaveFilter)
+    } else if is_same(name, "drop_filter") {
+        Some(CallKind::DropFilter)
+    } else if is_same(name, "make_board") {
+        Some(CallKind::MakeBoard)
+    } else if is_same(name, "drop_board") {
+        Some(CallKind::DropBoard)
+    } else if is_same(name, "make_sprint") {
+        Some(CallKind::MakeSprint)
+    } else if is_same(name, "start_sprint") {
+        Some(CallKind::StartSprint)
+    } else if is_same(name, "close_sprint") {
+        Some(CallKind::CloseSprint)
+    } else if is_same(name, "set_group") {
+        Some(CallKind::SetGroup)
+    } else if is_same(name, "show") {
+        Some(CallKind::Show)
+    } else if is_same(name, "history") {
+        Some(CallKind::History)
+    } else if is_same(name, "search") {
+        Some(CallKind::Search)
+    } else if is_same(name, "ranks") {
+        Some(CallKind::Ranks)
+    } else if is_same(name, "balance") {
+        Some(CallKind::Balance)
+    } else if is_same(name, "filter") {
+        Some(CallKind::Filter)
+    } else if is_same(name, "board") {
+        Some(CallKind::Board)
+    } else if is_same(name, "burndown") {
+        Some(CallKind::Burndown)
+    } else {
+        None
     }
 }
 

@@ -11,6 +11,7 @@ ghost use Rattle.tracker_calls.specs.Part.{count_at};
 
 use crate::call::{CallKind, MOST_FROM, call_members};
 use crate::reply::Refusal;
+use crate::short_text::is_same;
 use field_forms::name_form::is_title;
 use field_values::{Moment, Text};
 use serde_json::{Map, Value};
@@ -139,7 +140,7 @@ pub fn is_among(name: &str, names: &[&str]) -> bool
     ensures { result ≡ is_among name.now (map (λ other. other.now) names.now) }
 {
     for other in names {
-        if name == *other {
+        if is_same(name, *other) {
             return true;
         }
     }
