@@ -169,6 +169,18 @@ impl RowMap {
         }
     }
 
+    // Takes the places away that drops have left vacant. It takes no memory.
+    #[tactic(auto, using(crate::proofs::Placing::kept_more))]
+    fn close_dropped(&mut self, ops: &[RowOp])
+        ensures { KeepRows self.old.places self.new.places }
+    {
+        for op in ops {
+            if let RowOp::Drop { kind, no } = op {
+                self.close_place(*kind, *no);
+            }
+        }
+    }
+
     #[tactic(auto, using(crate::proofs::Placing::carried_after))]
     fn carry(&mut self, ops: &[RowOp]) -> Result<(), Memory>
         ensures done { OnOk result (AreCarriedOut ops.now self.old.places self.new.places) }
@@ -186,8 +198,13 @@ impl RowMap {
         ensures done { OnOk result (AreCarriedOut ops.now self.old.places self.new.places) }
         ensures undone { OnErr result (KeepRows self.old.places self.new.places) }
     {
+        // No vacant place is left behind. Once all is carried out, each place that was made for a body has one, unless a drop
+        // behind it took that out; after a failure, any place that was made may be vacant.
         let carried = self.carry(ops);
-        self.close_places(ops);
+        match carried {
+            Ok(()) => self.close_dropped(ops),
+            Err(Memory) => self.close_places(ops),
+        }
         carried
     }
 
