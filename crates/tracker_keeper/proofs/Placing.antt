@@ -149,7 +149,7 @@ back_still backs first old new h same grows = record {
 pub taken_back : (backs : List RowOp) (first old mid new : Places) → CanTakeBack backs first old → AreCarriedOut backs old mid → KeepRows mid new → KeepRows first new
 taken_back backs first old mid new h done same k n = same k n ∙ done k n ∙ sym (h.rows k n)
 
--- ---- many
+-- ---- operations in turn
 
 -- the first operations have been carried out, and the others have their places
 pub record HasDone (old new : Places) (done left : List RowOp) : Type 0 where
