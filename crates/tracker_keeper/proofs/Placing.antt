@@ -1,11 +1,11 @@
--- Places that are made, and operations that are carried out on them.
-use Rattle.std.proofs.Common.{◌≡◌, ℕ, ◌==◌, ◌&&◌, Bool, true, false, List, [], ◌∷◌, ◌++◌, Option, Some, None, IsSome, is_some, if◌then◌else◌, refl, sym, ap, ap₂, subst, ◌∙◌, eq-eqb}
+-- Operations that are carried out on places, and taken back.
+use Rattle.std.proofs.Common.{◌≡◌, ℕ, ◌==◌, ◌&&◌, Bool, true, false, List, [], ◌∷◌, ◌++◌, Option, Some, None, IsSome, is_some, if◌then◌else◌, refl, sym, ap, subst, ◌∙◌}
 use Rattle.std.specs.Option.{option_flatten}
 use Rattle.tracker_keeper.specs.declared.row.Row.{Row}
 use Rattle.tracker_keeper.specs.declared.row.RowOp.{RowOp}
 use Rattle.tracker_keeper.specs.declared.row.RowOp.TheVariants.{Put, Drop}
-use Rattle.tracker_keeper.specs.Rows.{Rows, with_body, with_op, with_ops, IsListing}
-use Rattle.tracker_keeper.specs.Places.{Places, place_at, content, is_vacant, HasPlace, HasPlaceFor, HavePlaces, IsSet, KeepRows, KeepPlaces, IsCarriedOut, AreCarriedOut}
+use Rattle.tracker_keeper.specs.Rows.{Rows, with_body, with_op, with_ops, op_leaving, IsListing}
+use Rattle.tracker_keeper.specs.Places.{Places, place_at, content, is_vacant, HasPlaceFor, HavePlaces, IsSet, KeepRows, KeepPlaces, IsCarriedOut, AreCarriedOut, CanTakeBack}
 use Rattle.tracker_keeper.proofs.Keys.{same_test, same_key}
 
 abbrev pub AreSame : Rows → Rows → Type 0
@@ -41,8 +41,9 @@ same_listing one other list same h = record { rising = h.rising; same = λ kind 
 pub kept_more : (first old new : Places) → KeepRows first old → KeepRows old new → KeepRows first new
 kept_more first old new kept same k n = same k n ∙ kept k n
 
-pub carried_after : (ops : List RowOp) (first old new : Places) → KeepRows first old → AreCarriedOut ops old new → AreCarriedOut ops first new
-carried_after ops first old new kept done k n = done k n ∙ ops_same ops (content old) (content first) kept k n
+pub carried_more : (ops : List RowOp) (op : RowOp) (first old new : Places) → AreCarriedOut ops first old → IsCarriedOut op old new → AreCarriedOut (ops ++ op ∷ []) first new
+carried_more ops op first old new done carried k n =
+    carried k n ∙ op_same op (content old) (with_ops ops (content first)) done k n ∙ sym (ap (λ (rows : Rows). rows k n) (ops_more ops op (content first)))
 
 pub carried_then : (ops : List RowOp) (first old new : Places) → AreCarriedOut ops first old → KeepRows old new → AreCarriedOut ops first new
 carried_then ops first old new done same k n = same k n ∙ done k n
@@ -66,7 +67,7 @@ no_body_by kind number k n rows none false e = refl
 pub no_row : (kind number : ℕ) (rows : Rows) → rows kind number ≡ None → AreSame (with_body kind number None rows) rows
 no_row kind number rows none k n = no_body_by kind number k n rows none ((kind == k) && (number == n)) refl
 
-none_from : (o : Option (Option (List ℕ))) → is_some o ≡ false → option_flatten o ≡ None
+pub none_from : (o : Option (Option (List ℕ))) → is_some o ≡ false → option_flatten o ≡ None
 none_from None h = refl
 none_from (Some o) h = absurd (cc)
 
@@ -78,9 +79,6 @@ vacant_from (Some (Some body)) h = absurd (cc)
 pub no_body : (kind number : ℕ) (places : Places) → is_some (place_at places kind number) ≡ false
     → (k n : ℕ) → content places k n ≡ with_body kind number None (content places) k n
 no_body kind number places h k n = sym (no_row kind number (content places) (none_from (place_at places kind number) h) k n)
-
-pub made_vacant : (kind number : ℕ) (old new : Places) → is_some (place_at old kind number) ≡ false → IsSet kind number (Some None) old new → KeepRows old new
-made_vacant kind number old new none set k n = body_set kind number None old new set k n ∙ no_row kind number (content old) (none_from (place_at old kind number) none) k n
 
 pub unset_vacant : (kind number : ℕ) (old new : Places) → is_vacant (place_at old kind number) ≡ true → IsSet kind number None old new → KeepRows old new
 unset_vacant kind number old new vacant set k n =
@@ -94,12 +92,6 @@ some_by body other false h = h
 pub set_stays : (kind number : ℕ) (body : Option (List ℕ)) (old new : Places) → IsSet kind number (Some body) old new → KeepPlaces old new
 set_stays kind number body old new set k n h = subst IsSome (sym (set k n)) (some_by body (place_at old k n) ((kind == k) && (number == n)) h)
 
-here_by : (kind number : ℕ) → ((kind == kind) && (number == number)) ≡ true
-here_by kind number = ap₂ (λ t u. t && u) (eq-eqb kind kind refl) (eq-eqb number number refl)
-
-pub set_there : (kind number : ℕ) (body : Option (List ℕ)) (old new : Places) → IsSet kind number (Some body) old new → HasPlace new kind number
-set_there kind number body old new set = subst IsSome (sym (set kind number ∙ ap (λ b. if b then Some body else place_at old kind number) (here_by kind number))) refl
-
 -- ---- places
 
 pub place_stays : (old new : Places) → KeepPlaces old new → (op : RowOp) → HasPlaceFor old op → HasPlaceFor new op
@@ -110,26 +102,54 @@ pub places_stay : (old new : Places) → KeepPlaces old new → (ops : List RowO
 places_stay old new grows [] h = tt
 places_stay old new grows (op ∷ ops) h = (place_stays old new grows op h.0, places_stay old new grows ops h.1)
 
-pub places_more : (places : Places) (ops : List RowOp) (op : RowOp) → HavePlaces places ops → HasPlaceFor places op → HavePlaces places (ops ++ op ∷ [])
-places_more places [] op h new = (new, tt)
-places_more places (o ∷ ops) op h new = (h.0, places_more places ops op h.1 new)
+-- ---- what takes an operation back
 
--- these have got their places, and number row has changed
-pub record HasMade (old new : Places) (ops : List RowOp) : Type 0 where
-  pub same : KeepRows old new
-  pub places : HavePlaces new ops
+op_is : (kind number : ℕ) (body : Option (List ℕ)) (rows : Rows) (k n : ℕ) → with_op (op_leaving kind number body) rows k n ≡ with_body kind number body rows k n
+op_is kind number None rows k n = refl
+op_is kind number (Some body) rows k n = refl
 
-pub made_none : (places : Places) → HasMade places places []
-made_none places = record { same = λ k n. refl; places = tt }
+back_by : (kind number k n : ℕ) (before body : Option (List ℕ)) (one other : Rows) → before ≡ one kind number → (b : Bool) → ((kind == k) && (number == n)) ≡ b
+    → other k n ≡ (if b then body else one k n) → one k n ≡ (if b then before else other k n)
+back_by kind number k n before body one other was true e set = ap (λ (q : ℕ × ℕ). one q.0 q.1) (same_key (kind, number) (k, n) (same_test (kind, number) (k, n) ∙ e)) ∙ sym was
+back_by kind number k n before body one other was false e set = sym set
 
-pub made_more : (first old new : Places) (ops : List RowOp) (op : RowOp) → HasMade first old ops → KeepRows old new → KeepPlaces old new → HasPlaceFor new op → HasMade first new (ops ++ op ∷ [])
-made_more first old new ops op made same grows place = record {
-  same = kept_more first old new made.same same;
-  places = places_more new ops op (places_stay old new grows ops made.places) place;
+-- what was there, put back, gives the rows that were
+pub back_rows : (kind number : ℕ) (before body : Option (List ℕ)) (old new : Places) → before ≡ content old kind number
+    → ((k n : ℕ) → content new k n ≡ with_body kind number body (content old) k n) → IsCarriedOut (op_leaving kind number before) new old
+back_rows kind number before body old new was set k n =
+    back_by kind number k n before body (content old) (content new) was ((kind == k) && (number == n)) refl (set k n)
+    ∙ sym (op_is kind number before (content new) k n)
+
+some_from : (o : Option (Option (List ℕ))) (body : List ℕ) → option_flatten o ≡ Some body → IsSome o
+some_from None body h = absurd (cc)
+some_from (Some o) body h = refl
+
+-- where a body was there is a place
+pub back_place : (kind number : ℕ) (before : Option (List ℕ)) (old new : Places) → before ≡ content old kind number → KeepPlaces old new → HasPlaceFor new (op_leaving kind number before)
+back_place kind number None old new was grows = tt
+back_place kind number (Some body) old new was grows = grows kind number (some_from (place_at old kind number) body (sym was))
+
+pub back_none : (places : Places) → CanTakeBack [] places places
+back_none places = record { rows = λ k n. refl; places = tt }
+
+pub back_more : (backs : List RowOp) (back : RowOp) (first old new : Places) → CanTakeBack backs first old → IsCarriedOut back new old → HasPlaceFor new back → KeepPlaces old new
+    → CanTakeBack (back ∷ backs) first new
+back_more backs back first old new h carried place grows = record {
+  rows = λ k n. h.rows k n ∙ ops_same backs (content old) (with_op back (content new)) carried k n;
+  places = (place, places_stay old new grows backs h.places);
 }
 
-pub made_all : (old new : Places) (ops : List RowOp) → HasMade old new ops → HavePlaces new ops
-made_all old new ops made = made.places
+-- the operations before one that failed and left the rows can still be taken back
+pub back_still : (backs : List RowOp) (first old new : Places) → CanTakeBack backs first old → KeepRows old new → KeepPlaces old new → CanTakeBack backs first new
+back_still backs first old new h same grows = record {
+  rows = λ k n. h.rows k n ∙ ops_same backs (content old) (content new) (λ a b. sym (same a b)) k n;
+  places = places_stay old new grows backs h.places;
+}
+
+pub taken_back : (backs : List RowOp) (first old mid new : Places) → CanTakeBack backs first old → AreCarriedOut backs old mid → KeepRows mid new → KeepRows first new
+taken_back backs first old mid new h done same k n = same k n ∙ done k n ∙ sym (h.rows k n)
+
+-- ---- operations in turn
 
 -- the first operations have been carried out, and the others have their places
 pub record HasDone (old new : Places) (done left : List RowOp) : Type 0 where
@@ -141,6 +161,6 @@ done_none places ops h = record { rows = λ k n. refl; places = h }
 
 pub done_more : (first old new : Places) (done : List RowOp) (op : RowOp) (left : List RowOp) → HasDone first old done (op ∷ left) → IsCarriedOut op old new → KeepPlaces old new → HasDone first new (done ++ op ∷ []) left
 done_more first old new done op left h carried grows = record {
-  rows = λ k n. carried k n ∙ op_same op (content old) (with_ops done (content first)) h.rows k n ∙ sym (ap (λ (rows : Rows). rows k n) (ops_more done op (content first)));
+  rows = carried_more done op first old new h.rows carried;
   places = places_stay old new grows left h.places.1;
 }

@@ -64,6 +64,11 @@ IsCarriedOut op old new = (k n : ℕ) → content new k n ≡ with_op op (conten
 abbrev pub AreCarriedOut : List RowOp → Places → Places → Type 0
 AreCarriedOut ops old new = (k n : ℕ) → content new k n ≡ with_ops ops (content old) k n
 
+-- these operations lead back to the rows that were first, the first one first, and what they put has a place
+pub record CanTakeBack (backs : List RowOp) (first now : Places) : Type 0 where
+  pub rows : AreCarriedOut backs now first
+  pub places : HavePlaces now backs
+
 -- ---- the rows of the places in order, vacant ones left out
 
 abbrev pub with_listed : ℕ × ℕ → Option (List ℕ) → List Row → List Row

@@ -26,6 +26,11 @@ abbrev pub with_ops : List RowOp → Rows → Rows
 with_ops [] rows = rows
 with_ops (op ∷ ops) rows = with_ops ops (with_op op rows)
 
+-- the operation that leaves that body, or none, at a kind and a number
+abbrev pub op_leaving : ℕ → ℕ → Option (List ℕ) → RowOp
+op_leaving kind number None = Drop kind number
+op_leaving kind number (Some body) = Put (record { kind = kind; no = number; body = body })
+
 -- the number of the row that an operation is on
 abbrev pub number_of : RowOp → ℕ
 number_of (Put row) = row.no

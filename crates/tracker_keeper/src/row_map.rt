@@ -1,17 +1,19 @@
 // Rows in memory, found by kind and number in logarithmic time.
-ghost use Rattle.std.specs.Prelude.{◌≡◌, ℕ, Some, None, IfOk, OnOk, OnErr, is_some};
+ghost use Rattle.std.specs.Prelude.{◌≡◌, ℕ, Some, None, IfOk, IfErr, OnOk, OnErr, is_some};
+ghost use Rattle.std.specs.Prelude.{reverse as reversed};
+ghost use Rattle.tracker_keeper.specs.declared.row.RowOp.TheVariants.{Put, Drop as TakeOut};
 ghost use Rattle.tracker_keeper.specs.Rows.{with_body, IsListing};
 ghost use Rattle.tracker_keeper.specs.Places.{content, place_at, HasPlace, HasPlaceFor, HavePlaces};
 ghost use Rattle.tracker_keeper.specs.Places.{is_vacant, IsSet, KeepRows, KeepPlaces, IsCarriedOut};
-ghost use Rattle.tracker_keeper.specs.Places.{AreCarriedOut};
+ghost use Rattle.tracker_keeper.specs.Places.{AreCarriedOut, CanTakeBack};
 
 use crate::row::{Row, RowOp};
 use field_values::{Memory, Text};
 use std::alloc::Global;
 use std::collections::BTreeMap;
 
-/// A place for each kind and number, which has a body or is vacant. A commit makes all its places first, so that
-/// carrying it out takes no memory.
+/// A place for each kind and number, which has a body or is vacant. A commit carries out one operation after another, and notes
+/// what takes each back. A row that is taken out leaves its place vacant until the end, so that taking back takes no memory.
 #[derive(Drop)]
 pub(crate) struct RowMap {
     alloc: Global,
@@ -35,14 +37,15 @@ impl RowMap {
         self.places.contains_key(&(kind, no))
     }
 
-    // Puts a body, or none, at a place. It takes memory only where the place isn't there.
-    fn set(&mut self, kind: u8, no: u64, body: Option<Text>) -> Result<(), Memory>
+    // Puts a body, or none, at a place, and answers the body that was there. It takes memory only where the place isn't there.
+    fn set(&mut self, kind: u8, no: u64, body: Option<Text>) -> Result<Option<Text>, Memory>
         ensures done { OnOk result (IsSet kind no (Some body) self.old.places self.new.places) }
+        ensures before { IfOk result (λ before. before ≡ content self.old.places kind no) }
         ensures undone { OnErr result (self.new.places.entries ≡ self.old.places.entries) }
         ensures absent { OnErr result (place_at self.old.places kind no ≡ None) }
     {
-        self.places.insert((kind, no), body)?;
-        Ok(())
+        let before = self.places.insert((kind, no), body)?;
+        Ok(before.flatten())
     }
 
     // Takes a place away, where there is one.
@@ -52,42 +55,33 @@ impl RowMap {
         let _ = self.places.remove(&(kind, no));
     }
 
-    // Makes a vacant place where there is none.
-    #[tactic(auto, using(crate::proofs::Placing::made_vacant, crate::proofs::Placing::set_stays, crate::proofs::Placing::set_there))]
-    fn make_place(&mut self, kind: u8, no: u64) -> Result<(), Memory>
-        ensures same { KeepRows self.old.places self.new.places }
-        ensures place { OnOk result (HasPlace self.new.places kind no) }
-        ensures others { KeepPlaces self.old.places self.new.places }
-    {
-        if self.has_place(kind, no) {
-            return Ok(());
-        }
-        self.set(kind, no, None)
-    }
-
-    // Gives a place another body, or makes it vacant. It takes no memory.
+    // Gives a place another body, or makes it vacant, and answers the body that was there. It takes no memory.
     #[tactic(auto, using(crate::proofs::Placing::body_set, crate::proofs::Placing::set_stays))]
-    fn set_body(&mut self, kind: u8, no: u64, body: Option<Text>)
+    fn set_body(&mut self, kind: u8, no: u64, body: Option<Text>) -> Option<Text>
         requires { HasPlace self.old.places kind no }
         ensures rows { (k n : ℕ) → content self.new.places k n
             ≡ with_body kind no body (content self.old.places) k n }
+        ensures before { result ≡ content self.old.places kind no }
         ensures others { KeepPlaces self.old.places self.new.places }
     {
-        let Ok(()) = self.set(kind, no, body) else {
+        let Ok(before) = self.set(kind, no, body) else {
             unreachable!()
         };
+        before
     }
 
-    // Makes a place vacant, where there is one. It takes no memory.
-    #[tactic(auto, using(crate::proofs::Placing::no_body))]
-    fn vacate(&mut self, kind: u8, no: u64)
+    // Makes a place vacant, where there is one, and answers the body that was there. It takes no memory.
+    #[tactic(auto, using(crate::proofs::Placing::no_body, crate::proofs::Placing::none_from))]
+    fn vacate(&mut self, kind: u8, no: u64) -> Option<Text>
         ensures rows { (k n : ℕ) → content self.new.places k n
             ≡ with_body kind no None (content self.old.places) k n }
+        ensures before { result ≡ content self.old.places kind no }
         ensures others { KeepPlaces self.old.places self.new.places }
     {
         if self.has_place(kind, no) {
-            self.set_body(kind, no, None);
+            return self.set_body(kind, no, None);
         }
+        None
     }
 
     fn is_vacant(&self, kind: u8, no: u64) -> bool
@@ -109,52 +103,89 @@ impl RowMap {
         }
     }
 
-    // Makes a place for what an operation puts.
-    fn make_place_for(&mut self, op: &RowOp) -> Result<(), Memory>
-        ensures same { KeepRows self.old.places self.new.places }
-        ensures place { OnOk result (HasPlaceFor self.new.places op.now) }
+    // Puts a row, and answers the operation that takes it back.
+    #[tactic(auto, using(crate::proofs::Placing::body_set, crate::proofs::Placing::set_stays, crate::proofs::Placing::back_rows, crate::proofs::Placing::back_place))]
+    fn put(&mut self, row: &Row) -> Result<RowOp, Memory>
+        ensures rows { OnOk result (IsCarriedOut (Put row.now) self.old.places self.new.places) }
+        ensures back { IfOk result (λ back. IsCarriedOut back self.new.places self.old.places) }
+        ensures place { IfOk result (λ back. HasPlaceFor self.new.places back) }
+        ensures others { KeepPlaces self.old.places self.new.places }
+        ensures undone { OnErr result (KeepRows self.old.places self.new.places) }
+    {
+        let body = row.body.copy(self.alloc)?;
+        let before = self.set(row.kind, row.no, Some(body))?;
+        Ok(RowOp::leaving(row.kind, row.no, before))
+    }
+
+    // Takes a row out, where there is one, and answers the operation that takes that back. It takes no memory.
+    #[tactic(auto, using(crate::proofs::Placing::back_rows, crate::proofs::Placing::back_place))]
+    fn take_out(&mut self, kind: u8, no: u64) -> RowOp
+        ensures rows { IsCarriedOut (TakeOut kind no) self.old.places self.new.places }
+        ensures back { IsCarriedOut result self.new.places self.old.places }
+        ensures place { HasPlaceFor self.new.places result }
         ensures others { KeepPlaces self.old.places self.new.places }
     {
+        let before = self.vacate(kind, no);
+        RowOp::leaving(kind, no, before)
+    }
+
+    // Carries out an operation, and answers the one that takes it back.
+    fn carry_out(&mut self, op: &RowOp) -> Result<RowOp, Memory>
+        ensures rows { OnOk result (IsCarriedOut op.now self.old.places self.new.places) }
+        ensures back { IfOk result (λ back. IsCarriedOut back self.new.places self.old.places) }
+        ensures place { IfOk result (λ back. HasPlaceFor self.new.places back) }
+        ensures others { KeepPlaces self.old.places self.new.places }
+        ensures undone { OnErr result (KeepRows self.old.places self.new.places) }
+    {
         match op {
-            RowOp::Put(row) => self.make_place(row.kind, row.no),
-            RowOp::Drop { .. } => Ok(()),
+            RowOp::Put(row) => self.put(row),
+            RowOp::Drop { kind, no } => Ok(self.take_out(*kind, *no)),
         }
     }
 
-    // Makes a place for all that is put.
-    #[tactic(auto, using(crate::proofs::Placing::made_none, crate::proofs::Placing::made_more, crate::proofs::Placing::made_all))]
-    fn make_places(&mut self, ops: &[RowOp]) -> Result<(), Memory>
-        ensures same { KeepRows self.old.places self.new.places }
-        ensures places { OnOk result (HavePlaces self.new.places ops.now) }
+    // Carries out all operations, the first one first, or else answers what takes those back that were.
+    fn carry_out_all(&mut self, ops: &[RowOp]) -> Result<(), Vec<RowOp>>
+        ensures done { OnOk result (AreCarriedOut ops.now self.old.places self.new.places) }
+        ensures begun { IfErr result (λ backs.
+            CanTakeBack (reversed backs.items) self.old.places self.new.places) }
     {
+        let Ok(mut backs) = Vec::with_capacity(self.alloc, ops.len()) else {
+            return Err(Vec::new(self.alloc));
+        };
         for op in ops {
-            self.make_place_for(op)?;
+            let Ok(back) = self.carry_out(op) else {
+                return Err(backs);
+            };
+            backs.push_reserved(back);
         }
         Ok(())
     }
 
-    // Carries out one operation. It takes no memory.
-    fn carry_out(&mut self, op: RowOp)
-        requires { HasPlaceFor self.old.places op }
-        ensures rows { IsCarriedOut op self.old.places self.new.places }
+    // Carries out an operation that takes another one back. It takes no memory.
+    fn take_back(&mut self, back: RowOp)
+        requires { HasPlaceFor self.old.places back }
+        ensures rows { IsCarriedOut back self.old.places self.new.places }
         ensures others { KeepPlaces self.old.places self.new.places }
     {
-        match op {
+        match back {
             RowOp::Put(row) => {
                 let Row { kind, no, body } = row;
-                self.set_body(kind, no, Some(body));
+                let _ = self.set_body(kind, no, Some(body));
             }
-            RowOp::Drop { kind, no } => self.vacate(kind, no),
+            RowOp::Drop { kind, no } => {
+                let _ = self.vacate(kind, no);
+            }
         }
     }
 
-    // Carries out operations whose places are made, the first one first. It takes no memory.
-    fn carry_out_all(&mut self, ops: Vec<RowOp>)
-        requires { HavePlaces self.old.places ops.items }
-        ensures { AreCarriedOut ops.items self.old.places self.new.places }
+    // Carries out operations that take others back, the last one first. It takes no memory.
+    fn take_back_all(&mut self, mut backs: Vec<RowOp>)
+        requires { HavePlaces self.old.places (reversed backs.items) }
+        ensures { AreCarriedOut (reversed backs.items) self.old.places self.new.places }
     {
-        for op in ops {
-            self.carry_out(op);
+        backs.reverse();
+        for back in backs {
+            self.take_back(back);
         }
     }
 
@@ -169,26 +200,37 @@ impl RowMap {
         }
     }
 
-    #[tactic(auto, using(crate::proofs::Placing::carried_after))]
-    fn carry(&mut self, ops: &[RowOp]) -> Result<(), Memory>
-        ensures done { OnOk result (AreCarriedOut ops.now self.old.places self.new.places) }
-        ensures undone { OnErr result (KeepRows self.old.places self.new.places) }
+    // Takes the places away that drops have left vacant. It takes no memory.
+    #[tactic(auto, using(crate::proofs::Placing::kept_more))]
+    fn close_dropped(&mut self, ops: &[RowOp])
+        ensures { KeepRows self.old.places self.new.places }
     {
-        let copies = copy_all(self.alloc, ops)?;
-        self.make_places(ops)?;
-        self.carry_out_all(copies);
-        Ok(())
+        for op in ops {
+            if let RowOp::Drop { kind, no } = op {
+                self.close_place(*kind, *no);
+            }
+        }
     }
 
     /// Carries out all operations in order, as one, or none.
-    #[tactic(auto, using(crate::proofs::Placing::carried_then, crate::proofs::Placing::kept_more))]
+    #[tactic(auto, using(crate::proofs::Placing::carried_then, crate::proofs::Placing::taken_back))]
     pub(crate) fn commit(&mut self, ops: &[RowOp]) -> Result<(), Memory>
         ensures done { OnOk result (AreCarriedOut ops.now self.old.places self.new.places) }
         ensures undone { OnErr result (KeepRows self.old.places self.new.places) }
     {
-        let carried = self.carry(ops);
-        self.close_places(ops);
-        carried
+        // No vacant place is left behind, though no clause says so. Once all is carried out, only a row that was taken out has left
+        // one; once all is taken back, so may each row that was put where there was none.
+        match self.carry_out_all(ops) {
+            Ok(()) => {
+                self.close_dropped(ops);
+                Ok(())
+            }
+            Err(backs) => {
+                self.take_back_all(backs);
+                self.close_places(ops);
+                Err(Memory)
+            }
+        }
     }
 
     /// All rows, by kind and then number.
@@ -207,14 +249,4 @@ impl RowMap {
         }
         Ok(rows)
     }
-}
-
-fn copy_all(alloc: Global, ops: &[RowOp]) -> Result<Vec<RowOp>, Memory>
-    ensures { IfOk result (λ copies. copies.items ≡ ops.now) }
-{
-    let mut copies = Vec::new(alloc);
-    for op in ops {
-        copies.push(op.copy(alloc)?)?;
-    }
-    Ok(copies)
 }

@@ -29,7 +29,7 @@ fn rank_body(alloc: Global, rank: &Rank) -> Result<Text, Memory>
     ensures { IfOk result (λ text. text ≡ rank_text rank.now) }
 {
     let text = rank.text(alloc)?;
-    Text::copy_of(alloc, text.as_str())
+    Ok(Text::of(text.into_string()))
 }
 
 /// The body of the part's row. All that the part names of the setup must be in it, each of its values is to be empty or to
