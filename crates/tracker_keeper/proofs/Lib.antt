@@ -16,5 +16,6 @@ pub mod GroupsBack
 pub mod KeysBack
 pub mod IssuesBack
 pub mod Sorting
+pub mod PresentText
 pub mod RowsBack
 pub mod WorkedRows

@@ -129,9 +129,6 @@ pub back_place : (kind number : ℕ) (before : Option (List ℕ)) (old new : Pla
 back_place kind number None old new was grows = tt
 back_place kind number (Some body) old new was grows = grows kind number (some_from (place_at old kind number) body (sym was))
 
-pub back_none : (places : Places) → CanTakeBack [] places places
-back_none places = record { rows = λ k n. refl; places = tt }
-
 pub back_more : (backs : List RowOp) (back : RowOp) (first old new : Places) → CanTakeBack backs first old → IsCarriedOut back new old → HasPlaceFor new back → KeepPlaces old new
     → CanTakeBack (back ∷ backs) first new
 back_more backs back first old new h carried place grows = record {
@@ -155,9 +152,6 @@ taken_back backs first old mid new h done same k n = same k n ∙ done k n ∙ s
 pub record HasDone (old new : Places) (done left : List RowOp) : Type 0 where
   pub rows : AreCarriedOut done old new
   pub places : HavePlaces new left
-
-pub done_none : (places : Places) (ops : List RowOp) → HavePlaces places ops → HasDone places places [] ops
-done_none places ops h = record { rows = λ k n. refl; places = h }
 
 pub done_more : (first old new : Places) (done : List RowOp) (op : RowOp) (left : List RowOp) → HasDone first old done (op ∷ left) → IsCarriedOut op old new → KeepPlaces old new → HasDone first new (done ++ op ∷ []) left
 done_more first old new done op left h carried grows = record {

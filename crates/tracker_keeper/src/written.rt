@@ -1,8 +1,8 @@
 // The texts of bodies.
-ghost use Rattle.std.specs.Prelude.{◌≡◌, IfOk, OnOk};
+ghost use Rattle.std.specs.Prelude.{◌≡◌, ◌++◌, IfOk, OnOk, string_bytes};
 ghost use Rattle.serde_json.specs.Written.{compact_text};
 ghost use Rattle.field_forms.specs.JsonTokens.{after};
-ghost use Rattle.tracker_keeper.specs.Bodies.{one_data, pair_data, balance_data, start_data};
+ghost use Rattle.tracker_keeper.specs.Bodies.{pair_data, balance_data, start_data};
 ghost use Rattle.tracker_keeper.specs.Bodies.{close_data, present_data, sprint_data, filter_data};
 ghost use Rattle.tracker_keeper.specs.Bodies.{board_data};
 
@@ -11,13 +11,15 @@ use field_forms::json_text::JsonText;
 use field_values::{FilterNo, Memory, Moment, Text};
 use rank_balancer::Balance;
 use sprints::SprintState;
-use std::alloc::Global;
+use std::alloc::{AllocError, Global};
 
 /// The bytes that most bodies have at most.
 pub(crate) const ROOM: usize = 240;
 
-/// The body of where the tracker stands.
-#[tactic(auto, using(field_forms::proofs::JsonTexts::whole))]
+/// The bytes that the body of where the tracker stands has at most.
+const PRESENT_ROOM: usize = 82;
+
+/// The body of where the tracker stands. Each commit writes one, so it is written at once and not token by token.
 pub fn present_text(
     alloc: Global,
     balance: Balance,
@@ -28,45 +30,39 @@ pub fn present_text(
     ensures { IfOk result (λ text. text
         ≡ compact_text (present_data balance change format moment)) }
 {
-    let mut out = JsonText::with_room(alloc, ROOM)?;
-    put_present(&mut out, balance, change, format, moment)?;
-    Ok(out.into_text())
+    let mut text = String::with_capacity(alloc, PRESENT_ROOM)?;
+    push_present(&mut text, balance, change, format, moment)?;
+    Ok(Text::of(text))
 }
 
-#[tactic(auto, unfolding(crate::specs::Bodies::present_data))]
-fn put_present(
-    out: &mut JsonText,
+fn push_present(
+    text: &mut String,
     balance: Balance,
     change: u64,
     format: Format,
     moment: Moment,
-) -> Result<(), Memory>
-    ensures { OnOk result (out.new ≡ after (present_data balance change format moment) out.old) }
+) -> Result<(), AllocError>
+    ensures { OnOk result (string_bytes text.new ≡ string_bytes text.old
+        ++ compact_text (present_data balance change format moment)) }
 {
-    out.begin_object()?;
-    out.key("balance")?;
-    put_balance(out, balance)?;
-    out.number_member("change", change)?;
-    out.number_member("format", format.number())?;
-    out.number_member("moment", moment.seconds())?;
-    out.end_object()
+    let format = format.number();
+    let moment = moment.seconds();
+    text.push_str("{\"balance\":")?;
+    push_balance(text, balance)?;
+    write!(
+        text,
+        ",\"change\":{change},\"format\":{format},\"moment\":{moment}}}"
+    )
 }
 
-fn put_balance(out: &mut JsonText, balance: Balance) -> Result<(), Memory>
-    ensures { OnOk result (out.new ≡ after (balance_data balance) out.old) }
+fn push_balance(text: &mut String, balance: Balance) -> Result<(), AllocError>
+    ensures { OnOk result (string_bytes text.new ≡ string_bytes text.old
+        ++ compact_text (balance_data balance)) }
 {
     match balance {
-        Balance::Idle(bucket) => put_one(out, u64::from(bucket)),
-        Balance::Moving { from, to } => put_pair(out, u64::from(from), u64::from(to)),
+        Balance::Idle(bucket) => write!(text, "[{bucket}]"),
+        Balance::Moving { from, to } => write!(text, "[{from},{to}]"),
     }
-}
-
-fn put_one(out: &mut JsonText, one: u64) -> Result<(), Memory>
-    ensures { OnOk result (out.new ≡ after (one_data one) out.old) }
-{
-    out.begin_array()?;
-    out.number(one)?;
-    out.end_array()
 }
 
 fn put_pair(out: &mut JsonText, one: u64, other: u64) -> Result<(), Memory>
