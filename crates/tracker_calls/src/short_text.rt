@@ -8,11 +8,24 @@ ghost use Rattle.std.specs.Str.{bytes_eq};
 use std::cmp::Ordering;
 
 /// Whether the texts are the same.
-#[inline(always)]
 pub fn is_same(text: &str, other: &str) -> bool
     ensures { result ≡ bytes_eq text.now other.now }
 {
-    text.as_bytes() == other.as_bytes()
+    are_same(text.as_bytes(), other.as_bytes())
+}
+
+fn are_same(bytes: &[u8], other: &[u8]) -> bool
+    ensures { result ≡ bytes_eq bytes.now other.now }
+{
+    if bytes.len() != other.len() {
+        return false;
+    }
+    for at in 0..bytes.len() {
+        if bytes[at] != other[at] {
+            return false;
+        }
+    }
+    true
 }
 
 /// How a text stands to another in the order of their bytes.
