@@ -1,4 +1,5 @@
 pub mod ByName
+pub mod Names
 pub mod ShortTexts
 pub mod Sorting
 pub mod AskedLines

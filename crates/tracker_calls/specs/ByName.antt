@@ -11,6 +11,7 @@ use Rattle.std.specs.Ordering.{nat_cmp}
 abbrev pub name_cmp : Bor (List ℕ) → Bor (List ℕ) → Ordering
 name_cmp x y = slice_cmp nat_cmp x.now y.now
 
+-- names with their values
 abbrev pub ByName : Type 0 → Type 0
 ByName X = List (Bor (List ℕ) × X)
 
@@ -28,6 +29,7 @@ BelongsAt {X} name es at =
     × ((k : Bor (List ℕ)) (v : X) → k.now ≡ name
     → insert_entry name_cmp es k v ≡ insert es at (k, v))
 
+-- the name stands at the one place, or belongs at the other
 abbrev pub IsPlaceOf : {X : Type 0} → List ℕ → ByName X → Result ℕ ℕ → Type 0
 IsPlaceOf name es (Ok at) = StandsAt name es at
 IsPlaceOf name es (Err at) = BelongsAt name es at

@@ -243,7 +243,8 @@ pub enum CallKind {
     Burndown,
 }
 
-/// The call of that name.
+/// The call of that name. The names that most lines have come first.
+#[tactic(auto, using(crate::proofs::Names::kind_of_same))]
 pub fn kind_named(name: &str) -> Option<CallKind>
     ensures { result ≡ kind_named name.now }
 {
@@ -251,6 +252,10 @@ pub fn kind_named(name: &str) -> Option<CallKind>
         Some(CallKind::Create)
     } else if is_same(name, "edit") {
         Some(CallKind::Edit)
+    } else if is_same(name, "show") {
+        Some(CallKind::Show)
+    } else if is_same(name, "search") {
+        Some(CallKind::Search)
     } else if is_same(name, "transition") {
         Some(CallKind::Transition)
     } else if is_same(name, "tick") {
@@ -279,12 +284,8 @@ pub fn kind_named(name: &str) -> Option<CallKind>
         Some(CallKind::CloseSprint)
     } else if is_same(name, "set_group") {
         Some(CallKind::SetGroup)
-    } else if is_same(name, "show") {
-        Some(CallKind::Show)
     } else if is_same(name, "history") {
         Some(CallKind::History)
-    } else if is_same(name, "search") {
-        Some(CallKind::Search)
     } else if is_same(name, "ranks") {
         Some(CallKind::Ranks)
     } else if is_same(name, "balance") {
