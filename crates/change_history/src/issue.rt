@@ -21,19 +21,20 @@ pub struct Issue {
     no: IssueNo,
     key: Key,
     change: u64,
+    // What queries ask of most issues stands side by side from here on.
     at: Moment,
     author: UserNo,
     updated: Moment,
-    opening: Vec<Change>,
     entries: Vec<Entry>,
+    // By the number of each field that every tracker has, where its entries begin and end, and what it holds.
+    bounds: [Bounds; PLACES],
+    small: [Small; PLACES],
+    opening: Vec<Change>,
     // For each entry, the number of the last entry of its field before it.
     befores: Vec<u32>,
     // Of each other field that entries changed, where its last entry stands.
     others: Vec<Place>,
     room: usize,
-    // By the number of each field that every tracker has, what it holds, and where its entries begin and end.
-    small: [Small; PLACES],
-    bounds: [Bounds; PLACES],
     // What a field holds that never had a value.
     empty: Value,
 }
@@ -48,13 +49,13 @@ impl Drop for Issue {
             at: _,
             author: _,
             updated: _,
-            opening: _,
             entries: _,
+            bounds: _,
+            small: _,
+            opening: _,
             befores: _,
             others: _,
             room: _,
-            small: _,
-            bounds: _,
             empty: _,
         } = self;
     }

@@ -10,7 +10,7 @@ ghost use Rattle.tracker_state.specs.Check.{Checks};
 ghost use Rattle.tracker_machine.specs.Tracker.{Holds};
 
 use crate::told::shown_value;
-use change_history::Issue;
+use change_history::{Issue, Small};
 use fields::{Field, FieldNo, Memory, Permission, Setup, UserNo, built_in_fields};
 use std::alloc::Global;
 use tracker_calls::{Answer, Refusal, Shown, ShownField, ShownFields, ToldText};
@@ -152,7 +152,11 @@ fn shown_present(
     ensures { IfOk result (λ o. o
         ≡ shown_value (names_in (parts setup.now)) field.0 (present issue.now.history field)) }
 {
-    match issue.small(field).value() {
+    let small = issue.small(field);
+    if matches!(small, Small::Empty) {
+        return Ok(None);
+    }
+    match small.value() {
         Some(value) => shown_value(alloc, setup, field, &value),
         None => shown_value(alloc, setup, field, issue.value(field)),
     }
