@@ -1,3 +1,4 @@
 pub mod Staying
 pub mod Firsts
+pub mod Bytes
 pub mod Runs

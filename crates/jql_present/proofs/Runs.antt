@@ -1,12 +1,13 @@
 -- Words of a text, read byte by byte.
-use Rattle.std.proofs.Common.{◌≡◌, ℕ, ◌+◌, ◌-◌, ◌<◌, ◌≤◌, Bool, true, false, ◌||◌, ◌&&◌, List, [], ◌∷◌, ◌++◌, length, take, drop, get_or, ltb, arith, refl, sym, ◌∙◌, ap, drop-cons, length-drop, add-one, get_or-drop, inl, inr}
+use Rattle.std.proofs.Common.{◌≡◌, ℕ, ◌+◌, ◌-◌, ◌<◌, ◌≤◌, Bool, true, false, ◌||◌, ◌&&◌, List, [], ◌∷◌, ◌++◌, length, take, drop, get_or, ltb, arith, refl, sym, ◌∙◌, ap, drop-cons, length-append, length-drop, add-one, get_or-drop, inl, inr}
 use Rattle.std.specs.List.{list_any}
 use Rattle.std.proofs.Math.Seq.{drop-length}
 use Rattle.std.proofs.lemmas.List.{take_more, length-take-le, take_rest}
-use Rattle.std.proofs.lemmas.Bool.{lt-ltb, le-ltb, cases_lt, or_left, and_from, and_right}
+use Rattle.std.proofs.lemmas.Bool.{lt-ltb, le-ltb, cases_lt, cases_Bool, or_left, or_from, and_from, and_right}
 use Rattle.jql_bound.specs.declared.leaf.Word.{Word}
 use Rattle.jql_bound.specs.Words.{is_word_byte, words_from, words_of}
 use Rattle.jql_meaning.specs.Words.{is_word, has_word}
+use Rattle.jql_present.proofs.Bytes.{too_short}
 
 -- the wanted word is among those that a run of a word and the bytes after it make
 abbrev pub is_after : Word → List ℕ → List ℕ → Bool
@@ -104,3 +105,18 @@ ahead_at_last wanted text begin within =
     ∙ ap (λ run. is_after wanted run []) (take_rest text begin)
     ∙ at_the_end wanted (drop begin text)
     ∙ ap (λ test. test && is_word wanted (drop begin text)) (same_test text begin within)
+
+-- no word is the wanted one where fewer bytes than it has are left
+none_in_few : (wanted : Word) (run bytes : List ℕ) → length run + length bytes < length wanted.text → is_after wanted run bytes ≡ false
+none_in_few wanted run [] few = at_the_end wanted run ∙ and_right (ltb 0 (length run)) (is_word wanted run) (too_short wanted run (omega arith))
+none_in_few wanted run (b ∷ bytes) few =
+    elim (cases_Bool (is_word_byte b)) [
+      | inl is ↦ goes_on wanted run b bytes is ∙ none_in_few wanted (run ++ b ∷ []) bytes (omega (arith, length-append run (b ∷ [])))
+      | inr none ↦ ends wanted run b bytes none ∙ or_from (ltb 0 (length run) && is_word wanted run) (is_after wanted [] bytes) (and_right (ltb 0 (length run)) (is_word wanted run) (too_short wanted run (omega arith))) (none_in_few wanted [] bytes (omega arith))
+    ]
+
+pub none_in_short : (wanted : Word) (text : List ℕ) → length text < length wanted.text → has_word text wanted ≡ false
+none_in_short wanted text few = has_word_is text wanted ∙ none_in_few wanted [] text (omega arith)
+
+pub none_in_rest : (wanted : Word) (text : List ℕ) (begin : ℕ) → begin ≤ length text → length text < begin + length wanted.text → is_ahead wanted text begin begin ≡ false
+none_in_rest wanted text begin within few = sym (again wanted text begin) ∙ none_in_few wanted [] (drop begin text) (omega (arith, length-drop begin text))

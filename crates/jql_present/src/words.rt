@@ -12,10 +12,13 @@ pub fn has_words(words: &[Word], text: &str) -> bool
     words.iter().all(|word| has_word(text.as_bytes(), word))
 }
 
-// Whether the text has the word.
+// Whether the text has the word. Whatever begins past the last place with room for it is too short.
 fn has_word(text: &[u8], wanted: &Word) -> bool
     ensures { result ≡ has_word text.now wanted.now }
 {
+    let Some(last) = text.len().checked_sub(wanted.text.as_str().len()) else {
+        return false;
+    };
     let mut begin = 0;
     for (at, byte) in text.iter().enumerate() {
         if !is_word_byte(*byte) {
@@ -23,35 +26,37 @@ fn has_word(text: &[u8], wanted: &Word) -> bool
                 return true;
             }
             begin = at + 1;
+            if begin > last {
+                return false;
+            }
         }
     }
     begin < text.len() && is_word(&text[begin..], wanted)
 }
 
-// A letter or a digit of ASCII, or a byte of a character past ASCII.
+// A letter or a digit of ASCII, or a byte of a character past ASCII. Most bytes are small letters, and most
+// others spaces, so these are told first.
 fn is_word_byte(byte: u8) -> bool
     ensures { result ≡ is_word_byte byte }
 {
-    matches!(byte, b'0'..=b'9' | b'A'..=b'Z' | b'a'..=b'z' | 128..)
+    byte.is_ascii_lowercase() || byte != b' ' && (byte.is_ascii_alphanumeric() || byte >= 128)
 }
 
 // Whether a word of a text is the one that is looked for.
 fn is_word(word: &[u8], wanted: &Word) -> bool
     ensures { result ≡ is_word wanted.now word.now }
 {
-    front_of(word, wanted).eq_ignore_ascii_case(wanted.text.as_str().as_bytes())
-}
-
-// What of a word is compared: where its beginning will do, no more than the length of the wanted one.
-#[tactic(auto, using(std::proofs::lemmas::List::take_all))]
-fn front_of<'a>(word: &'a [u8], wanted: &Word) -> &'a [u8]
-    ensures { result.now
-        ≡ (if wanted.now.prefix then take (length wanted.now.text) word.now else word.now) }
-{
-    let most = wanted.text.as_str().len();
-    if !wanted.prefix || word.len() <= most {
-        return word;
+    let sought = wanted.text.as_str().as_bytes();
+    let Some((front, rest)) = word.split_at_checked(sought.len()) else {
+        return false;
+    };
+    if !rest.is_empty() && !wanted.prefix {
+        return false;
     }
-    let (front, _) = word.split_at(most);
-    front
+    for (one, other) in sought.iter().zip(front) {
+        if one != other && !one.eq_ignore_ascii_case(other) {
+            return false;
+        }
+    }
+    true
 }
