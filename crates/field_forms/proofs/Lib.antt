@@ -1,3 +1,5 @@
+pub mod ByName
+pub mod ShortTexts
 pub mod Cutting
 pub mod Finding
 pub mod Fitting

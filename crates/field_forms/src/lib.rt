@@ -2,6 +2,7 @@
 #![tactic(auto)]
 
 pub mod built_in;
+pub mod by_name;
 pub mod cut;
 pub mod fit;
 pub mod form;
@@ -11,5 +12,6 @@ pub mod laws;
 pub mod name_form;
 pub mod number_text;
 pub mod rule_text;
+pub mod short_text;
 pub mod text_list;
 pub mod value_text;

@@ -1,6 +1,4 @@
-pub mod ByName
 pub mod Names
-pub mod ShortTexts
 pub mod Sorting
 pub mod AskedLines
 pub mod Twins

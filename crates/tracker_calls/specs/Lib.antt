@@ -3,7 +3,6 @@ pub mod Part
 pub mod Named
 pub mod Asked
 pub mod Body
-pub mod ByName
 pub mod Reply
 pub mod Seen
 pub mod Sorted

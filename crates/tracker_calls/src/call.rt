@@ -3,7 +3,7 @@ ghost use Rattle.std.specs.Prelude.{◌≡◌, map};
 ghost use Rattle.tracker_calls.specs.Asked.{kind_named, call_members};
 
 use crate::given::GivenFields;
-use crate::short_text::is_same;
+use field_forms::short_text::is_same;
 use field_values::{BoardNo, FilterNo, Moment, Names, SprintNo, Text};
 
 /// What a line asks for.

@@ -11,8 +11,8 @@ ghost use Rattle.tracker_calls.specs.Part.{count_at};
 
 use crate::call::{CallKind, MOST_FROM, call_members};
 use crate::reply::Refusal;
-use crate::short_text::is_same;
 use field_forms::name_form::is_title;
+use field_forms::short_text::is_same;
 use field_values::{Moment, Text};
 use serde_json::{Map, Value};
 use std::alloc::Global;

@@ -1,6 +1,6 @@
 use Rattle.std.proofs.Common.{arith, sym, ◌∙◌}
-use Rattle.tracker_calls.proofs.ShortTexts.{used_up}
-use Rattle.tracker_calls.proofs.short_text.bytes_order.Goals as goal
+use Rattle.field_forms.proofs.ShortTexts.{used_up}
+use Rattle.field_forms.proofs.short_text.bytes_order.Goals as goal
 
 pub returns : goal.returns
 returns c =

@@ -1,6 +1,6 @@
 use Rattle.std.proofs.Common.{◌≡◌, drop, nat_cmp}
 use Rattle.std.specs.Cmp.Lexicographic.{slice_cmp}
-use Rattle.tracker_calls.proofs.short_text.bytes_order.Given as goal
+use Rattle.field_forms.proofs.short_text.bytes_order.Given as goal
 
 -- what is left of them stands as they do
 abbrev pub invariant-loop-at : goal.invariant-loop-at

@@ -1,7 +1,7 @@
 use Rattle.std.proofs.Common.{◌≡◌, ℕ, List, ◌++◌, take, drop, Bor}
 use Rattle.std.specs.BTreeMap.{insert_entry}
-use Rattle.tracker_calls.specs.ByName.{name_cmp}
-use Rattle.tracker_calls.proofs.by_name.place_of.Given as goal
+use Rattle.field_forms.specs.ByName.{name_cmp}
+use Rattle.field_forms.proofs.by_name.place_of.Given as goal
 
 -- the name belongs behind those that were passed
 abbrev pub invariant-loop-at : goal.invariant-loop-at

@@ -1,7 +1,7 @@
 -- Values that are put by name.
 use Rattle.std.proofs.Common.{◌≡◌, ℕ, zero, suc, ◌<◌, List, [], ◌∷◌, ◌++◌, take, drop, length, get_or, set, Equal, Bor, arith, refl, ap}
 use Rattle.std.specs.BTreeMap.{insert_entry}
-use Rattle.tracker_calls.specs.ByName.{ByName, name_cmp}
+use Rattle.field_forms.specs.ByName.{ByName, name_cmp}
 
 -- what is put from the place on where the same name stands takes the place of the value there
 pub found : {X : Type 0} (es : ByName X) (i : ℕ) (d : Bor (List ℕ) × X) (k : Bor (List ℕ)) (v : X)

@@ -2,7 +2,7 @@
 // tree. The list is walked from the front, since most names are told apart by their first byte.
 ghost use Rattle.std.specs.Prelude.{◌≡◌, OnOk};
 ghost use Rattle.std.specs.BTreeMap.{insert_entry};
-ghost use Rattle.tracker_calls.specs.ByName.{name_cmp, IsPlaceOf};
+ghost use Rattle.field_forms.specs.ByName.{name_cmp, IsPlaceOf};
 
 use crate::short_text::order_of;
 use field_values::Memory;

@@ -1,7 +1,7 @@
 use Rattle.std.proofs.Common.{◌≡◌, ◌<◌, length, arith, sym, ◌∙◌, get_or}
 use Rattle.std.proofs.lemmas.List.{get_or_default}
-use Rattle.tracker_calls.proofs.ByName.{found}
-use Rattle.tracker_calls.proofs.by_name.place_of.Goals as goal
+use Rattle.field_forms.proofs.ByName.{found}
+use Rattle.field_forms.proofs.by_name.place_of.Goals as goal
 
 pub returns-in-Equal : goal.returns-in-Equal
 returns-in-Equal g c =

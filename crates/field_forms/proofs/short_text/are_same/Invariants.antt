@@ -1,6 +1,6 @@
 use Rattle.std.proofs.Common.{◌≡◌, drop}
 use Rattle.std.specs.Str.{bytes_eq}
-use Rattle.tracker_calls.proofs.short_text.are_same.Given as goal
+use Rattle.field_forms.proofs.short_text.are_same.Given as goal
 
 -- what is left of them is the same where they are
 abbrev pub invariant-loop-at : goal.invariant-loop-at
