@@ -1,5 +1,5 @@
 // CHANGED: whether one change of the field is such a one.
-ghost use Rattle.std.specs.Prelude.{◌≡◌, ◌&&◌};
+ghost use Rattle.std.specs.Prelude.{◌≡◌, ◌&&◌, IfSome};
 ghost use Rattle.std.specs.List.{list_any, list_all};
 ghost use Rattle.field_values.specs.declared.value.Value.{Value};
 ghost use Rattle.jql_meaning.specs.Surroundings.{surroundings_of};
@@ -9,7 +9,7 @@ ghost use Rattle.jql_meaning.specs.Past.{changed, entry_answers, endpoint_answer
 ghost use Rattle.jql_past.specs.Interval.{IsOfWindows};
 
 use crate::naming::loses;
-use crate::windows::{Interval, common_interval, has_moment};
+use crate::windows::{Interval, has_moment, known_interval};
 use change_history::{Entry, Issue};
 use field_values::{FieldNo, Moment, UserNo};
 use jql_bound::{Context, Endpoint, Operand, PastPredicate};
@@ -29,14 +29,14 @@ pub fn changed(
         ≡ changed (surroundings_of context.now) issue.now.history at field endpoints.now
         predicates.now }
 {
-    let interval = common_interval(context, at, predicates);
+    let mut known = None;
     let mut place = issue.last_entry(field);
     while let Some(k) = place {
         // An entry stands at each of these places.
         let Some(entry) = issue.entry(k) else {
             return false;
         };
-        if entry_answers(context, at, interval, endpoints, predicates, entry) {
+        if entry_answers(&mut known, context, at, endpoints, predicates, entry) {
             return true;
         }
         place = issue.entry_before(k);
@@ -44,34 +44,56 @@ pub fn changed(
     false
 }
 
+// The cheap questions come first, and the windows last.
 fn entry_answers(
+    known: &mut Option<Interval>,
     context: &Context,
     at: Moment,
-    interval: Interval,
     endpoints: &[Endpoint],
     predicates: &[PastPredicate],
     entry: &Entry,
 ) -> bool
-    requires { IsOfWindows (surroundings_of context.now) at predicates.now interval }
-    ensures { result
+    requires { IfSome known.old (IsOfWindows (surroundings_of context.now) at predicates.now) }
+    ensures answer { result
         ≡ entry_answers (surroundings_of context.now) at endpoints.now predicates.now entry.now }
+    ensures known { IfSome known.new
+        (IsOfWindows (surroundings_of context.now) at predicates.now) }
 {
-    is_in_time(context, at, interval, predicates, entry) && has_endpoints(context, endpoints, entry)
+    is_wanted(context, endpoints, predicates, entry)
+        && is_in_windows(known, context, at, predicates, entry.at)
 }
 
-// Whether the change lies in every window and is by an author who is asked for.
-fn is_in_time(
+// Whether the change goes from and to the values that are asked for, and is by an author who is
+// asked for.
+fn is_wanted(
     context: &Context,
-    at: Moment,
-    interval: Interval,
+    endpoints: &[Endpoint],
     predicates: &[PastPredicate],
     entry: &Entry,
 ) -> bool
-    requires { IsOfWindows (surroundings_of context.now) at predicates.now interval }
-    ensures { result ≡ (is_in_windows (surroundings_of context.now) at predicates.now entry.now.at
+    ensures { result ≡ (list_all (λ endpoint.
+        endpoint_answers (surroundings_of context.now) entry.now endpoint) endpoints.now
         && is_by_each (surroundings_of context.now) predicates.now entry.now.author) }
 {
-    has_moment(interval, entry.at) && is_by_each(context, predicates, entry.author)
+    has_endpoints(context, endpoints, entry) && is_by_each(context, predicates, entry.author)
+}
+
+// Whether the moment lies in every window.
+fn is_in_windows(
+    known: &mut Option<Interval>,
+    context: &Context,
+    at: Moment,
+    predicates: &[PastPredicate],
+    moment: Moment,
+) -> bool
+    requires { IfSome known.old (IsOfWindows (surroundings_of context.now) at predicates.now) }
+    ensures answer { result
+        ≡ is_in_windows (surroundings_of context.now) at predicates.now moment }
+    ensures known { IfSome known.new
+        (IsOfWindows (surroundings_of context.now) at predicates.now) }
+{
+    let interval = known_interval(known, context, at, predicates);
+    has_moment(interval, moment)
 }
 
 fn has_endpoints(context: &Context, endpoints: &[Endpoint], entry: &Entry) -> bool

@@ -1,5 +1,5 @@
 // The moments that the windows of a comparison leave, as one interval: no moment is looked for in it.
-ghost use Rattle.std.specs.Prelude.{◌≡◌, ◌+◌, ◌≤◌, pos, ◌+ℤ◌};
+ghost use Rattle.std.specs.Prelude.{◌≡◌, ◌+◌, ◌≤◌, pos, ◌+ℤ◌, IfSome};
 ghost use Rattle.jiff_core.specs.Calendar.{IsWithin};
 ghost use Rattle.field_values.specs.Years.{last_second};
 ghost use Rattle.relative_dates.specs.Calendar.{local_day, midnight};
@@ -20,13 +20,36 @@ pub struct Interval {
     pub end: i64,
 }
 
-/// The interval in which a moment lies exactly where it lies in each of the windows.
-pub fn common_interval(context: &Context, at: Moment, predicates: &[PastPredicate]) -> Interval
+// The interval in which a moment lies exactly where it lies in each of the windows.
+fn common_interval(context: &Context, at: Moment, predicates: &[PastPredicate]) -> Interval
     ensures { IsOfWindows (surroundings_of context.now) at predicates.now result }
 {
     // That the calendar's days go on is what makes the moments of one day an interval.
     let _ = context.calendar.first_day();
     interval_of(context, at, predicates)
+}
+
+/// The interval in which a moment lies exactly where it lies in each of the windows. It is worked out where it isn't known
+/// yet, and known from then on: it takes the calendar, and most issues are told by their values alone.
+pub fn known_interval(
+    known: &mut Option<Interval>,
+    context: &Context,
+    at: Moment,
+    predicates: &[PastPredicate],
+) -> Interval
+    requires { IfSome known.old (IsOfWindows (surroundings_of context.now) at predicates.now) }
+    ensures interval { IsOfWindows (surroundings_of context.now) at predicates.now result }
+    ensures known { IfSome known.new
+        (IsOfWindows (surroundings_of context.now) at predicates.now) }
+{
+    match *known {
+        Some(interval) => interval,
+        None => {
+            let interval = common_interval(context, at, predicates);
+            *known = Some(interval);
+            interval
+        }
+    }
 }
 
 /// Whether the moment lies in the interval.

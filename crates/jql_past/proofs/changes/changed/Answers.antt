@@ -12,6 +12,7 @@ unfolding changed
 loop-place-init c =
     let start = walk_at c.args.issue.now.history.entries c.args.field c.last_entry-place.result c.last_entry-place.ensures in
     record {
+      known = tt;
       stands = start.0;
       same = ap (list_any (λ (e : Entry). entry_answers (surroundings_of c.args.context.now) c.args.at c.args.endpoints.now c.args.predicates.now e)) (sym start.1);
     }
@@ -23,7 +24,7 @@ returns-then-entry_answers c =
     let there : slice_get es c.in-Some.k ≡ Some c.in-Some-entry.entry.now = sym c.in-Some-entry.ensures in
     let of = of_field es c.args.field c.loop-place.place c.in-Some.k c.in-Some-entry.entry.now c.in-Some.is c.loop-place.invariant.stands there in
     sym (c.loop-place.invariant.same ∙ ap (λ (r : Option ℕ). list_any p (up_to es c.args.field r)) c.in-Some.is
-    ∙ change_passes p es c.args.field c.in-Some.k c.in-Some-entry.entry.now there of (sym c.entry_answers.ensures ∙ c.if-entry_answers.true))
+    ∙ change_passes p es c.args.field c.in-Some.k c.in-Some-entry.entry.now there of (sym c.entry_answers.ensures.answer ∙ c.if-entry_answers.true))
 
 pub loop-place-preserved : goal.loop-place-preserved
 loop-place-preserved c =
@@ -33,9 +34,10 @@ loop-place-preserved c =
     let of = of_field es c.args.field c.loop-place.place c.in-Some.k c.in-Some-entry.entry.now c.in-Some.is c.loop-place.invariant.stands there in
     let step = walk_on es c.args.field c.in-Some.k c.in-Some-entry.entry.now c.entry_before-place.result there of c.entry_before-place.ensures.before in
     record {
+      known = c.entry_answers.ensures.known;
       stands = step.stands;
       same = c.loop-place.invariant.same ∙ ap (λ (r : Option ℕ). list_any p (up_to es c.args.field r)) c.in-Some.is
-          ∙ change_fails p es c.args.field c.in-Some.k c.in-Some-entry.entry.now there of (sym c.entry_answers.ensures ∙ c.if-entry_answers.false)
+          ∙ change_fails p es c.args.field c.in-Some.k c.in-Some-entry.entry.now there of (sym c.entry_answers.ensures.answer ∙ c.if-entry_answers.false)
           ∙ ap (list_any p) (sym step.left);
     }
 

@@ -24,6 +24,7 @@ loop-place-init c =
     let p : SpanOf → Bool = λ x. span_answers (surroundings_of c.args.context.now) c.args.at c.args.operands.now c.args.predicates.now x in
     let start = walk_at h.entries c.args.field c.last_entry-place.result c.last_entry-place.ensures in
     record {
+      known = tt;
       stands = start.0;
       same = λ i. some_span p h c.args.field (length (sym start.1 i));
       opened = λ none. tt;
@@ -40,7 +41,7 @@ returns-then-span_answers c =
     let end_is : c.loop-place.end ≡ end_of h c.args.field (length (up_to h.entries c.args.field (Some c.in-Some.k))) =
     c.loop-place.invariant.end_is ∙ ap (λ (r : Option ℕ). end_of h c.args.field (length (up_to h.entries c.args.field r))) c.in-Some.is in
     sym (c.loop-place.invariant.same ∙ ap (λ (r : Option ℕ). some_span p h c.args.field (length (up_to h.entries c.args.field r))) c.in-Some.is
-    ∙ span_passes p h c.args.field c.in-Some.k e c.loop-place.end there of end_is (sym c.span_answers.ensures ∙ c.if-span_answers.true))
+    ∙ span_passes p h c.args.field c.in-Some.k e c.loop-place.end there of end_is (sym c.span_answers.ensures.answer ∙ c.if-span_answers.true))
 
 pub loop-place-preserved : goal.loop-place-preserved
 loop-place-preserved c =
@@ -53,9 +54,10 @@ loop-place-preserved c =
     c.loop-place.invariant.end_is ∙ ap (λ (r : Option ℕ). end_of h c.args.field (length (up_to h.entries c.args.field r))) c.in-Some.is in
     let step = walk_on h.entries c.args.field c.in-Some.k e c.entry_before-place.result there of c.entry_before-place.ensures.before in
     record {
+      known = c.span_answers.ensures.known;
       stands = step.stands;
       same = c.loop-place.invariant.same ∙ ap (λ (r : Option ℕ). some_span p h c.args.field (length (up_to h.entries c.args.field r))) c.in-Some.is
-          ∙ span_fails p h c.args.field c.in-Some.k e c.loop-place.end there of end_is (sym c.span_answers.ensures ∙ c.if-span_answers.false)
+          ∙ span_fails p h c.args.field c.in-Some.k e c.loop-place.end there of end_is (sym c.span_answers.ensures.answer ∙ c.if-span_answers.false)
           ∙ (λ i. some_span p h c.args.field (length (sym step.left i)));
       opened = λ none.
           subst (λ (o : Option ℕ). IfNone o ((x : Entry) → slice_get h.entries c.in-Some.k ≡ Some x → x.from ≡ opening_value h.opening x.field)) none
@@ -80,6 +82,6 @@ pub returns : goal.returns
 returns c =
     let h = c.args.issue.now.history in
     let p : SpanOf → Bool = λ x. span_answers (surroundings_of c.args.context.now) c.args.at c.args.operands.now c.args.predicates.now x in
-    c.span_answers-2.ensures
+    c.span_answers-2.ensures.answer
     ∙ (λ i. p (record { begin = c.created.ensures i; end = c.loop-place.end; author = c.author.ensures i; value = c.opened_with.ensures i }))
     ∙ sym (c.loop-place.invariant.same ∙ at_the_end p h c.args.field c.loop-place.place c.loop-place.end c.in_default.not-Some c.loop-place.invariant.end_is)
