@@ -16,6 +16,9 @@ use field_values::{FieldNo, IssueNo, Memory, Moment, UserNo, Value};
 use std::alloc::Global;
 use std::marker::Model;
 
+// So many places take no more memory than one.
+const FEW: usize = 3;
+
 /// An issue with its whole history. Contracts see it as that history, and beside it how many entries there is room for.
 pub struct Issue {
     no: IssueNo,
@@ -265,7 +268,8 @@ impl Issue {
         if !has_numbers(self.entries.len(), n) {
             return Err(Memory);
         }
-        self.others.reserve(n)?;
+        // Other fields are seldom changed, so that room for a few of them lasts.
+        self.others.reserve_exact(n.max(FEW))?;
         self.befores.reserve(n)?;
         reserve_entries(&mut self.entries, n)?;
         self.room = n;

@@ -23,6 +23,9 @@ use field_values::text::Text;
 use field_values::value::Value;
 use std::alloc::Global;
 
+// Most issues have no more labels.
+const FEW: usize = 4;
+
 /// What a field holds, and the limits of it.
 #[derive(Clone, Copy)]
 pub enum Form {
@@ -136,11 +139,11 @@ fn put_label(alloc: Global, labels: &mut Names, label: &Text) -> Result<(), Memo
     Ok(())
 }
 
-/// The labels of these texts in the order of their bytes, each once.
+/// The labels of these texts in the order of their bytes, each once. A few of them have no room for more, since a value stays.
 fn labels_of(alloc: Global, texts: &[Text]) -> Result<Names, Memory>
     ensures { IfOk result (λ labels. labels ≡ with_labels [] texts.now) }
 {
-    let mut labels = Names::new(alloc);
+    let mut labels = Names::with_capacity(alloc, texts.len().min(FEW))?;
     for text in texts {
         put_label(alloc, &mut labels, text)?;
     }

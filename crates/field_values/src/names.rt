@@ -27,6 +27,15 @@ impl Names {
         }
     }
 
+    /// The empty list, with room for n texts.
+    pub fn with_capacity(alloc: Global, n: usize) -> Result<Self, Memory>
+        ensures { IfOk result (λ names. names ≡ []) }
+    {
+        Ok(Names {
+            names: Vec::with_capacity(alloc, n)?,
+        })
+    }
+
     /// Puts one more at the end, or leaves the list as it is.
     pub fn push(&mut self, name: Text) -> Result<(), Memory>
         ensures ok { OnOk result (self.new ≡ self.old ++ name ∷ []) }
@@ -53,11 +62,11 @@ impl Names {
         Ok(())
     }
 
-    /// Another list of the same texts.
+    /// Another list of the same texts, without room for more.
     pub fn copy(&self, alloc: Global) -> Result<Self, Memory>
         ensures { IfOk result (λ names. names ≡ self.now) }
     {
-        let mut names = Names::new(alloc);
+        let mut names = Names::with_capacity(alloc, self.names.len())?;
         for name in self.as_slice() {
             names.push(name.copy(alloc)?)?;
         }
