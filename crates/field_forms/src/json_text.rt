@@ -10,10 +10,11 @@ ghost use Rattle.field_forms.specs.JsonData.{texts_data};
 ghost use Rattle.field_forms.specs.JsonTokens.{after};
 ghost use Rattle.field_forms.specs.Numbers.{number_text};
 
-use crate::number_text::push_number_text;
+use crate::number_text::{push_number_text, whole_in};
 use civil_dates::push_date_text;
 use field_values::memory::Memory;
 use field_values::text::Text;
+use itoa::Buffer;
 use json::Writer;
 use std::alloc::Global;
 use std::marker::Model;
@@ -23,7 +24,7 @@ use std::marker::Model;
 #[derive(Drop)]
 pub struct JsonText {
     writer: Writer,
-    /// The text of the last decimal number or day, so that all of them take memory once.
+    /// The text of the last day, or number that isn't whole, so that all of them take memory once.
     short: String,
 }
 
@@ -144,6 +145,16 @@ impl JsonText {
 
     /// The shortest text of a number of thousandths.
     pub fn number_text(&mut self, number: i64) -> Result<(), Memory>
+        ensures { OnOk result (self.new ≡ after (string (number_text number)) self.old) }
+    {
+        match whole_in(number) {
+            Some(whole) => self.text(Buffer::new().format(whole)),
+            None => self.any_number_text(number),
+        }
+    }
+
+    // The same, where it may have a sign or a point.
+    fn any_number_text(&mut self, number: i64) -> Result<(), Memory>
         ensures { OnOk result (self.new ≡ after (string (number_text number)) self.old) }
     {
         self.short.clear();

@@ -1,6 +1,6 @@
 // Numbers in thousandths, and their texts.
 ghost use Rattle.std.specs.Prelude.{◌≡◌, ◌≤◌, ◌<◌, length, string_bytes, IfOk, ◌==◌, ◌++◌};
-ghost use Rattle.std.specs.Prelude.{position, IfSome, OnOk};
+ghost use Rattle.std.specs.Prelude.{position, IfSome, OnOk, decimal};
 ghost use Rattle.field_forms.specs.Numbers.{is_numeral, whole_of, fraction_of, sum_of, size_of};
 ghost use Rattle.field_forms.specs.Numbers.{number_of, number_text, fraction_text};
 
@@ -113,6 +113,19 @@ fn push_fraction(text: &mut String, thousandths: u64) -> Result<(), AllocError>
     } else {
         write!(text, ".{tenths}{hundredths}{last}")
     }
+}
+
+/// The whole number that so many thousandths are; `None` where it has a sign or a fraction. Most numbers have neither, and the
+/// text of one takes no memory.
+#[tactic(auto, unfolding(crate::specs::Numbers::number_text))]
+pub(crate) fn whole_in(number: i64) -> Option<u64>
+    ensures { IfSome result (λ whole. number_text number ≡ decimal whole) }
+{
+    let size = number.unsigned_abs();
+    if number < 0 || size % 1000 != 0 {
+        return None;
+    }
+    Some(size / 1000)
 }
 
 /// Writes the shortest text of the number of thousandths behind a text.
