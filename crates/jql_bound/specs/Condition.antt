@@ -1,5 +1,5 @@
 -- What a condition says, without where it lies in memory.
-use Rattle.std.specs.Prelude.{List, [], ◌∷◌, map, Option, option_map}
+use Rattle.std.specs.Prelude.{List, [], ◌∷◌, map}
 use Rattle.jql_bound.specs.declared.leaf.Leaf.{Leaf}
 use Rattle.jql_bound.specs.declared.past.PastLeaf.{PastLeaf}
 use Rattle.jql_bound.specs.declared.cond.Cond.{Cond, fold-Cond}

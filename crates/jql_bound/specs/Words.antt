@@ -1,5 +1,5 @@
 -- Words of texts: longest runs of ASCII letters, ASCII digits and characters past ASCII. All bytes of those are past ASCII too.
-use Rattle.std.specs.Prelude.{ℕ, Bool, true, false, ◌||◌, ◌==◌, nat_le, List, [], ◌∷◌, ◌++◌, if◌then◌else◌}
+use Rattle.std.specs.Prelude.{ℕ, Bool, false, ◌||◌, ◌==◌, nat_le, List, [], ◌∷◌, ◌++◌, if◌then◌else◌}
 use Rattle.std.specs.Int.{is_in_range}
 use Rattle.jql_bound.specs.declared.leaf.Word.{Word}
 

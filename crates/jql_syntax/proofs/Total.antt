@@ -1,19 +1,19 @@
 -- Each list of tokens is a query, or has a first fault.
-use Rattle.std.proofs.Common.{◌≡◌, ℕ, zero, suc, ◌+◌, ◌==◌, ◌&&◌, ◌-◌, ◌≤◌, ◌<◌, ◌⊎◌, Bool, true, false, ◌||◌, List, [], ◌∷◌, length, drop, Option, Some, None, refl, ap, sym, ◌∙◌, inl, inr, arith, subst}
+use Rattle.std.proofs.Common.{◌≡◌, ℕ, zero, suc, ◌+◌, ◌==◌, ◌&&◌, ◌-◌, ◌≤◌, ◌<◌, Bool, true, false, List, [], ◌∷◌, length, drop, Option, Some, None, refl, ap, sym, ◌∙◌, inl, inr, arith, subst}
 use Rattle.std.proofs.lemmas.Bool.{cases_lt}
 use Rattle.std.proofs.lemmas.Bool.Decides.{nat_tests}
 use Rattle.std.specs.Option.{is_some}
 use Rattle.relative_dates.specs.Reading.{read_term}
 use Rattle.jql_syntax.specs.Tree.{Tree}
-use Rattle.jql_syntax.specs.Node.{Node, Label, condition, a_query, keys_of, made, whole}
-use Rattle.jql_syntax.specs.Form.{Class, sign, plain_text, date_text, function_name, bare_word, any_text, field_number, IsOf, of_sign, of_word, of_quoted, of_date_word, of_date_quoted, of_name, of_bare_word, of_bare_name, of_any_word, of_any_name, of_any_quoted, of_number, Form, one, nothing, both, either, many, rule, unit}
+use Rattle.jql_syntax.specs.Node.{Node, condition, a_query, keys_of, made, whole}
+use Rattle.jql_syntax.specs.Form.{Class, sign, plain_text, date_text, function_name, bare_word, any_text, field_number, IsOf, of_word, of_quoted, of_date_word, of_date_quoted, of_name, of_bare_word, of_bare_name, of_any_word, of_any_name, of_any_quoted, of_number, Form, one, nothing, both, either, many, rule, unit}
 use Rattle.jql_syntax.specs.Grammar.{limit, leaf, order, unit_form, conjunction, expression, query}
 use Rattle.jql_syntax.specs.Reads.{Is, is_rule, Reads}
 use Rattle.jql_syntax.specs.Tokens.{words, tokens}
-use Rattle.jql_syntax.specs.Fault.{most_bytes, IsFault, FirstFault, too_long, at_token, IsQuery, place_of}
+use Rattle.jql_syntax.specs.Fault.{most_bytes, too_long, at_token, place_of}
 use Rattle.jql_syntax.specs.Either.{QueryOrFault, text_is, text_has}
 use Rattle.jql_syntax.specs.Machine.{number_of, look, look_of, looks, nullable, first, opens, IsPlain, plain_one, plain_nothing, plain_both, plain_either, plain_many, plain_rule, plain_unit, Outcome, ended, halted, behind, turned, kind_at, IsWithout, plain_kind, Runs, runs_one, runs_lacking, runs_nothing, runs_halt, runs_both, runs_first, runs_second, runs_stop, runs_turn, runs_more, runs_rule, runs_unit, runs_bottom, runs_deep}
-use Rattle.jql_syntax.specs.Reader.{Goes, Halts, Fails}
+use Rattle.jql_syntax.specs.Reader.{Fails}
 use Rattle.jql_syntax.specs.declared.token.Kind.{Kind}
 use Rattle.jql_syntax.specs.declared.token.Kind.TheVariants.{TooDeep, TooLong}
 use Rattle.jql_syntax.specs.declared.token.Mark.{Mark}
@@ -27,7 +27,7 @@ use Rattle.jql_syntax.proofs.Steps.{of_looks}
 use Rattle.jql_syntax.proofs.Plain.{leaf_plain, unit_plain, query_plain}
 use Rattle.jql_syntax.proofs.Sure.{tells}
 use Rattle.jql_syntax.proofs.Strict.{is_strict}
-use Rattle.jql_syntax.proofs.Reading.{is_sign, no_word, no_quoted, length_words}
+use Rattle.jql_syntax.proofs.Reading.{is_sign, no_word, no_quoted}
 use Rattle.jql_syntax.proofs.Whole.{fails_halted, fails_left}
 
 -- reading ends somehow

@@ -1,4 +1,3 @@
-use Rattle.std.proofs.Common.{◌++◌, ◌∙◌, ap, sym, ◌≡◌, subst}
 use Rattle.std.specs.Str.{IsValidUpTo}
 use Rattle.jql_syntax.specs.Fault.{most_bytes, number_of_kind}
 use Rattle.jql_syntax.specs.declared.token.Kind.TheVariants.{Character, TooLong}
