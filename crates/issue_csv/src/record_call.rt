@@ -7,15 +7,15 @@ use crate::columns::column;
 use csv::StringRecord;
 use field_values::{Memory, Text};
 use std::alloc::Global;
-use tracker_calls::{Call, Given, GivenField, GivenFields};
+use tracker_calls::{Call, Given, GivenField, GivenFields, ToldText};
 
 /// A new issue, as the record has it.
 #[tactic(auto, unfolding(crate::specs::Reading::call_of))]
 pub fn call_of(alloc: Global, row: &StringRecord) -> Result<Call, Memory>
     ensures { IfOk result (λ call. call ≡ call_of (fields_of row.now)) }
 {
-    let project = Text::copy_of(alloc, column(row, 1))?;
-    let issue_type = Text::copy_of(alloc, column(row, 2))?;
+    let project = ToldText::copy_of(alloc, column(row, 1))?;
+    let issue_type = ToldText::copy_of(alloc, column(row, 2))?;
     let summary = Text::copy_of(alloc, column(row, 3))?;
     let set = given_by(alloc, row)?;
     let external = external_of(alloc, column(row, 0))?;
@@ -56,7 +56,7 @@ fn put_given(alloc: Global, name: &str, text: &str, set: &mut GivenFields) -> Re
     if text.is_empty() {
         return Ok(());
     }
-    let name = Text::copy_of(alloc, name)?;
-    let given = Given::Text(Text::copy_of(alloc, text)?);
+    let name = ToldText::copy_of(alloc, name)?;
+    let given = Given::Text(ToldText::copy_of(alloc, text)?);
     set.push(GivenField { name, given })
 }

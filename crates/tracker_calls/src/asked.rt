@@ -13,9 +13,10 @@ use crate::members::{
 };
 use crate::named::take_external;
 use crate::reply::Refusal;
-use crate::taken::{take_text, take_user};
+use crate::taken::{take_text, take_told, take_user};
+use crate::told_text::ToldText;
 use crate::user_name::UserName;
-use field_values::{BoardNo, FilterNo, Text};
+use field_values::{BoardNo, FilterNo};
 use serde_json::{Map, Value};
 use std::alloc::Global;
 
@@ -77,8 +78,8 @@ fn create_of(alloc: Global, members: &mut Map<String, Value>) -> Result<(UserNam
     if let Some(other) = first_other(CallKind::Create, members) {
         return misses(alloc, other);
     }
-    let project = take_text(alloc, members, "project");
-    let issue_type = take_text(alloc, members, "type");
+    let project = take_told(alloc, members, "project");
+    let issue_type = take_told(alloc, members, "type");
     let summary = take_text(alloc, members, "summary");
     let user = take_user(alloc, members);
     Ok((
@@ -106,7 +107,7 @@ fn edit_of(alloc: Global, members: &mut Map<String, Value>) -> Result<(UserName,
     if let Some(other) = first_other(CallKind::Edit, members) {
         return misses(alloc, other);
     }
-    let issue = take_text(alloc, members, "issue");
+    let issue = take_told(alloc, members, "issue");
     let user = take_user(alloc, members);
     Ok((user, Call::Edit { issue, set }))
 }
@@ -130,8 +131,8 @@ fn transition_of(
     if let Some(other) = first_other(CallKind::Transition, members) {
         return misses(alloc, other);
     }
-    let issue = take_text(alloc, members, "issue");
-    let transition = take_text(alloc, members, "transition");
+    let issue = take_told(alloc, members, "issue");
+    let transition = take_told(alloc, members, "transition");
     let user = take_user(alloc, members);
     Ok((
         user,
@@ -174,13 +175,13 @@ fn move_of(
     if let Some(other) = first_other(kind, members) {
         return misses(alloc, other);
     }
-    let issue = take_text(alloc, members, "issue");
-    let other = take_text(alloc, members, "other");
+    let issue = take_told(alloc, members, "issue");
+    let other = take_told(alloc, members, "other");
     let user = take_user(alloc, members);
     Ok((user, moved(kind, issue, other)))
 }
 
-fn moved(kind: CallKind, issue: Text, other: Text) -> Call
+fn moved(kind: CallKind, issue: ToldText, other: ToldText) -> Call
     ensures { result ≡ moved kind issue other }
 {
     match kind {
@@ -319,7 +320,7 @@ fn show_of(alloc: Global, members: &mut Map<String, Value>) -> Result<(UserName,
     if let Some(other) = first_other(CallKind::Show, members) {
         return misses(alloc, other);
     }
-    let issue = take_text(alloc, members, "issue");
+    let issue = take_told(alloc, members, "issue");
     let user = take_user(alloc, members);
     Ok((user, Call::Show { issue }))
 }
@@ -340,7 +341,7 @@ fn history_of(alloc: Global, members: &mut Map<String, Value>) -> Result<(UserNa
     if let Some(other) = first_other(CallKind::History, members) {
         return misses(alloc, other);
     }
-    let issue = take_text(alloc, members, "issue");
+    let issue = take_told(alloc, members, "issue");
     let user = take_user(alloc, members);
     Ok((
         user,

@@ -3,6 +3,7 @@ ghost use Rattle.std.specs.Prelude.{◌≡◌, map};
 ghost use Rattle.tracker_calls.specs.Asked.{kind_named, call_members};
 
 use crate::given::GivenFields;
+use crate::told_text::ToldText;
 use field_forms::short_text::is_same;
 use field_values::{BoardNo, FilterNo, Moment, Names, SprintNo, Text};
 
@@ -10,8 +11,8 @@ use field_values::{BoardNo, FilterNo, Moment, Names, SprintNo, Text};
 pub enum Call {
     /// A new issue of the project.
     Create {
-        project: Text,
-        issue_type: Text,
+        project: ToldText,
+        issue_type: ToldText,
         summary: Text,
         set: GivenFields,
         /// The issue's number or name where it came from: 1 to 64 printable characters of ASCII.
@@ -20,7 +21,7 @@ pub enum Call {
 
     /// Fields of the issue are to hold these values.
     Edit {
-        issue: Text,
+        issue: ToldText,
         set: GivenFields,
     },
 
@@ -31,21 +32,21 @@ pub enum Call {
 
     /// The issue is to make the transition of that name, and its fields are to hold these values before it.
     Transition {
-        issue: Text,
-        transition: Text,
+        issue: ToldText,
+        transition: ToldText,
         set: GivenFields,
     },
 
     /// The issue is to stand right before the other one in the order of ranks.
     MoveBefore {
-        issue: Text,
-        other: Text,
+        issue: ToldText,
+        other: ToldText,
     },
 
     /// The issue is to stand right behind the other one in the order of ranks.
     MoveAfter {
-        issue: Text,
-        other: Text,
+        issue: ToldText,
+        other: ToldText,
     },
 
     /// All ranks are to be on the way to the next bucket.
@@ -106,12 +107,12 @@ pub enum Call {
 
     /// The issue's present values.
     Show {
-        issue: Text,
+        issue: ToldText,
     },
 
     /// A part of the issue's entries, the oldest first.
     History {
-        issue: Text,
+        issue: ToldText,
         part: Part,
     },
 

@@ -5,6 +5,7 @@ ghost use Rattle.tracker_calls.specs.declared.call.Call.TheVariants as calls;
 use crate::call::Call;
 use crate::given::{Given, GivenField, GivenFields};
 use crate::reply_copy::text_if_any;
+use crate::told_text::ToldText;
 use field_values::{Memory, Names, Text};
 use std::alloc::Global;
 
@@ -81,8 +82,8 @@ impl Call {
 
 fn copy_create(
     alloc: Global,
-    project: &Text,
-    issue_type: &Text,
+    project: &ToldText,
+    issue_type: &ToldText,
     summary: &Text,
     set: &GivenFields,
     external: Option<&Text>,
@@ -104,7 +105,7 @@ fn copy_create(
     })
 }
 
-fn copy_edit(alloc: Global, issue: &Text, set: &GivenFields) -> Result<Call, Memory>
+fn copy_edit(alloc: Global, issue: &ToldText, set: &GivenFields) -> Result<Call, Memory>
     ensures { IfOk result (λ c. c ≡ calls.Edit issue.now set.now) }
 {
     let issue = issue.copy(alloc)?;
@@ -114,8 +115,8 @@ fn copy_edit(alloc: Global, issue: &Text, set: &GivenFields) -> Result<Call, Mem
 
 fn copy_transition(
     alloc: Global,
-    issue: &Text,
-    transition: &Text,
+    issue: &ToldText,
+    transition: &ToldText,
     set: &GivenFields,
 ) -> Result<Call, Memory>
     ensures { IfOk result (λ c. c ≡ calls.Transition issue.now transition.now set.now) }
@@ -130,7 +131,7 @@ fn copy_transition(
     })
 }
 
-fn copy_move_before(alloc: Global, issue: &Text, other: &Text) -> Result<Call, Memory>
+fn copy_move_before(alloc: Global, issue: &ToldText, other: &ToldText) -> Result<Call, Memory>
     ensures { IfOk result (λ c. c ≡ calls.MoveBefore issue.now other.now) }
 {
     let issue = issue.copy(alloc)?;
@@ -138,7 +139,7 @@ fn copy_move_before(alloc: Global, issue: &Text, other: &Text) -> Result<Call, M
     Ok(Call::MoveBefore { issue, other })
 }
 
-fn copy_move_after(alloc: Global, issue: &Text, other: &Text) -> Result<Call, Memory>
+fn copy_move_after(alloc: Global, issue: &ToldText, other: &ToldText) -> Result<Call, Memory>
     ensures { IfOk result (λ c. c ≡ calls.MoveAfter issue.now other.now) }
 {
     let issue = issue.copy(alloc)?;

@@ -10,6 +10,7 @@ ghost use Rattle.tracker_calls.specs.Seen.{seen_by, is_other};
 ghost use Rattle.tracker_calls.specs.Taken.{object_of, without};
 
 use crate::taken::{take, text_of};
+use crate::told_text::ToldText;
 use field_values::{Memory, Names, Text};
 use serde_json::{Map, Value};
 use std::alloc::Global;
@@ -23,7 +24,7 @@ const FEW: usize = 8;
 #[derive(Drop)]
 pub enum Given {
     Null,
-    Text(Text),
+    Text(ToldText),
     /// An array that has texts alone.
     List(Names),
     /// A whole number without a sign.
@@ -35,7 +36,7 @@ pub enum Given {
 /// A field by its name, and what is given for it.
 #[derive(Drop)]
 pub struct GivenField {
-    pub name: Text,
+    pub name: ToldText,
     pub given: Given,
 }
 
@@ -243,7 +244,7 @@ fn put_given(
         ≡ fields.old ++ (record { name = string_bytes name; given = given_of (view value) }) ∷ []) }
 {
     let given = given_of(alloc, value)?;
-    let name = Text::of(name);
+    let name = ToldText::of(Text::of(name));
     fields.push(GivenField { name, given })
 }
 
@@ -252,7 +253,7 @@ fn given_of(alloc: Global, value: Value) -> Result<Given, Memory>
 {
     match value {
         Value::Null => Ok(Given::Null),
-        Value::String(text) => Ok(Given::Text(Text::of(text))),
+        Value::String(text) => Ok(Given::Text(ToldText::of(Text::of(text)))),
         Value::Number(number) => Ok(match number.as_u64() {
             Some(n) => Given::Number(n),
             None => Given::Other,

@@ -6,6 +6,7 @@ ghost use Rattle.tracker_calls.specs.Plain.{AskFor, HaveNoOther, values_of};
 
 use crate::call::{Call, CallKind, MOST_ENTRIES, MOST_LISTED, Part};
 use crate::plain_members::{member, set_at, set_if_there, text_member};
+use crate::told_text::ToldText;
 use field_values::{Memory, Text};
 use json::Value;
 use std::alloc::Global;
@@ -52,8 +53,8 @@ fn create_in<'a>(alloc: Global, members: &[(&'a str, Value<'a>)]) -> Result<Opti
     let Some(set) = set_if_there(alloc, members)? else {
         return Ok(None);
     };
-    let project = Text::copy_of(alloc, project)?;
-    let issue_type = Text::copy_of(alloc, issue_type)?;
+    let project = ToldText::copy_of(alloc, project)?;
+    let issue_type = ToldText::copy_of(alloc, issue_type)?;
     let summary = Text::copy_of(alloc, summary)?;
     Ok(Some(Call::Create {
         project,
@@ -74,7 +75,7 @@ fn edit_in<'a>(alloc: Global, members: &[(&'a str, Value<'a>)]) -> Result<Option
     let Some(set) = set_at(alloc, members)? else {
         return Ok(None);
     };
-    let issue = Text::copy_of(alloc, issue)?;
+    let issue = ToldText::copy_of(alloc, issue)?;
     Ok(Some(Call::Edit { issue, set }))
 }
 
@@ -94,8 +95,8 @@ fn transition_in<'a>(
     let Some(set) = set_if_there(alloc, members)? else {
         return Ok(None);
     };
-    let issue = Text::copy_of(alloc, issue)?;
-    let transition = Text::copy_of(alloc, transition)?;
+    let issue = ToldText::copy_of(alloc, issue)?;
+    let transition = ToldText::copy_of(alloc, transition)?;
     Ok(Some(Call::Transition {
         issue,
         transition,
@@ -133,7 +134,7 @@ fn move_after_in<'a>(
 fn moved_in<'a>(
     alloc: Global,
     members: &[(&'a str, Value<'a>)],
-) -> Result<Option<(Text, Text)>, Memory>
+) -> Result<Option<(ToldText, ToldText)>, Memory>
     ensures issue { IfOk result (λ found. IfSome found (λ moved.
         text_at (codes "issue") (object (values_of members.now)) ≡ Some moved.0)) }
     ensures other { IfOk result (λ found. IfSome found (λ moved.
@@ -148,8 +149,8 @@ fn moved_in<'a>(
     if other == issue {
         return Ok(None);
     }
-    let issue = Text::copy_of(alloc, issue)?;
-    let other = Text::copy_of(alloc, other)?;
+    let issue = ToldText::copy_of(alloc, issue)?;
+    let other = ToldText::copy_of(alloc, other)?;
     Ok(Some((issue, other)))
 }
 
@@ -160,7 +161,7 @@ fn show_in<'a>(alloc: Global, members: &[(&'a str, Value<'a>)]) -> Result<Option
     let Some(issue) = text_member(members, "issue") else {
         return Ok(None);
     };
-    let issue = Text::copy_of(alloc, issue)?;
+    let issue = ToldText::copy_of(alloc, issue)?;
     Ok(Some(Call::Show { issue }))
 }
 
@@ -178,7 +179,7 @@ fn history_in<'a>(alloc: Global, members: &[(&'a str, Value<'a>)]) -> Result<Opt
     let None = member(members, "count") else {
         return Ok(None);
     };
-    let issue = Text::copy_of(alloc, issue)?;
+    let issue = ToldText::copy_of(alloc, issue)?;
     Ok(Some(Call::History {
         issue,
         part: Part {

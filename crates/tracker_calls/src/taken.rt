@@ -4,6 +4,7 @@ ghost use Rattle.serde_json.specs.Find.{as_str, get_member};
 ghost use Rattle.serde_json.specs.View.{view, members_view};
 ghost use Rattle.tracker_calls.specs.Taken.{object_of, text_in, without};
 
+use crate::told_text::ToldText;
 use crate::user_name::UserName;
 use field_values::Text;
 use serde_json::{Map, Value};
@@ -41,9 +42,18 @@ pub fn take_text(alloc: Global, members: &mut Map<String, Value>, name: &str) ->
     }
 }
 
+/// The same, as a text that a call tells.
+pub fn take_told(alloc: Global, members: &mut Map<String, Value>, name: &str) -> ToldText
+    ensures text { result ≡ text_in name.now (object_of members.old) }
+    ensures left { members_view members.new.entries
+        ≡ without name.now (members_view members.old.entries) }
+{
+    ToldText::of(take_text(alloc, members, name))
+}
+
 /// Takes the name of who asks out.
 pub fn take_user(alloc: Global, members: &mut Map<String, Value>) -> UserName
     ensures { result ≡ text_in (codes "user") (object_of members.old) }
 {
-    UserName::of(take_text(alloc, members, "user"))
+    UserName::of(take_told(alloc, members, "user"))
 }

@@ -8,7 +8,8 @@ use std::marker::Model;
 // Keys, nearly all ranks, and most names and values have no more bytes.
 const SHORT: usize = 32;
 
-/// A text that an answer tells. A short one lies in the answer itself, so that it takes no memory. Contracts see it as its bytes.
+/// A text that a line or an answer tells. A copy of a short one lies in the call or the answer itself, so that it takes no memory.
+/// Contracts see it as its bytes.
 #[derive(Drop)]
 pub struct ToldText {
     kept: KeptText,
@@ -51,7 +52,7 @@ impl ToldText {
         }
     }
 
-    /// That text.
+    /// That text, which stays where it is.
     pub fn of(text: Text) -> Self
         ensures { result ≡ text }
     {

@@ -1,13 +1,14 @@
 ghost use Rattle.std.specs.Prelude.{◌≡◌, IfOk};
 
-use field_values::{Memory, Text};
+use crate::told_text::ToldText;
+use field_values::Memory;
 use std::alloc::Global;
 use std::marker::Model;
 
 /// The name of who makes a call, as the line gives it. Contracts see it as its bytes.
 #[derive(Drop)]
 pub struct UserName {
-    name: Text,
+    name: ToldText,
 }
 
 impl Model for UserName {
@@ -23,12 +24,12 @@ impl UserName {
     pub fn copy_of(alloc: Global, name: &str) -> Result<Self, Memory>
         ensures { IfOk result (λ user. user ≡ name.now) }
     {
-        let name = Text::copy_of(alloc, name)?;
+        let name = ToldText::copy_of(alloc, name)?;
         Ok(UserName { name })
     }
 
     /// The name that the text is.
-    pub(crate) fn of(name: Text) -> Self
+    pub(crate) fn of(name: ToldText) -> Self
         ensures { result ≡ name }
     {
         UserName { name }

@@ -14,9 +14,9 @@ fn put_number(out: &mut Vec<u8>, number: u32) -> Result<(), AllocError> {
     out.extend_from_slice(buffer.format(number).as_bytes())
 }
 
-fn put_text(out: &mut Vec<u8>, text: &Text) -> Result<(), AllocError> {
+fn put_text(out: &mut Vec<u8>, text: &str) -> Result<(), AllocError> {
     out.push(b' ')?;
-    out.extend_from_slice(text.as_str().as_bytes())
+    out.extend_from_slice(text.as_bytes())
 }
 
 fn put_part(out: &mut Vec<u8>, part: Part) -> Result<(), AllocError> {
@@ -28,16 +28,16 @@ fn put_call(out: &mut Vec<u8>, call: &Call) -> Result<(), AllocError> {
     match call {
         Call::Show { issue } => {
             out.extend_from_slice(b" show")?;
-            put_text(out, issue)
+            put_text(out, issue.as_str())
         }
         Call::History { issue, part } => {
             out.extend_from_slice(b" history")?;
-            put_text(out, issue)?;
+            put_text(out, issue.as_str())?;
             put_part(out, *part)
         }
         Call::Search { jql, part } => {
             out.extend_from_slice(b" search")?;
-            put_text(out, jql)?;
+            put_text(out, jql.as_str())?;
             put_part(out, *part)
         }
         Call::Filter { filter, part } => {
@@ -69,7 +69,7 @@ fn put_asked(
             out.extend_from_slice(user.as_str().as_bytes())?;
             put_call(out, call)
         }
-        Err(Refusal::Form { member }) => put_text(out, member),
+        Err(Refusal::Form { member }) => put_text(out, member.as_str()),
         Err(_) => out.extend_from_slice(b"?"),
     }
 }

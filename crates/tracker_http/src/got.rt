@@ -7,7 +7,7 @@ use crate::named::{issue_in, number_in};
 use crate::query::{Pair, first_unknown, part_in, text_in};
 use field_values::{BoardNo, FilterNo, SprintNo, Text};
 use std::alloc::Global;
-use tracker_calls::{Call, MOST_ENTRIES, MOST_LISTED, Part, Refusal, UserName, misses};
+use tracker_calls::{Call, MOST_ENTRIES, MOST_LISTED, Part, Refusal, ToldText, UserName, misses};
 
 /// An issue's present values.
 pub fn show_of(
@@ -24,7 +24,7 @@ pub fn show_of(
     if let Some(other) = first_unknown(pairs, &[]) {
         return misses(alloc, other);
     }
-    let issue = Text::copy_of(alloc, issue)?;
+    let issue = ToldText::copy_of(alloc, issue)?;
     let user = UserName::copy_of(alloc, user)?;
     Ok((user, Call::Show { issue }))
 }
@@ -45,7 +45,7 @@ pub fn history_of(
         Ok(part) => part,
         Err(member) => return misses(alloc, member),
     };
-    let issue = Text::copy_of(alloc, issue)?;
+    let issue = ToldText::copy_of(alloc, issue)?;
     let user = UserName::copy_of(alloc, user)?;
     Ok((user, Call::History { issue, part }))
 }

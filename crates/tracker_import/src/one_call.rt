@@ -6,7 +6,7 @@ ghost use Rattle.tracker_import.specs.Load.{create, finish, into_sprint, key, ma
 
 use field_values::{Memory, Moment, Text};
 use std::alloc::Global;
-use tracker_calls::{Call, Given, GivenField, GivenFields};
+use tracker_calls::{Call, Given, GivenField, GivenFields, ToldText};
 
 /// A tick to that second.
 pub fn tick(to: u32) -> Call
@@ -24,11 +24,11 @@ pub fn create(alloc: Global, i: u32) -> Result<Call, Memory>
     ensures { IfOk result (λ c. c ≡ create i) }
 {
     let points = i % 8;
-    let points = Text::of(format!(in alloc; "{points}")?);
+    let points = ToldText::of(Text::of(format!(in alloc; "{points}")?));
     let set = with_value(alloc, "points", Given::Text(points))?;
     let summary = Text::of(format!(in alloc; "load {i}")?);
-    let project = Text::copy_of(alloc, "OPS")?;
-    let issue_type = Text::copy_of(alloc, "Task")?;
+    let project = ToldText::copy_of(alloc, "OPS")?;
+    let issue_type = ToldText::copy_of(alloc, "Task")?;
     Ok(Call::Create {
         project,
         issue_type,
@@ -79,7 +79,7 @@ fn transition(alloc: Global, i: u32, name: &str) -> Result<Call, Memory>
     ensures { IfOk result (λ c. c ≡ call.Transition (key i) name.now []) }
 {
     let issue = key(alloc, i)?;
-    let transition = Text::copy_of(alloc, name)?;
+    let transition = ToldText::copy_of(alloc, name)?;
     Ok(Call::Transition {
         issue,
         transition,
@@ -104,17 +104,17 @@ pub fn step() -> Call
 }
 
 // The key of the issue of that number.
-fn key(alloc: Global, i: u32) -> Result<Text, Memory>
+fn key(alloc: Global, i: u32) -> Result<ToldText, Memory>
     ensures { IfOk result (λ text. text ≡ key i) }
 {
-    Ok(Text::of(format!(in alloc; "OPS-{i}")?))
+    Ok(ToldText::of(Text::of(format!(in alloc; "OPS-{i}")?)))
 }
 
 // A value for one field.
 fn with_value(alloc: Global, name: &str, given: Given) -> Result<GivenFields, Memory>
     ensures { IfOk result (λ set. set ≡ with_value name.now given) }
 {
-    let name = Text::copy_of(alloc, name)?;
+    let name = ToldText::copy_of(alloc, name)?;
     let mut set = GivenFields::new(alloc);
     set.push(GivenField { name, given })?;
     Ok(set)

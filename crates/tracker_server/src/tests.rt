@@ -25,7 +25,7 @@ impl Maker for SetReplies {
         match call {
             Call::Tick { to } => Reply::Ok(Answer::Tick { moment: *to }),
             Call::Search { .. } => found(self.alloc),
-            Call::Show { issue } => unknown(self.alloc, issue),
+            Call::Show { issue } => unknown(self.alloc, issue.as_str()),
             _ => Reply::Refused(Refusal::Memory),
         }
     }
@@ -44,8 +44,8 @@ fn first_issue(alloc: Global) -> Result<Names, Memory> {
     Ok(issues)
 }
 
-fn unknown(alloc: Global, issue: &Text) -> Reply {
-    match issue.copy(alloc) {
+fn unknown(alloc: Global, issue: &str) -> Reply {
+    match Text::copy_of(alloc, issue) {
         Ok(name) => Reply::Refused(Refusal::Unknown {
             kind: Thing::Issue,
             name,
