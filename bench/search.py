@@ -3,10 +3,11 @@
 
 usage: python3 bench/search.py PROGRAM [ISSUES [STORE]]
 
-PROGRAM is the built tracker, as crates/tracker/out/tracker after `rt run` there. STORE is a file that isn't there yet: the issues are put into
-it, which takes minutes, and searched by a run that opens it again; without it, one run in memory does both. The kinds take turns of 20
-searches; each turn is timed by the processor time that the run took meanwhile (Linux's schedstat). Told are the mean of a kind's searches,
-and the median of its turns, which a machine that is slow for a while moves less. Peak memory is that of the run that searches.
+PROGRAM is the built tracker, as crates/tracker/out/tracker after `rt run` there. STORE is a file: where it isn't there yet the issues are put
+into it, which takes minutes, and a run that opens it again searches them; one that an earlier run made is searched as it is. Without it, one
+run in memory does both. The kinds take turns of 20 searches; each turn is timed by the processor time that the run took meanwhile (Linux's
+schedstat). Told are the mean of a kind's searches, and the median of its turns, which a machine that is slow for a while moves less. Peak
+memory is that of the run that searches.
 """
 import json
 import os
@@ -87,15 +88,16 @@ class Run:
 def main():
     number = int(sys.argv[2]) if len(sys.argv) > 2 else 10_000
     store = sys.argv[3] if len(sys.argv) > 3 else None
-    if store and os.path.exists(store):
-        sys.exit(f'{store} is there already')
-    issues = list(load(number))
+    is_filled = store is not None and os.path.exists(store)
     run = Run(sys.argv[1], store or ':memory:')
-    took = run.answer(issues)
-    print(f'{len(issues)} lines for {number} issues: {took:.2f} s of processor time, {len(issues) / took:,.0f} lines a second')
-    if store:
+    if not is_filled:
+        issues = list(load(number))
+        took = run.answer(issues)
+        print(f'{len(issues)} lines for {number} issues: {took:.2f} s of processor time, {len(issues) / took:,.0f} lines a second')
+    if store and not is_filled:
         run.end()
         run = Run(sys.argv[1], store)
+    if store:
         run.answer([line('cy', 'search', jql='')])
     turns = {jql: [] for jql in KINDS}
     for _ in range(EACH // IN_TURN):
