@@ -1,4 +1,3 @@
-pub mod ByName
 pub mod ShortTexts
 pub mod Cutting
 pub mod Finding

@@ -1,7 +1,6 @@
 pub mod Names
 pub mod BuiltIn
 pub mod NameForms
-pub mod ByName
 pub mod Cuts
 pub mod Numbers
 pub mod TextLists

@@ -2,7 +2,6 @@
 #![tactic(auto)]
 
 pub mod built_in;
-pub mod by_name;
 pub mod cut;
 pub mod fit;
 pub mod form;

@@ -1,8 +1,12 @@
 -- What fields hold, and what entries do.
 use Rattle.std.proofs.Common.{◌≡◌, ℕ, zero, suc, List, [], ◌∷◌, take, drop, true, inl, inr, refl, sym, subst}
+use Rattle.civil_dates.specs.Days.{is_day}
+use Rattle.field_values.specs.declared.numbers.Day.{Day}
+use Rattle.field_values.specs.declared.numbers.FieldNo.{FieldNo}
 use Rattle.field_values.specs.declared.value.Value.{Value}
 use Rattle.field_values.specs.declared.value.Value.TheVariants as value
 use Rattle.field_forms.specs.Known.{Names, fits, form_of, choices_of}
+use Rattle.field_forms.proofs.Fitting.{fits_says}
 use Rattle.field_values.specs.declared.numbers.TheConstants.FieldNo.{REPORTER as reporter}
 use Rattle.change_history.specs.declared.entry.Entry.{Entry}
 use Rattle.tracker_machine.specs.Tracker.{Holds, AllEntriesHold}
@@ -29,3 +33,8 @@ nobody_fits names = refl
 pub reporter_fits : (names : Names) (v : Value) → Holds names reporter v → fits names reporter.0 v ≡ true
 reporter_fits names v (inl empty) = subst (λ w. fits names reporter.0 w ≡ true) (sym empty) (nobody_fits names)
 reporter_fits names v (inr fit) = fit
+
+-- a day that a field holds is one of the years 1970 to 2099
+pub day_held : (names : Names) (f : FieldNo) (day : Day) → Holds names f (value.Date day) → is_day day.0 ≡ true
+day_held names f day (inl empty) = absurd (cc)
+day_held names f day (inr fit) = fits_says names f.0 (value.Date day) fit

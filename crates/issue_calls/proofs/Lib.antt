@@ -3,3 +3,4 @@ pub mod Holding
 pub mod Means
 pub mod Ops
 pub mod Showing
+pub mod Writing

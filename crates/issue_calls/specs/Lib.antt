@@ -1,3 +1,4 @@
 pub mod Create
 pub mod Group
 pub mod Rows
+pub mod Written

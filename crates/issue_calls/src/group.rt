@@ -119,7 +119,8 @@ fn new_group(
     let group = group_of(alloc, state, caller, place, net)?;
     let bytes = bytes_of_entries(group.entries.as_slice());
     let row = row_of(alloc, state, place, &group)?;
-    let rows = row_ops(alloc, state.balance(), group.change, group.at, row)?;
+    let room = state.take_row_room(alloc);
+    let rows = row_ops(alloc, room, state.balance(), group.change, group.at, row)?;
     reserve(state, place, group.entries.as_slice())?;
     let new = GroupPlan {
         place,

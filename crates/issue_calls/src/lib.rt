@@ -11,5 +11,8 @@ pub mod history;
 mod new_issue;
 mod rows;
 pub mod show;
+mod spelled;
 mod told;
 pub mod transition;
+pub mod written_show;
+mod written_value;

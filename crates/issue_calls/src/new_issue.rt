@@ -85,7 +85,8 @@ fn open(
 {
     state.is_tracker();
     let (new, row) = new_issue(alloc, state, caller, values, rank, external)?;
-    let rows = issue_ops(alloc, state, row, &new)?;
+    let room = state.take_row_room(alloc);
+    let rows = issue_ops(alloc, room, state, row, &new)?;
     let told = ToldText::copy_of(alloc, new.key.as_str())?;
     reserve(state, &new)?;
     let answer = Answer::Create {
@@ -129,8 +130,14 @@ fn reserve_external(state: &mut State, external: &Option<NewExternal>) -> Result
     }
 }
 
-// The operations that keep a new issue, its rank and its external id.
-fn issue_ops(alloc: Global, state: &State, row: Row, new: &IssuePlan) -> Result<Vec<RowOp>, Memory>
+// The operations that keep a new issue, its rank and its external id, in the room of these, which they take the place of.
+fn issue_ops(
+    alloc: Global,
+    room: Vec<RowOp>,
+    state: &State,
+    row: Row,
+    new: &IssuePlan,
+) -> Result<Vec<RowOp>, Memory>
     ensures { IfOk result (λ ops. ops.items
         ≡ present_op state.now.machine.balance (state.now.machine.change + 1)
         state.now.machine.moment
@@ -139,6 +146,7 @@ fn issue_ops(alloc: Global, state: &State, row: Row, new: &IssuePlan) -> Result<
 {
     let mut ops = row_ops(
         alloc,
+        room,
         state.balance(),
         state.next_change(),
         state.moment(),

@@ -6,11 +6,13 @@ use fields::{Memory, Moment};
 use rank_balancer::Balance;
 use std::alloc::Global;
 use tracker_keeper::{Row, RowOp};
-use tracker_state::present_ops;
+use tracker_state::put_present;
 
-/// The operations that keep a new row, with the number of the last change that it brings.
+/// The operations that keep a new row, with the number of the last change that it brings, in the room of these,
+/// which they take the place of.
 pub fn row_ops(
     alloc: Global,
+    room: Vec<RowOp>,
     balance: Balance,
     change: u64,
     moment: Moment,
@@ -19,7 +21,9 @@ pub fn row_ops(
     ensures { IfOk result (λ ops. ops.items
         ≡ present_op balance change moment ∷ RowOp.Put row ∷ []) }
 {
-    let mut ops = present_ops(alloc, balance, change, moment)?;
+    let mut ops = room;
+    ops.clear();
+    put_present(alloc, &mut ops, balance, change, moment)?;
     ops.push(RowOp::Put(row))?;
     Ok(ops)
 }

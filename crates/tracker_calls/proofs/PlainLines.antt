@@ -24,7 +24,7 @@ use Rattle.tracker_calls.specs.declared.call.CallKind.{CallKind}
 use Rattle.tracker_calls.specs.Asked.{names_of, first_other, is_member, line_of, call_of, need}
 use Rattle.tracker_calls.specs.Plain.{Named, is_text, text_in, text_of, texts_in, are_texts_in, is_plain, plain_data, with_texts, texts_of, with_values, values_of, last_value, texts_by}
 use Rattle.tracker_calls.proofs.AskedLines.{data_of-text}
-use Rattle.field_forms.specs.ByName.{name_cmp}
+use Rattle.short_lists.specs.ByName.{name_cmp}
 
 both : (a b : Bool) → (a && b) ≡ true → (a ≡ true) × (b ≡ true)
 both true true e = (refl, refl)

@@ -1,3 +1,4 @@
+pub mod AnswerLines
 pub mod Commands
 pub mod Counted
 pub mod Grammar

@@ -1,11 +1,11 @@
 -- A line that a desk answers, and what it has kept then.
-use Rattle.std.specs.Prelude.{ℕ, List}
+use Rattle.std.specs.Prelude.{◌≡◌, ℕ, List, Result, OnOk}
 use Rattle.tracker_core.specs.Desk.{DeskParts}
 use Rattle.tracker_keeper.specs.Rows.{Rows}
 use Rattle.tracker_machine.specs.Kept.{rows_of}
 use Rattle.tracker_calls.specs.declared.reply.Reply.{Reply}
 use Rattle.tracker_machine.specs.Machine.{Machine}
-use Rattle.tracker_machine.specs.Run.{AnswersLine, RepliesTo, failures_at}
+use Rattle.tracker_machine.specs.Run.{AnswersLine, RepliesTo, failures_at, reply_line}
 pub use Rattle.tracker_import.specs.Calls.{RoseBy}
 
 -- the reply to a line and the state after it, under some mark; and where that is of a keeper that failed, its count rose
@@ -13,6 +13,13 @@ pub record IsReplied (old : Machine) (line : List ℕ) (reply : Reply) (new : Ma
     (before now : ℕ) : Type 0 where
   pub replies : RepliesTo old line reply new
   pub counted : RoseBy before now (failures_at replies.mark)
+
+-- a reply of which this is so; where there was memory for its line, that is this text
+pub record HasLine {T E : Type 0} (Is : Reply → Type 0) (result : Result T E)
+    (text : List ℕ) : Type 0 where
+  pub reply : Reply
+  pub is : Is reply
+  pub line_is : OnOk result (text ≡ reply_line reply)
 
 -- the line is answered as the abstract tracker answers it; the keeper has the tracker's rows then, if it had them before; and
 -- where the line is answered that the keeper failed, its count rose

@@ -1,8 +1,9 @@
 // Request lines that a desk answers.
-ghost use Rattle.std.specs.Prelude.{◌≡◌};
+ghost use Rattle.std.specs.Prelude.{◌≡◌, ◌++◌, ◌∷◌, [], OnOk};
 ghost use Rattle.tracker_machine.specs.Run.{is_blank, is_blank_byte};
 ghost use Rattle.tracker_machine.specs.Kept.{rows_of};
-ghost use Rattle.tracker_cli.specs.Answering.{AnswersKept, IsReplied};
+ghost use Rattle.tracker_cli.specs.Answering.{AnswersKept, HasLine, IsReplied};
+ghost use Rattle.tracker_cli.specs.Serving.{MakesCall};
 
 use fields::Steps;
 use request_lines::Responder;
@@ -58,17 +59,50 @@ impl<L: Ledger, P: Keeper + Drop> RequestLines<L, P> {
         desk.close()
     }
 
-    // Makes a line's call.
-    fn reply_to(&mut self, line: &[u8]) -> Reply
-        ensures reply { IsReplied self.old.machine line.now result self.new.machine
-            (P.faults self.old.keeper) (P.faults self.new.keeper) }
+    // Makes a line's call, and puts the line of its reply in place of what the answer held.
+    fn answer_line(&mut self, line: &[u8], answer: &mut Vec<u8>) -> Result<(), AllocError>
+        ensures reply { HasLine (λ reply. IsReplied self.old.machine line.now reply self.new.machine
+            (P.faults self.old.keeper) (P.faults self.new.keeper)) result answer.new.items }
         ensures rows { P.keeps self.old.keeper (rows_of self.old.machine) →
             P.keeps self.new.keeper (rows_of self.new.machine) }
         ensures told { P.tells self.new.keeper → P.tells self.old.keeper }
     {
         match read_line_in(self.alloc, &mut self.scratch, line) {
-            Ok((user, call)) => self.desk.call(&user, &call, &mut self.steps),
-            Err(refusal) => Reply::Refused(refusal),
+            Ok((user, call)) => self.answer_call(&user, &call, answer),
+            Err(refusal) => put_reply_line(self.alloc, &Reply::Refused(refusal), answer),
+        }
+    }
+
+    // The same of a call.
+    fn answer_call(
+        &mut self,
+        caller: &UserName,
+        call: &Call,
+        answer: &mut Vec<u8>,
+    ) -> Result<(), AllocError>
+        ensures { HasLine (λ reply. MakesCall P.keeps P.tells P.faults self.old
+            caller.now call.now reply self.new) result answer.new.items }
+    {
+        if let Call::Show { issue } = call {
+            return self.answer_show(caller, issue.as_str(), answer);
+        }
+        let reply = self.desk.call(caller, call, &mut self.steps);
+        put_reply_line(self.alloc, &reply, answer)
+    }
+
+    // The same of a show, of which no reply is made: its text is written from the state.
+    fn answer_show(
+        &self,
+        caller: &UserName,
+        issue: &str,
+        answer: &mut Vec<u8>,
+    ) -> Result<(), AllocError>
+        ensures { HasLine (λ reply. MakesCall P.keeps P.tells P.faults self.now
+            caller.now (Call.Show issue.now) reply self.now) result answer.new.items }
+    {
+        match self.desk.write_show(caller, issue, answer) {
+            Ok(()) => end_line(answer),
+            Err(refusal) => put_reply_line(self.alloc, &Reply::Refused(refusal), answer),
         }
     }
 }
@@ -81,8 +115,7 @@ impl<L: Ledger, P: Keeper + Drop> Responder for RequestLines<L, P> {
         if is_blank(line) {
             return Ok(());
         }
-        let reply = self.reply_to(line);
-        put_reply_line(self.alloc, &reply, answer)
+        self.answer_line(line, answer)
     }
 }
 
@@ -99,6 +132,13 @@ impl<L: Ledger, P: Keeper + Drop> Maker for RequestLines<L, P> {
     fn call(&mut self, caller: &UserName, call: &Call) -> Reply {
         self.desk.call(caller, call, &mut self.steps)
     }
+}
+
+fn end_line(answer: &mut Vec<u8>) -> Result<(), AllocError>
+    ensures { OnOk result (answer.new.items ≡ answer.old.items ++ 10 ∷ []) }
+{
+    answer.push(b'\n')?;
+    Ok(())
 }
 
 fn is_blank(line: &[u8]) -> bool

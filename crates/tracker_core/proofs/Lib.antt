@@ -3,3 +3,4 @@ pub mod Forms
 pub mod Kept
 pub mod Order
 pub mod Steps
+pub mod Shows

@@ -1,6 +1,8 @@
 //! Kept rows: what keeps them, and the text of each part of a tracker.
 #![tactic(auto)]
 
+mod back;
+mod body;
 mod forms;
 mod keeper;
 pub mod laws;

@@ -1,6 +1,5 @@
 // Kept rows, and operations on them.
 ghost use Rattle.std.specs.Prelude.{◌≡◌, IfOk};
-ghost use Rattle.tracker_keeper.specs.Rows.{op_leaving};
 
 use field_values::{Memory, Text};
 use std::alloc::Global;
@@ -36,16 +35,6 @@ impl Row {
 }
 
 impl RowOp {
-    /// The operation that leaves that body, or none, at that kind and number.
-    pub(crate) fn leaving(kind: u8, no: u64, body: Option<Text>) -> RowOp
-        ensures { result ≡ op_leaving kind no body }
-    {
-        match body {
-            Some(body) => RowOp::Put(Row { kind, no, body }),
-            None => RowOp::Drop { kind, no },
-        }
-    }
-
     /// The kind and the number of the row that it is on.
     pub(crate) fn place(&self) -> (u8, u64) {
         match self {

@@ -8,6 +8,7 @@ mod keys;
 pub mod no_room;
 mod part;
 mod plan;
+mod row_room;
 mod rows;
 mod state;
 
@@ -18,6 +19,7 @@ pub use keys::key_numbered;
 pub use part::part_of;
 pub use plan::{GroupPlan, IssuePlan, MembersPlan, NewExternal, Plan, Prepared, RankPlan};
 pub use rows::{
-    external_op, members_op, migrating_ops, opening_ops, present_ops, put_rank, rank_op,
+    external_op, members_op, migrating_ops, opening_ops, present_ops, put_present, put_rank,
+    rank_op,
 };
 pub use state::State;

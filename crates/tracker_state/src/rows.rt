@@ -135,10 +135,25 @@ pub fn present_ops(
 ) -> Result<Vec<RowOp>, Memory>
     ensures { IfOk result (λ ops. ops.items ≡ present_op balance change moment ∷ []) }
 {
-    let op = present_op(alloc, balance, change, moment)?;
     let mut ops = Vec::new(alloc);
-    ops.push(op)?;
+    put_present(alloc, &mut ops, balance, change, moment)?;
     Ok(ops)
+}
+
+/// Puts the row of where the tracker stands behind other operations.
+pub fn put_present(
+    alloc: Global,
+    ops: &mut Vec<RowOp>,
+    balance: Balance,
+    change: u64,
+    moment: Moment,
+) -> Result<(), Memory>
+    ensures { OnOk result (ops.new.items
+        ≡ ops.old.items ++ present_op balance change moment ∷ []) }
+{
+    let op = present_op(alloc, balance, change, moment)?;
+    ops.push(op)?;
+    Ok(())
 }
 
 /// Puts the row of an issue's rank behind other operations.

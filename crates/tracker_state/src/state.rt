@@ -29,6 +29,7 @@ use std::marker::Model;
 use tracker_boards::Boards;
 use tracker_filters::Filters;
 use tracker_issues::Issues;
+use tracker_keeper::RowOp;
 use tracker_ranks::Ranks;
 use tracker_setting::Setting;
 use tracker_work::Work;
@@ -44,6 +45,8 @@ pub struct State {
     pub(crate) filters: Filters,
     pub(crate) boards: Boards,
     pub(crate) work: Work,
+    // A list that is kept for its room.
+    pub(crate) row_room: Option<Vec<RowOp>>,
 }
 
 // Written by hand, so that whoever lets one go makes one call, and its proof takes one step there.
@@ -59,6 +62,7 @@ impl Drop for State {
             filters: _,
             boards: _,
             work: _,
+            row_room: _,
         } = self;
     }
 }
@@ -111,6 +115,7 @@ impl State {
             filters,
             boards: Boards::new(alloc),
             work,
+            row_room: None,
         })
     }
 
@@ -142,6 +147,7 @@ impl State {
             filters,
             boards,
             work,
+            row_room: None,
         }
     }
 

@@ -3,12 +3,16 @@ ghost use Rattle.std.specs.Prelude.{◌≡◌, ◌==◌, map, option_map, IfOk, 
 ghost use Rattle.std.specs.Option.{option_map_or};
 ghost use Rattle.fields.specs.SetupParts.{parts};
 ghost use Rattle.tracker_machine.specs.Wanted.{given_for};
-ghost use Rattle.wanted_values.specs.Resolved.{IsResolved, named_in, resolved, is_of, last_given};
+ghost use Rattle.wanted_values.specs.Resolved.{named_in, resolved, is_of, last_given};
 
 use fields::{FieldNo, Memory, Setup};
+use short_lists::ShortList;
 use std::alloc::Global;
 use std::marker::Model;
 use tracker_calls::{Given, GivenField};
+
+// Nearly all calls give no more.
+const FEW: usize = 8;
 
 /// A name in `set`, its field, if it is a field's, and what is given by it.
 #[derive(Clone, Copy)]
@@ -24,7 +28,7 @@ pub struct ResolvedName<'a> {
 pub struct ResolvedSet<'a> {
     setup: &'a Setup,
     set: &'a [GivenField],
-    names: Vec<ResolvedName<'a>>,
+    names: ShortList<ResolvedName<'a>, FEW>,
 }
 
 impl<'a> Model for ResolvedSet<'a> {
@@ -35,7 +39,7 @@ impl<'a> Model for ResolvedSet<'a> {
 
     ghost view = { λ s. record { setup = parts s.setup.now; set = s.set.now } };
 
-    ghost invariant = { λ s. IsResolved s.setup.now.field s.set.now s.names.items };
+    ghost invariant = { λ s. IsResolved s.setup.now.field s.set.now s.names };
 }
 
 impl<'a> ResolvedSet<'a> {
@@ -44,7 +48,15 @@ impl<'a> ResolvedSet<'a> {
         ensures setup { IfOk result (λ given. given.setup ≡ parts setup.now) }
         ensures set { IfOk result (λ given. given.set ≡ set.now) }
     {
-        let names = resolve(alloc, setup, set)?;
+        let mut names = ShortList::new(alloc);
+        for given in set {
+            let name = given.name.as_str();
+            names.push(ResolvedName {
+                name,
+                field: setup.field_named(name),
+                given: &given.given,
+            })?;
+        }
         Ok(ResolvedSet { setup, set, names })
     }
 
@@ -68,29 +80,8 @@ impl<'a> ResolvedSet<'a> {
         ensures { option_map (λ g. g.now) result
             ≡ given_for self.now.setup.field field.0 self.now.set }
     {
-        last_given(&self.names, field)
+        last_given(self.names.as_slice(), field)
     }
-}
-
-// Looks each name up.
-fn resolve<'a>(
-    alloc: Global,
-    setup: &Setup,
-    set: &'a [GivenField],
-) -> Result<Vec<ResolvedName<'a>>, Memory>
-    ensures { IfOk result (λ names. IsResolved setup.now.field set.now names.items) }
-{
-    let mut names = Vec::with_capacity(alloc, set.len())?;
-    for given in set {
-        let name = given.name.as_str();
-        let field = setup.field_named(name);
-        names.push(ResolvedName {
-            name,
-            field,
-            given: &given.given,
-        })?;
-    }
-    Ok(names)
 }
 
 fn is_of(name: ResolvedName<'_>, field: FieldNo) -> bool

@@ -38,7 +38,8 @@ returns-clause-prepared c =
     let project = name_at (project_keys m.setup) values.project.0 in
     let changes = values.changes.items in
     let h : History = opened m c.args.caller.0 project (filled changes) in
-    let same : s.machine ≡ m = c.reserve.ensures.machine in
+    let kept : c.take_row_room-room.new.self.machine ≡ m = ap (λ (h : Held). h.machine) c.take_row_room-room.ensures in
+    let same : s.machine ≡ m = c.reserve.ensures.machine ∙ kept in
     let light : bytes_kept m.histories + history_bytes new.issue.history ≤ 500_000_000 = omega (arith, is_new.light, is_new.bytes, c.requires.may.light) in
     let may : MayOpen m h = record {
       few = c.requires.may.few;
@@ -79,4 +80,5 @@ returns-clause-prepared c =
     (subst (λ r. rows ≡ present_op m.balance (m.change + 1) m.moment ∷ Put r ∷ rank_op h.no c.args.rank ∷ external_ops h.no (id_of new.external)) is_new.row
     (subst (λ (r : RankParts). rows ≡ present_op m.balance (m.change + 1) m.moment ∷ Put c.in_ok-new.row ∷ rank_op h.no r ∷ external_ops h.no (id_of new.external)) is_new.rank
     (subst (λ (i : History). rows ≡ present_op m.balance (m.change + 1) m.moment ∷ Put c.in_ok-new.row ∷ rank_op i.no new.rank ∷ external_ops i.no (id_of new.external)) is_new.history
-    c.in_ok-rows.ensures))))
+    (subst (λ (n : Machine). rows ≡ present_op n.balance (n.change + 1) n.moment ∷ Put c.in_ok-new.row ∷ rank_op new.issue.history.no new.rank ∷ external_ops new.issue.history.no (id_of new.external)) kept
+    c.in_ok-rows.ensures)))))

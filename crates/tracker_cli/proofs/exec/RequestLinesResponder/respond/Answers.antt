@@ -11,14 +11,14 @@ always (Err e) P p = p
 
 pub returns-clause-err : goal.returns-clause-err
 returns-clause-err g c =
-    let told : (text : List ℕ) × AnswersKept g.P.Keeper.keeps g.P.Keeper.tells g.P.Keeper.faults c.args.self.now c.args.line.now text c.reply_to-reply.new.self = (
-      reply_line c.reply_to-reply.result,
+    let told : (text : List ℕ) × AnswersKept g.P.Keeper.keeps g.P.Keeper.tells g.P.Keeper.faults c.args.self.now c.args.line.now text c.answer_line.new.self = (
+      reply_line c.answer_line.ensures.reply.reply,
       record {
-        failures = failures_at c.reply_to-reply.ensures.reply.replies.mark;
-        answered = AnswersLine-reply _ _ _ _ _ (sym c.is_blank.ensures ∙ c.if-is_blank.false) c.reply_to-reply.ensures.reply.replies refl;
-        rows = c.reply_to-reply.ensures.rows;
-        told = c.reply_to-reply.ensures.told;
-        counted = c.reply_to-reply.ensures.reply.counted;
+        failures = failures_at c.answer_line.ensures.reply.is.replies.mark;
+        answered = AnswersLine-reply _ _ _ _ _ (sym c.is_blank.ensures ∙ c.if-is_blank.false) c.answer_line.ensures.reply.is.replies refl;
+        rows = c.answer_line.ensures.rows;
+        told = c.answer_line.ensures.told;
+        counted = c.answer_line.ensures.reply.is.counted;
       },
     ) in
     always _ _ told
