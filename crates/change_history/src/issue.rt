@@ -16,8 +16,12 @@ use field_values::{FieldNo, IssueNo, Memory, Moment, UserNo, Value};
 use std::alloc::Global;
 use std::marker::Model;
 
-// So many places take no more memory than one.
-const FEW: usize = 3;
+// How many things a list begins with room for at least: places and numbers are small, entries are large.
+const FEW_PLACES: usize = 5;
+
+const FEW_NUMBERS: usize = 16;
+
+const FEW_ENTRIES: usize = 4;
 
 /// An issue with its whole history. Contracts see it as that history, and beside it how many entries there is room for.
 pub struct Issue {
@@ -268,10 +272,9 @@ impl Issue {
         if !has_numbers(self.entries.len(), n) {
             return Err(Memory);
         }
-        // Other fields are seldom changed, so that room for a few of them lasts.
-        self.others.reserve_exact(n.max(FEW))?;
-        self.befores.reserve(n)?;
-        reserve_entries(&mut self.entries, n)?;
+        reserve_some(&mut self.others, n, FEW_PLACES)?;
+        reserve_some(&mut self.befores, n, FEW_NUMBERS)?;
+        reserve_some(&mut self.entries, n, FEW_ENTRIES)?;
         self.room = n;
         Ok(())
     }
@@ -388,15 +391,15 @@ fn has_numbers(entries: usize, n: usize) -> bool
     }
 }
 
-// Makes room for n entries more. Entries are large, so that a list that is full grows by half.
-fn reserve_entries(entries: &mut Vec<Entry>, n: usize) -> Result<(), Memory>
-    ensures items { entries.new.items ≡ entries.old.items }
-    ensures len { vec_len entries.new ≡ vec_len entries.old }
-    ensures capacity { OnOk result (vec_len entries.new + n ≤ vec_capacity entries.new) }
-    ensures kept { vec_capacity entries.old ≤ vec_capacity entries.new }
+// Makes room for n things more. A list that is full grows by half, and by room for a few things at least.
+fn reserve_some<T>(list: &mut Vec<T>, n: usize, few: usize) -> Result<(), Memory>
+    ensures items { list.new.items ≡ list.old.items }
+    ensures len { vec_len list.new ≡ vec_len list.old }
+    ensures capacity { OnOk result (vec_len list.new + n ≤ vec_capacity list.new) }
+    ensures kept { vec_capacity list.old ≤ vec_capacity list.new }
 {
-    if entries.capacity() - entries.len() < n {
-        entries.reserve_exact(n.max(entries.len() / 2))?;
+    if list.capacity() - list.len() < n {
+        list.reserve_exact(n.max(few).max(list.len() / 2))?;
     }
     Ok(())
 }
