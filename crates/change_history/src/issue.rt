@@ -17,9 +17,9 @@ use std::alloc::Global;
 use std::marker::Model;
 
 // How many things a list begins with room for at least: places and numbers are small, entries are large.
-const FEW_PLACES: usize = 5;
+const FEW_PLACES: usize = 3;
 
-const FEW_NUMBERS: usize = 16;
+const FEW_NUMBERS: usize = 10;
 
 const FEW_ENTRIES: usize = 4;
 
