@@ -5,7 +5,7 @@ ghost use Rattle.field_values.specs.GroupMembers.{is_user_list};
 ghost use Rattle.fields.specs.Naming.{name_at};
 ghost use Rattle.setup_reading.specs.Resolving.{members_in};
 ghost use Rattle.tracker_machine.specs.Checks.{unless_known};
-ghost use Rattle.tracker_machine.specs.Members.{group_names, regroups, set_group_meaning, set_group_refusal, stranger_refusal, users_named};
+ghost use Rattle.tracker_machine.specs.Members.{group_names, has_members, regroups, set_group_meaning, set_group_refusal, stranger_refusal, users_named};
 ghost use Rattle.tracker_state.specs.Check.{Checks};
 ghost use Rattle.tracker_state.specs.Plan.{IsPrepared};
 ghost use Rattle.tracker_state.specs.Rows.{members_op};
@@ -78,7 +78,7 @@ fn check_user(alloc: Global, state: &State, name: &str) -> Result<(), Refusal>
     }
 }
 
-// The group with the users of these names, ready to come.
+// The group with the users of these names, ready to come; its answer alone where it has them already.
 fn regrouped(
     alloc: Global,
     state: &State,
@@ -92,11 +92,14 @@ fn regrouped(
 {
     let name = group_name(alloc, state, group)?;
     let new = members_plan(alloc, state, group, names)?;
-    let rows = members_ops(alloc, state, group, new.members.as_slice())?;
     let answer = Answer::SetGroup {
         group: name,
         members: new.members.as_slice().len() as u64,
     };
+    if has_members(state, group, new.members.as_slice()) {
+        return Ok(Prepared::Tell(answer));
+    }
+    let rows = members_ops(alloc, state, group, new.members.as_slice())?;
     Ok(Prepared::Make {
         plan: Plan::Members(new),
         answer,
@@ -113,6 +116,16 @@ fn group_name(alloc: Global, state: &State, group: GroupNo) -> Result<Text, Memo
 {
     let groups = state.setup().group.as_slice();
     groups[usize::from(group.0) - 1].name.copy(alloc)
+}
+
+// Whether the group has these members already.
+fn has_members(state: &State, group: GroupNo, members: &[UserNo]) -> bool
+    requires from_one { 1 ≤ group.0 }
+    requires there { group.0 ≤ length state.now.machine.setup.group }
+    ensures { result ≡ has_members state.now.machine.setup (group.0 - 1) members.now }
+{
+    let groups = state.setup().group.as_slice();
+    groups[usize::from(group.0) - 1].members.as_slice() == members
 }
 
 // The plan by which the group has the users of these names.

@@ -6,6 +6,7 @@ use Rattle.std.proofs.lemmas.List.{length-set}
 use Rattle.field_values.specs.declared.numbers.BoardNo.{BoardNo}
 use Rattle.field_values.specs.declared.numbers.FilterNo.{FilterNo}
 use Rattle.field_values.specs.declared.numbers.SprintNo.{SprintNo}
+use Rattle.field_values.specs.declared.numbers.UserNo.{UserNo}
 use Rattle.field_values.specs.declared.rules.Permission.TheVariants as permission
 use Rattle.change_history.specs.declared.change.Change.{Change}
 use Rattle.change_history.specs.declared.entry.Group.{Group}
@@ -27,7 +28,7 @@ use Rattle.tracker_machine.specs.Effect.Effect.{NewMoment, NewIssue, NewGroup, N
 use Rattle.tracker_machine.specs.Meaning.{Meaning, unless, next_after}
 use Rattle.tracker_machine.specs.Meaning.Meaning.{Refuses, Tells, Finds, Makes}
 use Rattle.tracker_machine.specs.Create.{called_before}
-use Rattle.tracker_machine.specs.Members.{group_names, users_named, set_group_refusal, regroups, set_group_meaning}
+use Rattle.tracker_machine.specs.Members.{group_names, users_named, has_members, members_answer, set_group_refusal, regroups, set_group_meaning}
 use Rattle.tracker_machine.specs.Group.{grouped, grouped_at}
 use Rattle.tracker_machine.specs.Edit.{edit_meaning, edit_refusal, edit_answer, edit_news}
 use Rattle.tracker_machine.specs.Transition.{transition_meaning, transition_refusal, transition_answer, transition_news, transition_named}
@@ -189,8 +190,14 @@ close_sprint_plain m caller sprint =
 pub set_group_plain : (m : Machine) (caller : ℕ) (group : List ℕ) (names : List (List ℕ)) → IsPlain (set_group_meaning m caller group names)
 unfolding set_group_meaning
 set_group_plain m caller group names =
-    unless_plain (set_group_refusal m caller group names)
-    (regroups m.setup (known_place group (group_names m.setup)) (users_named m.setup names)) tt
+    let place : ℕ = known_place group (group_names m.setup) in
+    let members : List UserNo = users_named m.setup names in
+    unless_plain (set_group_refusal m caller group names) (regroups m.setup place members) (by place members (has_members m.setup place members))
+  where
+    by : (place : ℕ) (members : List UserNo) (there : Bool) → IsPlain (if there then Tells (members_answer m.setup place members)
+        else Makes (members_answer m.setup place members) (NewMembers (record { 0 = place + 1 }) members))
+    by place members true = tt
+    by place members false = tt
 
 pub burndown_plain : (m : Machine) (caller : ℕ) (sprint : SprintNo) (part : Part) → IsPlain (burndown_meaning m caller sprint part)
 burndown_plain m caller sprint part = unless_plain (plan_sprint_refusal m caller sprint) (Tells (burndown_answer m sprint part)) tt

@@ -17,6 +17,7 @@ use Rattle.tracker_keeper.specs.Bodies.{body_text, present_data, members_data}
 use Rattle.tracker_machine.specs.Machine.{Machine, opening}
 use Rattle.tracker_machine.specs.Effect.{applied}
 use Rattle.tracker_machine.specs.Effect.Effect.{NewMembers}
+use Rattle.tracker_machine.specs.Meaning.Meaning.{Tells, Makes}
 use Rattle.tracker_machine.specs.Members.{set_group_meaning}
 use Rattle.tracker_machine.specs.Step.{meaning, meaning_for, form_refusal, reply_of, next_of}
 use Rattle.tracker_machine.specs.Kept.{part_at, rows_of, parts_of, ops_of, opening_ops, migrating_ops}
@@ -81,6 +82,15 @@ after group names = next_of new (codes "anna") (call.SetGroup group names)
 pub a_double_is_dropped : tells new (codes "anna") (codes "TEAM") (codes "bo" ∷ codes "anna" ∷ codes "Bo" ∷ []) ≡ reply.Ok (answer.SetGroup (codes "team") 2)
 unfolding reply_of meaning meaning_for form_refusal set_group_meaning
 a_double_is_dropped = refl
+
+-- nothing is done where the group has these members already, in whatever order they are asked for
+pub the_same_members : set_group_meaning new 0 (codes "TEAM") (codes "bo" ∷ codes "anna" ∷ []) ≡ Tells (answer.SetGroup (codes "team") 2)
+unfolding set_group_meaning
+the_same_members = refl
+
+pub one_member_less : set_group_meaning new 0 (codes "team") (codes "anna" ∷ []) ≡ Makes (answer.SetGroup (codes "team") 1) (NewMembers (group_no 1) (user 0 ∷ []))
+unfolding set_group_meaning
+one_member_less = refl
 
 -- members stand in the setup's order of users
 pub members_stand_in_order : rows_of (after (codes "guests") (codes "bo" ∷ codes "anna" ∷ codes "Bo" ∷ [])) 10 2 ≡ Some (codes "{\"members\":[\"anna\",\"bo\"]}")

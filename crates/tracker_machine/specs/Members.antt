@@ -1,5 +1,7 @@
 -- The call `set_group`: a group has other members.
-use Rattle.std.specs.Prelude.{◌≡◌, ℕ, ◌+◌, List, [], ◌∷◌, map, length, Option, None, Ok}
+use Rattle.std.specs.Prelude.{◌≡◌, ℕ, ◌+◌, ◌==◌, Bool, false, if◌then◌else◌, List, [], ◌∷◌, map, length, slice_get, Option, None, Ok}
+use Rattle.std.specs.Cmp.Lexicographic.{pointwise}
+use Rattle.std.specs.Option.{option_map_or}
 use Rattle.field_values.specs.Parts.{Parts}
 use Rattle.field_values.specs.declared.numbers.UserNo.{UserNo}
 use Rattle.field_values.specs.declared.rules.Permission.TheVariants as permission
@@ -7,6 +9,7 @@ use Rattle.field_forms.specs.Names.{place_named}
 use Rattle.fields.specs.Naming.{name_at}
 use Rattle.setup_reading.specs.Reading.{setup_in}
 use Rattle.setup_reading.specs.Resolving.{members_in}
+use Rattle.tracker_calls.specs.declared.reply.Answer.{Answer}
 use Rattle.tracker_calls.specs.declared.reply.Answer.TheVariants as answer
 use Rattle.tracker_calls.specs.declared.reply.Refusal.{Refusal}
 use Rattle.tracker_calls.specs.declared.reply.Refusal.TheVariants as refusal
@@ -16,7 +19,7 @@ use Rattle.tracker_machine.specs.Known.{known_place}
 use Rattle.tracker_machine.specs.Checks.{or_then, unless_known, permission_refusal}
 use Rattle.tracker_machine.specs.Effect.Effect.{NewMembers}
 use Rattle.tracker_machine.specs.Meaning.{Meaning, unless}
-use Rattle.tracker_machine.specs.Meaning.Meaning.{Makes}
+use Rattle.tracker_machine.specs.Meaning.Meaning.{Tells, Makes}
 
 abbrev pub group_names : Parts → List (List ℕ)
 group_names setup = map (λ g. g.name) setup.group
@@ -47,11 +50,22 @@ set_group_refusal m caller group names =
 abbrev pub users_named : Parts → List (List ℕ) → List UserNo
 users_named setup names = members_in 0 setup.users names
 
--- the group at a place has these members from now on
+-- the group at a place has these members already
+abbrev pub has_members : Parts → ℕ → List UserNo → Bool
+has_members setup place members =
+    option_map_or (λ g. pointwise (λ one other. one.0 == other.0) g.members members)
+    (slice_get setup.group place) false
+
+-- the group's name as the setup spells it, and how many members it has
+abbrev pub members_answer : Parts → ℕ → List UserNo → Answer
+members_answer setup place members =
+    answer.SetGroup (name_at (group_names setup) place) (length members)
+
+-- the group at a place has these members from now on; where it has them already, nothing is done
 abbrev pub regroups : Parts → ℕ → List UserNo → Meaning
 regroups setup place members =
-    Makes (answer.SetGroup (name_at (group_names setup) place) (length members))
-    (NewMembers (record { 0 = place + 1 }) members)
+    if has_members setup place members then Tells (members_answer setup place members)
+    else Makes (members_answer setup place members) (NewMembers (record { 0 = place + 1 }) members)
 
 unfoldable pub set_group_meaning : Machine → ℕ → List ℕ → List (List ℕ) → Meaning
 set_group_meaning m caller group names =
