@@ -1,6 +1,7 @@
 //! What calls that list issues prepare, and those that keep what is listed: searches, filters and boards.
 #![tactic(auto)]
 
+mod ahead;
 pub mod board_issues;
 mod browsing;
 mod check;

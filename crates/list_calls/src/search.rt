@@ -7,6 +7,7 @@ ghost use Rattle.tracker_state.specs.Plan.{IsPrepared, cost_to_prepare};
 ghost use Rattle.tracker_state.specs.State.{query_of};
 ghost use Rattle.list_calls.specs.Browsing.{is_found_by};
 
+use crate::ahead::{AHEAD, first_look, read_ahead};
 use crate::browsing::{browsable, is_browsable};
 use crate::in_order::put_in_order;
 use crate::listing::{count_of, end_of, keys_of};
@@ -110,11 +111,20 @@ fn found_among<'s, L: Ledger>(
         state.now.machine.histories) }
     ensures steps { steps.new ≤ steps.old + length state.now.machine.histories }
 {
+    let look = first_look(&bound.cond);
+    let mut read = 0usize;
     let mut issues = Vec::new(alloc);
     for (place, issue) in state.issues().iter().enumerate() {
+        if place % AHEAD == 0 {
+            read = read.wrapping_add(read_ahead(state.issues(), place, look));
+        }
         if is_found(state, table, bound, place, issue, steps) {
             issues.push(issue)?;
         }
+    }
+    // The sum is never so large, which the compiler doesn't know, so that it leaves the reads in.
+    if read == usize::MAX {
+        issues.reserve(1)?;
     }
     Ok(issues)
 }
