@@ -1,4 +1,5 @@
 pub mod Cut
+pub mod InTurn
 pub mod Known
 pub mod LinesLemmas
 pub mod Pieces

@@ -1,5 +1,5 @@
 -- The lines of an input that comes line by line.
-use Rattle.std.proofs.Common.{◌≡◌, ◌≢◌, ◌==◌, ℕ, ◌<◌, ◌≤◌, List, [], ◌∷◌, ◌++◌, length, refl, sym, ap, ◌∙◌, append_assoc, append-nil, arith, Bool, true, false, eqb-true}
+use Rattle.std.proofs.Common.{◌≡◌, ◌≢◌, ◌==◌, ℕ, ◌<◌, ◌≤◌, List, [], ◌∷◌, ◌++◌, length, zero, suc, drop, refl, sym, ap, ◌∙◌, append_assoc, append-nil, arith, Bool, true, false, eqb-true}
 use Rattle.request_lines.specs.Lines.{IsOneLine, IsLine}
 use Rattle.request_lines.specs.Lines.{lines, onto, whole_lines, AreShort}
 
@@ -76,3 +76,10 @@ joined-push (first ∷ more) line = ap (λ l. (first ++ 10 ∷ []) ++ l) (joined
 pub AreLines-push : (done : List (List ℕ)) (line : List ℕ) → AreLines done → IsLine line → AreLines (done ++ line ∷ [])
 AreLines-push [] line are now = (now, tt)
 AreLines-push (first ∷ more) line are now = (are.0, AreLines-push more line are.1 now)
+
+-- where a line feed stands, there is more than a line
+pub not_one_line : (held rest : List ℕ) (count : ℕ) → drop count held ≡ 10 ∷ rest → IsOneLine held → ⊥
+not_one_line [] rest zero e one = absurd (cc e)
+not_one_line [] rest (suc n) e one = absurd (cc e)
+not_one_line (x ∷ xs) rest zero e one = one.0 (cc e)
+not_one_line (x ∷ xs) rest (suc n) e one = not_one_line xs rest n e one.1

@@ -12,16 +12,20 @@ pub Appends-nil : (a : Option (List ℕ)) → Appends a a []
 Appends-nil None = tt
 Appends-nil (Some x) = sym (append-nil x)
 
-Consumes-start : (a : Option (List ℕ)) → Consumes a (prepend_known [] a) []
+pub Consumes-start : (a : Option (List ℕ)) → Consumes a (prepend_known [] a) []
 Consumes-start None = tt
 Consumes-start (Some x) = refl
 
-length-push : (xs : List (List ℕ)) (x : List ℕ) → length (xs ++ x ∷ []) ≡ length xs + 1
+pub Consumes-same : (a : Option (List ℕ)) → Consumes a a []
+Consumes-same None = tt
+Consumes-same (Some x) = refl
+
+pub length-push : (xs : List (List ℕ)) (x : List ℕ) → length (xs ++ x ∷ []) ≡ length xs + 1
 length-push xs x = omega (arith, length-append xs (x ∷ []))
 
 -- ---- where the known bytes are
 
-told : (left b : Option (List ℕ)) (h bs : List ℕ) (P : List ℕ → Option (List ℕ) → Type 0) → Consumes left (prepend_known h b) bs
+pub told : (left b : Option (List ℕ)) (h bs : List ℕ) (P : List ℕ → Option (List ℕ) → Type 0) → Consumes left (prepend_known h b) bs
     → ((bytes rest : List ℕ) → bytes ≡ bs ++ (h ++ rest) → P bytes (Some rest)) → IfSome left (λ bytes. P bytes b)
 told None b h bs P read next = tt
 told (Some bytes) None h bs P read next = absurd read
@@ -31,7 +35,7 @@ at_end : (h rest : List ℕ) → h ++ rest ≡ [] → rest ≡ []
 at_end [] rest e = e
 at_end (x ∷ xs) rest e = cc
 
-told_at_end : (left b : Option (List ℕ)) (h bs : List ℕ) (P : List ℕ → Option (List ℕ) → Type 0) → Consumes left (prepend_known h b) bs → IsAtEnd (prepend_known h b)
+pub told_at_end : (left b : Option (List ℕ)) (h bs : List ℕ) (P : List ℕ → Option (List ℕ) → Type 0) → Consumes left (prepend_known h b) bs → IsAtEnd (prepend_known h b)
     → ((bytes : List ℕ) → bytes ≡ bs → P bytes (Some [])) → IfSome left (λ bytes. P bytes b)
 told_at_end None b h bs P read end next = tt
 told_at_end (Some bytes) None h bs P read end next = absurd read
@@ -42,7 +46,7 @@ told_at_end (Some bytes) (Some rest) h bs P read end next =
 lines-done : (done : List (List ℕ)) → AreLines done → lines (joined done) ≡ done
 lines-done done are = ap lines (sym (append-nil (joined done))) ∙ lines-joined done [] are ∙ append-nil done
 
-lines-ended : (done : List (List ℕ)) (line : List ℕ) → AreLines done → IsOneLine line → 0 < length line → lines (joined done ++ line) ≡ done ++ line ∷ []
+pub lines-ended : (done : List (List ℕ)) (line : List ℕ) → AreLines done → IsOneLine line → 0 < length line → lines (joined done ++ line) ≡ done ++ line ∷ []
 lines-ended done line are one some = lines-joined done line are ∙ ap (λ l. done ++ l) (lines-last line one some)
 
 some_either : (b : Bool) (byte : ℕ) (all : List (List ℕ)) → 0 < length (if b then [] ∷ all else onto byte all)
@@ -70,10 +74,10 @@ module _ {State : Type 0} (Answers : State → List ℕ → List ℕ → State �
   pub AreAnswered-one : (a b : State) (x : List ℕ) (s : List ℕ) → Answers a x s b → AreAnswered Answers a (x ∷ []) s b
   AreAnswered-one a b x s here = (b, s, [], here, sym (append-nil s), (refl, refl))
 
-  HasServed-nil : (m : State) (t : Option (List ℕ)) → HasServed Answers m [] t t m
+  pub HasServed-nil : (m : State) (t : Option (List ℕ)) → HasServed Answers m [] t t m
   HasServed-nil m t = record { text = []; answered = (refl, refl); written = Appends-nil t }
 
-  HasServed-then : {T E : Type 0} (a b c : State) (xs : List (List ℕ)) (y : List ℕ) (t u v : Option (List ℕ)) (x : T)
+  pub HasServed-then : {T E : Type 0} (a b c : State) (xs : List (List ℕ)) (y : List ℕ) (t u v : Option (List ℕ)) (x : T)
       → HasServed Answers a xs t u b → Serves {T = T} {E = E} Answers b y u v (Ok x) c → HasServed Answers a (xs ++ y ∷ []) t v c
   HasServed-then a b c xs y t u v x one two = record {
     text = one.text ++ two.text;
@@ -81,7 +85,7 @@ module _ {State : Type 0} (Answers : State → List ℕ → List ℕ → State �
     written = Appends-trans t u v one.text two.text one.written two.written;
   }
 
-  IsCutShort-then : {T E : Type 0} (a b c : State) (xs more all : List (List ℕ)) (y : List ℕ) (t u v : Option (List ℕ)) (e : E)
+  pub IsCutShort-then : {T E : Type 0} (a b c : State) (xs more all : List (List ℕ)) (y : List ℕ) (t u v : Option (List ℕ)) (e : E)
       → all ≡ xs ++ y ∷ more → AreWithinLimits xs → AreWithinLimits (xs ++ y ∷ []) → HasServed Answers a xs t u b → Serves {T = T} {E = E} Answers b y u v (Err e) c → IsCutShort Answers a all t v c
   IsCutShort-then a b c xs more all y t u v e is within also one two =
       let cut = two.written in

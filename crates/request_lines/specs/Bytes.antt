@@ -1,5 +1,5 @@
 -- What the calls that write and take bytes do.
-use Rattle.std.specs.Prelude.{◌≡◌, ◌<◌, ◌≤◌, ◌+◌, ℕ, length, List, [], ◌∷◌, ◌++◌, Option, Some, None, Result, Ok, Err, take, drop}
+use Rattle.std.specs.Prelude.{◌≡◌, ◌⊎◌, ◌<◌, ◌≤◌, ◌+◌, ℕ, length, List, [], ◌∷◌, ◌++◌, Option, Some, None, Result, Ok, Err, take, drop}
 use Rattle.std.specs.Io.KnownBytes.{Appends, Consumes, IsAtEnd}
 use Rattle.request_lines.specs.Lines.{IsLine, IsOneLine}
 use Rattle.request_lines.specs.declared.reader.Next.{Next}
@@ -13,6 +13,14 @@ abbrev pub WritesAll : {T E : Type 0} → Option (List ℕ) → Option (List ℕ
 WritesAll old new (Ok x) bytes = Appends old new bytes
 WritesAll old new (Err e) bytes =
     (front : List ℕ) × (back : List ℕ) × (bytes ≡ front ++ back) × Appends old new front
+
+-- these bytes wait on, or all of them are written and none waits, or a front of them is written where the sink fails
+abbrev pub Passes : {T E : Type 0} → Option (List ℕ) → Option (List ℕ) → List ℕ → List ℕ
+    → Result T E → Type 0
+Passes old new before after (Ok x) =
+    ((new ≡ old) × (after ≡ before)) ⊎ (Appends old new before × (after ≡ []))
+Passes old new before after (Err e) =
+    (front : List ℕ) × (back : List ℕ) × (before ≡ front ++ back) × Appends old new front
 
 -- a line is taken with its line feed, or without one at the end; of a line that is too long, more bytes than it may have
 abbrev pub TakesLine : Option (List ℕ) → Option (List ℕ) → Next → List ℕ → Type 0

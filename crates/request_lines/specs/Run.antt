@@ -4,6 +4,8 @@ use Rattle.std.specs.Io.KnownBytes.{Appends, Consumes, IsAtEnd}
 use Rattle.request_lines.specs.Bytes.{WritesAll}
 use Rattle.request_lines.specs.Lines.{lines, whole_lines, AreWithinLimits, StopsAtLong, StopsAtMany}
 use Rattle.request_lines.specs.Causes.{Rose}
+use Rattle.request_lines.specs.declared.responder.Looked.{Looked}
+use Rattle.request_lines.specs.declared.responder.Looked.TheVariants as looked
 use Rattle.request_lines.specs.declared.run.Halt.{Halt}
 use Rattle.request_lines.specs.declared.run.Halt.TheVariants as halt
 use Rattle.request_lines.specs.declared.run.End.{End}
@@ -24,6 +26,30 @@ pub record HasServed {State : Type 0} (Answers : State → List ℕ → List ℕ
   pub text : List ℕ
   pub answered : AreAnswered Answers old all text new
   pub written : Appends taken_old taken_new text
+
+-- a line was looked at: this is so where it is answered, and that of the change where it asks for one
+abbrev pub IsLooked : {Change : Type 0} → Type 0 → (Change → Type 0) → Looked Change → Type 0
+IsLooked IsAnswered Asks looked.Answered = IsAnswered
+IsLooked IsAnswered Asks (looked.Asks change) = Asks change
+
+-- in a state, which stays, these lines are answered by this text
+abbrev pub AreRead : {State : Type 0} → (State → List ℕ → List ℕ → State → Type 0) → State
+    → List (List ℕ) → List ℕ → Type 0
+AreRead Answers state [] text = text ≡ []
+AreRead Answers state (line ∷ more) text =
+    (first : List ℕ) × (rest : List ℕ) × Answers state line first state
+    × (text ≡ first ++ rest) × AreRead Answers state more rest
+
+-- these lines are answered: the sink has the answers to the first ones, and the last ones, which changed nothing, have the text that
+-- waits
+pub record HasAnswered {State : Type 0} (Answers : State → List ℕ → List ℕ → State → Type 0)
+    (old : State) (all : List (List ℕ)) (taken_old taken_new : Option (List ℕ)) (waiting : List ℕ)
+    (new : State) : Type 0 where
+  pub first : List (List ℕ)
+  pub last : List (List ℕ)
+  pub all_is : all ≡ first ++ last
+  pub served : HasServed Answers old first taken_old taken_new new
+  pub read : AreRead Answers new last waiting
 
 -- one line is answered, and the sink has the answer or only a front of it
 pub record Serves {State T E : Type 0} (Answers : State → List ℕ → List ℕ → State → Type 0)
@@ -77,6 +103,13 @@ Ends Answers old bytes left taken_old taken_new LongLine new =
 Ends Answers old bytes left taken_old taken_new ManyLines new =
     (done : List (List ℕ)) × StopsAtMany (lines bytes) done
     × HasServed Answers old done taken_old taken_new new
+
+-- what waited is written and the run ends in that way, or a front of it is where the sink fails
+abbrev pub IsFinished : Option (List ℕ) → Option (List ℕ) → List ℕ → End → End → Type 0
+IsFinished taken_old taken_new waiting end result =
+    ((result ≡ end) × Appends taken_old taken_new waiting)
+    ⊎ ((result ≡ WriteFault) × (front : List ℕ) × (back : List ℕ) × (waiting ≡ front ++ back)
+    × Appends taken_old taken_new front)
 
 -- a fault of writing is told only where the sink's count rose
 abbrev pub IsWriteCause : {T : Type 0} → ℕ → ℕ → Result T Halt → Type 0

@@ -9,7 +9,9 @@ mod memory_sink;
 mod memory_source;
 mod outside;
 mod reader;
+mod responder;
 mod run;
+mod waiting;
 mod write;
 
 pub use clock::{Clock, ListClock};
@@ -17,5 +19,6 @@ pub use limits::{LINE_LIMIT, LINES_LIMIT};
 pub use memory_sink::MemorySink;
 pub use memory_source::MemorySource;
 pub use outside::{Failed, Sink, Source};
-pub use run::{End, Responder, answer_lines};
+pub use responder::{Looked, Responder};
+pub use run::{End, answer_lines};
 pub use write::write_all;

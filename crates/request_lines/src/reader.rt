@@ -4,6 +4,7 @@ ghost use Rattle.std.specs.Io.KnownBytes.{prepend_known, Consumes, IsAtEnd};
 ghost use Rattle.std.specs.Bool.{MatchBool};
 ghost use Rattle.request_lines.specs.Causes.{HasCause, Rose};
 ghost use Rattle.request_lines.specs.Bytes.{IsLineEnd, TakesLine, TakesPiece};
+ghost use Rattle.request_lines.specs.Lines.{IsOneLine};
 
 use crate::limits::LINE_LIMIT;
 use crate::outside::{Failed, Source};
@@ -164,6 +165,16 @@ impl LineReader {
                 self.skip(count);
                 Piece::Open
             }
+        }
+    }
+
+    /// Whether a whole line is at hand, so that the next one takes no read.
+    pub fn has_line(&self) -> bool
+        ensures { MatchBool result (¬ (IsOneLine self.now)) (IsOneLine self.now) }
+    {
+        match line_end(self.held()) {
+            Some(_) => true,
+            None => false,
         }
     }
 

@@ -1,28 +1,19 @@
 // The loop over lines.
-ghost use Rattle.std.specs.Prelude.{◌≡◌, ◌≤◌, [], List, ℕ, OnOk, OnErr, IfSome};
+ghost use Rattle.std.specs.Prelude.{◌≡◌, ◌⊎◌, ◌≤◌, ◌++◌, ◌∷◌, [], List, ℕ, Option, OnOk, OnErr, IfSome};
 ghost use Rattle.request_lines.specs.Causes.{Rose};
-ghost use Rattle.request_lines.specs.Run.{Ends, Serves, IsWriteCause};
+ghost use Rattle.request_lines.specs.Lines.{AreWithinLimits};
+ghost use Rattle.request_lines.specs.Run.{Ends, HasAnswered, IsCutShort, IsFinished, IsWriteCause, Serves};
 
 use crate::limits::LINES_LIMIT;
 use crate::outside::{Failed, Sink, Source};
 use crate::reader::{LineReader, Next};
+use crate::responder::{Looked, Responder};
+use crate::waiting::{WAITING_ROOM, keep, send, send_unless_line};
 use crate::write::write_all;
 use std::alloc::{AllocError, Global};
 
 /// Room for an answer that is made from the start, so that a short answer finds it later.
 const ANSWER_ROOM: usize = 4_096;
-
-/// What answers one line after another.
-pub trait Responder {
-    /// In this state, the line may be answered by this text, and lead to that state.
-    ghost answers: { Self → List ℕ → List ℕ → Self → Type 0 };
-
-    /// Puts the answer to a line, which may be empty, in place of what `answer` held. Where there is no
-    /// memory for its text, the line is answered all the same, and its text is not known.
-    fn respond(&mut self, line: &[u8], answer: &mut Vec<u8>) -> Result<(), AllocError>
-        ensures ok { OnOk result (answers self.old line.now answer.new.items self.new) }
-        ensures err { OnErr result ((text : List ℕ) × answers self.old line.now text self.new) };
-}
 
 /// How a run over lines ends.
 #[derive(Clone, Copy, PartialEq, Eq)]
@@ -56,7 +47,8 @@ pub enum Halt {
     Memory,
 }
 
-/// Has each line of the input answered, one after another, and writes each answer before the next line is looked at.
+/// Has each line of the input answered, one after another. Each answer is written before the next change is made and before more
+/// is read.
 pub fn answer_lines<R: Responder, S: Source, T: Sink>(
     alloc: Global,
     responder: &mut R,
@@ -77,20 +69,34 @@ pub fn answer_lines<R: Responder, S: Source, T: Sink>(
     let Ok(mut answer) = Vec::with_capacity(alloc, ANSWER_ROOM) else {
         return End::Memory;
     };
+    let Ok(mut waiting) = Vec::with_capacity(alloc, WAITING_ROOM) else {
+        return End::Memory;
+    };
     let mut line = Vec::new(alloc);
-    answer_each(responder, &mut reader, &mut line, &mut answer, input, out)
+    answer_each(
+        responder,
+        &mut reader,
+        &mut line,
+        &mut answer,
+        &mut waiting,
+        input,
+        out,
+    )
 }
 
-// The same with a reader that holds nothing yet, and with rooms for a line and for an answer.
+// The same with a reader that holds nothing yet, and with rooms for a line, for an answer and for answers that wait, of which there
+// is none yet.
 fn answer_each<R: Responder, S: Source, T: Sink>(
     responder: &mut R,
     reader: &mut LineReader,
     line: &mut Vec<u8>,
     answer: &mut Vec<u8>,
+    waiting: &mut Vec<u8>,
     input: &mut S,
     out: &mut T,
 ) -> End
-    requires { reader.old ≡ [] }
+    requires unread { reader.old ≡ [] }
+    requires none { waiting.old.items ≡ [] }
     ensures run { IfSome (S.left input.old)
         (λ bytes. Ends R.answers responder.old bytes (S.left input.new) (T.taken out.old)
         (T.taken out.new) result responder.new) }
@@ -100,22 +106,30 @@ fn answer_each<R: Responder, S: Source, T: Sink>(
     ensures write_later { T.faults out.old ≤ T.faults out.new }
 {
     for _count in 0..LINES_LIMIT {
+        match send_unless_line(reader, waiting, out) {
+            Ok(()) => {}
+            Err(Failed) => return End::WriteFault,
+        }
         match reader.next_line(input, line) {
-            Next::Line => match answer_line(responder, line, answer, out) {
+            Next::Line => match answer_line(responder, line, answer, waiting, out) {
                 Ok(()) => {}
                 Err(Halt::Write) => return End::WriteFault,
                 Err(Halt::Memory) => return End::Memory,
             },
-            Next::Last => match answer_line(responder, line, answer, out) {
-                Ok(()) => return End::Done,
+            Next::Last => match answer_line(responder, line, answer, waiting, out) {
+                Ok(()) => return finish(waiting, out, End::Done),
                 Err(Halt::Write) => return End::WriteFault,
                 Err(Halt::Memory) => return End::Memory,
             },
-            Next::End => return End::Done,
-            Next::TooLong => return End::LongLine,
-            Next::Failed => return End::ReadFault,
-            Next::Memory => return End::Memory,
+            Next::End => return finish(waiting, out, End::Done),
+            Next::TooLong => return finish(waiting, out, End::LongLine),
+            Next::Failed => return finish(waiting, out, End::ReadFault),
+            Next::Memory => return finish(waiting, out, End::Memory),
         }
+    }
+    match send(waiting, out) {
+        Ok(()) => {}
+        Err(Failed) => return End::WriteFault,
     }
     match reader.fill(input) {
         Ok(false) => End::Done,
@@ -124,23 +138,72 @@ fn answer_each<R: Responder, S: Source, T: Sink>(
     }
 }
 
-// Has a line answered, and writes the answer at once.
+// Has a line answered behind the lines that were answered before.
 fn answer_line<R: Responder, T: Sink>(
     responder: &mut R,
     line: &[u8],
     answer: &mut Vec<u8>,
+    waiting: &mut Vec<u8>,
     out: &mut T,
 ) -> Result<(), Halt>
-    ensures run { Serves R.answers responder.old line.now (T.taken out.old)
-        (T.taken out.new) result responder.new }
+    ensures ok { (first : R) (all : List (List ℕ)) (start : Option (List ℕ))
+        → HasAnswered R.answers first all start (T.taken out.old) waiting.old.items responder.old
+        → OnOk result (HasAnswered R.answers first (all ++ line.now ∷ []) start (T.taken out.new)
+        waiting.new.items responder.new) }
+    ensures err { (first : R) (all rest : List (List ℕ)) (start : Option (List ℕ))
+        → HasAnswered R.answers first all start (T.taken out.old) waiting.old.items responder.old
+        → AreWithinLimits (all ++ line.now ∷ [])
+        → OnErr result (IsCutShort R.answers first (all ++ line.now ∷ rest) start
+        (T.taken out.new) responder.new) }
     ensures later { T.faults out.old ≤ T.faults out.new }
     ensures cause { IsWriteCause (T.faults out.old) (T.faults out.new) result }
 {
-    let Ok(()) = responder.respond(line, answer) else {
+    match responder.look(line, answer) {
+        Ok(Looked::Answered) => match keep(answer, waiting, out) {
+            Ok(()) => Ok(()),
+            Err(Failed) => Err(Halt::Write),
+        },
+        Ok(Looked::Asks(change)) => match send(waiting, out) {
+            Ok(()) => make(responder, change, answer, out),
+            Err(Failed) => Err(Halt::Write),
+        },
+        Err(AllocError) => match send(waiting, out) {
+            Ok(()) => Err(Halt::Memory),
+            Err(Failed) => Err(Halt::Write),
+        },
+    }
+}
+
+// Makes a change, and writes its answer at once.
+fn make<R: Responder, T: Sink>(
+    responder: &mut R,
+    change: R::Change,
+    answer: &mut Vec<u8>,
+    out: &mut T,
+) -> Result<(), Halt>
+    ensures run { (line : List ℕ) → R.asks line change
+        → Serves R.answers responder.old line (T.taken out.old) (T.taken out.new) result responder.new }
+    ensures later { T.faults out.old ≤ T.faults out.new }
+    ensures cause { IsWriteCause (T.faults out.old) (T.faults out.new) result }
+{
+    let Ok(()) = responder.make(change, answer) else {
         return Err(Halt::Memory);
     };
     match write_all(out, answer) {
         Ok(()) => Ok(()),
         Err(Failed) => Err(Halt::Write),
+    }
+}
+
+// Writes what waits at the end of a run, which ends in that way unless the sink fails.
+fn finish<T: Sink>(waiting: &mut Vec<u8>, out: &mut T, end: End) -> End
+    ensures run { IsFinished (T.taken out.old) (T.taken out.new) waiting.old.items end result }
+    ensures ends { (result ≡ end) ⊎ (result ≡ End.WriteFault) }
+    ensures cause { (result ≡ end) ⊎ Rose (T.faults out.old) (T.faults out.new) }
+    ensures later { T.faults out.old ≤ T.faults out.new }
+{
+    match send(waiting, out) {
+        Ok(()) => end,
+        Err(Failed) => End::WriteFault,
     }
 }

@@ -4,7 +4,7 @@ ghost use Rattle.jql_check.specs.Check.{IsReply};
 
 use field_values::Memory;
 use jql_check::check_line;
-use request_lines::Responder;
+use request_lines::{Looked, Responder};
 use std::alloc::{AllocError, Global};
 
 /// Replies to queries. It keeps nothing from one line to the next.
@@ -20,13 +20,22 @@ impl Checks {
 }
 
 impl Responder for Checks {
+    type Change = ();
+
     ghost answers = { λ old line text new. IsReply line text };
 
-    fn respond(&mut self, line: &[u8], answer: &mut Vec<u8>) -> Result<(), AllocError> {
+    ghost asks = { λ line change. ⊥ };
+
+    fn look(&mut self, line: &[u8], answer: &mut Vec<u8>) -> Result<Looked<()>, AllocError> {
         answer.clear();
         match check_line(self.alloc, line, answer) {
-            Ok(()) => Ok(()),
+            Ok(()) => Ok(Looked::Answered),
             Err(Memory) => Err(AllocError),
         }
+    }
+
+    // No line asks for a change.
+    fn make(&mut self, _change: (), _answer: &mut Vec<u8>) -> Result<(), AllocError> {
+        Ok(())
     }
 }

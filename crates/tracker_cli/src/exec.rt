@@ -1,12 +1,13 @@
 // Request lines that a desk answers.
-ghost use Rattle.std.specs.Prelude.{◌≡◌, ◌++◌, ◌∷◌, [], OnOk};
+ghost use Rattle.std.specs.Prelude.{◌≡◌, ◌++◌, ◌∷◌, [], List, ℕ, Ok, IfOk, OnOk};
 ghost use Rattle.tracker_machine.specs.Run.{is_blank, is_blank_byte};
-ghost use Rattle.tracker_machine.specs.Kept.{rows_of};
-ghost use Rattle.tracker_cli.specs.Answering.{AnswersKept, HasLine, IsReplied};
+ghost use Rattle.request_lines.specs.Run.{IsLooked};
+ghost use Rattle.tracker_calls.specs.Asked.{line_of};
+ghost use Rattle.tracker_cli.specs.Answering.{AnswersKept, AsksFor, HasLine, IsAsked, IsReadReply};
 ghost use Rattle.tracker_cli.specs.Serving.{MakesCall};
 
 use fields::Steps;
-use request_lines::Responder;
+use request_lines::{Looked, Responder};
 use std::alloc::{AllocError, Global};
 use std::marker::Model;
 use std::sync::ledger::Ledger;
@@ -15,6 +16,13 @@ use tracker_core::Desk;
 use tracker_import::put_reply_line;
 use tracker_keeper::Keeper;
 use tracker_server::Maker;
+
+/// A call that a line asks for, and the name of who asks.
+#[derive(Drop)]
+pub struct Asked {
+    user: UserName,
+    call: Call,
+}
 
 /// A desk that answers request lines and makes the calls of requests, and counts its steps. Contracts see it as the desk.
 #[derive(Drop)]
@@ -59,21 +67,44 @@ impl<L: Ledger, P: Keeper + Drop> RequestLines<L, P> {
         desk.close()
     }
 
-    // Makes a line's call, and puts the line of its reply in place of what the answer held.
-    fn answer_line(&mut self, line: &[u8], answer: &mut Vec<u8>) -> Result<(), AllocError>
-        ensures reply { HasLine (λ reply. IsReplied self.old.machine line.now reply self.new.machine
-            (P.faults self.old.keeper) (P.faults self.new.keeper)) result answer.new.items }
-        ensures rows { P.keeps self.old.keeper (rows_of self.old.machine) →
-            P.keeps self.new.keeper (rows_of self.new.machine) }
-        ensures told { P.tells self.new.keeper → P.tells self.old.keeper }
+    // Puts the line of the reply to a line in place of what the answer held, if it changes nothing, or says what the line asks for.
+    fn look_at(
+        &mut self,
+        line: &[u8],
+        answer: &mut Vec<u8>,
+    ) -> Result<Looked<Asked>, AllocError>
+        ensures looked { IfOk result (IsLooked (IsReadReply self.old.machine line.now
+            answer.new.items (P.faults self.old.keeper)) (IsAsked line.now)) }
+        ensures same { self.new ≡ self.old }
     {
         match read_line_in(self.alloc, &mut self.scratch, line) {
-            Ok((user, call)) => self.answer_call(&user, &call, answer),
-            Err(refusal) => put_reply_line(self.alloc, &Reply::Refused(refusal), answer),
+            Ok((user, call)) => self.look_at_call(user, call, answer),
+            Err(refusal) => {
+                put_reply_line(self.alloc, &Reply::Refused(refusal), answer)?;
+                Ok(Looked::Answered)
+            }
         }
     }
 
-    // The same of a call.
+    // The same of its call. A show is answered at once.
+    fn look_at_call(
+        &self,
+        user: UserName,
+        call: Call,
+        answer: &mut Vec<u8>,
+    ) -> Result<Looked<Asked>, AllocError>
+        ensures { (line : List ℕ) → line_of line ≡ Ok (user, call)
+            → IfOk result (IsLooked (IsReadReply self.now.machine line
+            answer.new.items (P.faults self.now.keeper)) (IsAsked line)) }
+    {
+        if let Call::Show { issue } = &call {
+            self.answer_show(&user, issue.as_str(), answer)?;
+            return Ok(Looked::Answered);
+        }
+        Ok(Looked::Asks(Asked { user, call }))
+    }
+
+    // Makes a call, and puts the line of its reply in place of what the answer held.
     fn answer_call(
         &mut self,
         caller: &UserName,
@@ -83,9 +114,6 @@ impl<L: Ledger, P: Keeper + Drop> RequestLines<L, P> {
         ensures { HasLine (λ reply. MakesCall P.keeps P.tells P.faults self.old
             caller.now call.now reply self.new) result answer.new.items }
     {
-        if let Call::Show { issue } = call {
-            return self.answer_show(caller, issue.as_str(), answer);
-        }
         let reply = self.desk.call(caller, call, &mut self.steps);
         put_reply_line(self.alloc, &reply, answer)
     }
@@ -108,14 +136,27 @@ impl<L: Ledger, P: Keeper + Drop> RequestLines<L, P> {
 }
 
 impl<L: Ledger, P: Keeper + Drop> Responder for RequestLines<L, P> {
+    type Change = Asked;
+
     ghost answers = { AnswersKept P.keeps P.tells P.faults };
 
-    fn respond(&mut self, line: &[u8], answer: &mut Vec<u8>) -> Result<(), AllocError> {
+    ghost asks = { AsksFor };
+
+    fn look(
+        &mut self,
+        line: &[u8],
+        answer: &mut Vec<u8>,
+    ) -> Result<Looked<Asked>, AllocError> {
         answer.clear();
         if is_blank(line) {
-            return Ok(());
+            return Ok(Looked::Answered);
         }
-        self.answer_line(line, answer)
+        self.look_at(line, answer)
+    }
+
+    fn make(&mut self, change: Asked, answer: &mut Vec<u8>) -> Result<(), AllocError> {
+        let Asked { user, call } = change;
+        self.answer_call(&user, &call, answer)
     }
 }
 
