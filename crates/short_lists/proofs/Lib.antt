@@ -1,1 +1,2 @@
 mod ByName
+mod Moved

@@ -89,15 +89,6 @@ fn put_between<T: Copy>(places: &mut [T], filled: usize, at: usize, item: T)
     ensures things { take (filled + 1) places.new ≡ insert (take filled places.old) at item }
     ensures places { length places.new ≡ length places.old }
 {
-    places[filled] = item;
-    last_to(&mut places[..filled + 1], at);
-}
-
-// Moves the last thing to a place, and those from there on up.
-fn last_to<T>(items: &mut [T], at: usize)
-    requires { at < length items.old }
-    ensures { (front : List T) (last : T) → items.old ≡ front ++ last ∷ []
-        → items.new ≡ insert front at last }
-{
-    items[at..].rotate_right(1);
+    places.copy_within(at..filled, at + 1);
+    places[at] = item;
 }
