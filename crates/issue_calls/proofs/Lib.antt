@@ -1,5 +1,6 @@
 pub mod Grouping
 pub mod Holding
+pub mod InOrder
 pub mod Means
 pub mod Ops
 pub mod Showing
