@@ -9,3 +9,4 @@ pub mod Sorted
 pub mod Taken
 pub mod ToldText
 pub mod Plain
+pub mod Lent

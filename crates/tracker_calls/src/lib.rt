@@ -34,7 +34,7 @@ pub use body::read_body;
 pub use call::{Call, CallKind, MOST_ENTRIES, MOST_FROM, MOST_LISTED, MOST_MEMBERS, Part};
 pub use given::{Given, GivenField, GivenFields, has_twins};
 pub use json::Scratch;
-pub use line::{read_line, read_line_in};
+pub use line::{AskedLine, read_line, read_line_in};
 pub use members::{is_among, misses};
 pub use named::is_external;
 pub use reply::{

@@ -1,6 +1,8 @@
 // A line that comes in.
+ghost use Rattle.std.specs.Prelude.{List, ℕ, Result};
 ghost use Rattle.serde_json.specs.View.{view};
 ghost use Rattle.tracker_calls.specs.Asked.{line_of, call_of, UnlessMemory};
+ghost use Rattle.tracker_calls.specs.Lent.{AsksUnlessMemory};
 ghost use Rattle.tracker_calls.specs.Taken.{object_of};
 
 use crate::asked::asked_in;
@@ -8,11 +10,23 @@ use crate::call::{Call, kind_named};
 use crate::members::{misses, text_at};
 use crate::plain_line::plain_line;
 use crate::reply::Refusal;
+use crate::told_text::ToldText;
 use crate::user_name::UserName;
+use field_values::Memory;
 use json::Scratch;
 use serde_json::{Map, Value};
 use std::alloc::Global;
 use std::str;
+
+/// What a line asks for, and who asks.
+#[derive(Drop)]
+pub enum AskedLine<'a> {
+    /// To be told an issue's present values. These names lie in the line, or in the memory that reading needs.
+    Show { user: &'a str, issue: &'a str },
+
+    /// Any call.
+    Call { user: UserName, call: Call },
+}
 
 /// The user and the call of a line, which is one JSON object with the members `user`, `call` and the
 /// call's own, or the first fault of its form.
@@ -20,29 +34,52 @@ pub fn read_line(alloc: Global, bytes: &[u8]) -> Result<(UserName, Call), Refusa
     ensures { UnlessMemory result (line_of bytes.now) }
 {
     let mut scratch = Scratch::new(alloc);
-    read_line_in(alloc, &mut scratch, bytes)
-}
-
-/// The same, with the memory that reading needs, which whoever reads many lines keeps from line to line.
-pub fn read_line_in(
-    alloc: Global,
-    scratch: &mut Scratch,
-    bytes: &[u8],
-) -> Result<(UserName, Call), Refusal>
-    ensures { UnlessMemory result (line_of bytes.now) }
-{
-    match str::from_utf8(bytes) {
-        Ok(text) => read_text(alloc, scratch, text),
-        Err(_) => misses(alloc, "line"),
+    match read_line_in(alloc, &mut scratch, bytes)? {
+        AskedLine::Show { user, issue } => {
+            let user = UserName::copy_of(alloc, user)?;
+            let issue = ToldText::copy_of(alloc, issue)?;
+            Ok((user, Call::Show { issue }))
+        }
+        AskedLine::Call { user, call } => Ok((user, call)),
     }
 }
 
-fn read_text(alloc: Global, scratch: &mut Scratch, text: &str) -> Result<(UserName, Call), Refusal>
-    ensures { UnlessMemory result (line_of text.now) }
+/// The same, with the memory that reading needs, which whoever reads many lines keeps from line to line.
+pub fn read_line_in<'a>(
+    alloc: Global,
+    scratch: &'a mut Scratch,
+    bytes: &'a [u8],
+) -> Result<AskedLine<'a>, Refusal>
+    ensures { AsksUnlessMemory result (line_of bytes.now) }
 {
-    match plain_line(alloc, scratch, text)? {
-        Some(asked) => Ok(asked),
-        None => read_tree(alloc, text),
+    match str::from_utf8(bytes) {
+        Ok(text) => read_text(alloc, scratch, text),
+        Err(_) => unlent(misses(alloc, "line")),
+    }
+}
+
+fn read_text<'a>(
+    alloc: Global,
+    scratch: &'a mut Scratch,
+    text: &'a str,
+) -> Result<AskedLine<'a>, Refusal>
+    ensures { AsksUnlessMemory result (line_of text.now) }
+{
+    match plain_line(alloc, scratch, text) {
+        Ok(Some(asked)) => Ok(asked),
+        Ok(None) => unlent(read_tree(alloc, text)),
+        Err(Memory) => Err(Refusal::Memory),
+    }
+}
+
+// What is asked for, of which nothing is lent.
+fn unlent<'a>(asked: Result<(UserName, Call), Refusal>) -> Result<AskedLine<'a>, Refusal>
+    ensures { (expected : Result (List ℕ × Call) Refusal) → UnlessMemory asked expected
+        → AsksUnlessMemory result expected }
+{
+    match asked {
+        Ok((user, call)) => Ok(AskedLine::Call { user, call }),
+        Err(refusal) => Err(refusal),
     }
 }
 

@@ -8,26 +8,29 @@ ghost use Rattle.json.specs.Value.{value_view, members_view};
 ghost use Rattle.serde_json.specs.Data.{object, no_members};
 ghost use Rattle.serde_json.specs.Read.{of_json, of_members};
 ghost use Rattle.tracker_calls.specs.Asked.{line_of, call_of, need};
+ghost use Rattle.tracker_calls.specs.Lent.{asked_of};
 ghost use Rattle.tracker_calls.specs.Plain.{is_plain, values_of};
 
-use crate::call::{Call, kind_named};
+use crate::call::{CallKind, kind_named};
+use crate::line::AskedLine;
 use crate::plain_calls::kind_call;
 use crate::plain_members::{are_texts, has_no_other, text_member};
 use crate::user_name::UserName;
 use field_values::Memory;
 use json::{Error, Reader, Scratch, Value};
+use memchr::memchr;
 use std::alloc::Global;
 
 // How deep the JSON of a line may nest.
 const MAX_DEPTH: usize = 127;
 
-/// The user and the call of a plain line whose members are those of its call; `None` where it isn't known to be such a line.
-pub fn plain_line(
+/// What a plain line asks for whose members are those of its call; `None` where it isn't known to be such a line.
+pub fn plain_line<'a>(
     alloc: Global,
-    scratch: &mut Scratch,
-    text: &str,
-) -> Result<Option<(UserName, Call)>, Memory>
-    ensures { IfOk result (λ found. IfSome found (λ asked. line_of text.now ≡ Ok asked)) }
+    scratch: &'a mut Scratch,
+    text: &'a str,
+) -> Result<Option<AskedLine<'a>>, Memory>
+    ensures { IfOk result (λ found. IfSome found (λ asked. line_of text.now ≡ Ok (asked_of asked))) }
 {
     if has_list(text) {
         return Ok(None);
@@ -36,11 +39,7 @@ pub fn plain_line(
         return Err(Memory);
     };
     match Value::read(alloc, &mut reader, MAX_DEPTH) {
-        Ok(value) => {
-            let found = last_value_call(alloc, &mut reader, &value);
-            drop(value);
-            found
-        }
+        Ok(value) => last_value_call(alloc, &mut reader, &value),
         Err(Error::OutOfMemory) => Err(Memory),
         Err(_) => Ok(None),
     }
@@ -48,19 +47,19 @@ pub fn plain_line(
 
 // So that a line with a list isn't read twice.
 fn has_list(text: &str) -> bool {
-    text.as_bytes().contains(&b'[')
+    memchr(b'[', text.as_bytes()).is_some()
 }
 
 // That of a value behind which nothing is left.
-fn last_value_call(
+fn last_value_call<'a>(
     alloc: Global,
     reader: &mut Reader<'_>,
-    value: &Value<'_>,
-) -> Result<Option<(UserName, Call)>, Memory>
+    value: &Value<'a>,
+) -> Result<Option<AskedLine<'a>>, Memory>
     ensures { IfOk result (λ found. IfSome found (λ asked.
         need (option_and_then of_json (if_last (value_view value.now) reader.old))
         (codes "line") call_of
-        ≡ Ok asked)) }
+        ≡ Ok (asked_of asked))) }
 {
     if reader.next().is_some() {
         return Ok(None);
@@ -68,9 +67,9 @@ fn last_value_call(
     value_call(alloc, value)
 }
 
-fn value_call(alloc: Global, value: &Value<'_>) -> Result<Option<(UserName, Call)>, Memory>
+fn value_call<'a>(alloc: Global, value: &Value<'a>) -> Result<Option<AskedLine<'a>>, Memory>
     ensures { IfOk result (λ found. IfSome found (λ asked.
-        need (of_json (value_view value.now)) (codes "line") call_of ≡ Ok asked)) }
+        need (of_json (value_view value.now)) (codes "line") call_of ≡ Ok (asked_of asked))) }
 {
     match value {
         Value::Object(members) => members_call(alloc, members),
@@ -82,11 +81,11 @@ fn value_call(alloc: Global, value: &Value<'_>) -> Result<Option<(UserName, Call
 fn members_call<'a>(
     alloc: Global,
     members: &[(&'a str, Value<'a>)],
-) -> Result<Option<(UserName, Call)>, Memory>
+) -> Result<Option<AskedLine<'a>>, Memory>
     ensures { IfOk result (λ found. IfSome found (λ asked.
         need (option_map object (of_members (members_view members.now) no_members))
         (codes "line") call_of
-        ≡ Ok asked)) }
+        ≡ Ok (asked_of asked))) }
 {
     if !are_plain(members) {
         return Ok(None);
@@ -122,9 +121,9 @@ fn are_plain<'a>(members: &[(&'a str, Value<'a>)]) -> bool
 fn plain_call<'a>(
     alloc: Global,
     members: &[(&'a str, Value<'a>)],
-) -> Result<Option<(UserName, Call)>, Memory>
+) -> Result<Option<AskedLine<'a>>, Memory>
     ensures { IfOk result (λ found. IfSome found (λ asked.
-        call_of (object (values_of members.now)) ≡ Ok asked)) }
+        call_of (object (values_of members.now)) ≡ Ok (asked_of asked))) }
 {
     let Some(user) = text_member(members, "user") else {
         return Ok(None);
@@ -138,9 +137,17 @@ fn plain_call<'a>(
     if !has_no_other(kind, members) {
         return Ok(None);
     }
+    // Nothing of a show is copied.
+    if let CallKind::Show = kind {
+        return match text_member(members, "issue") {
+            Some(issue) => Ok(Some(AskedLine::Show { user, issue })),
+            None => Ok(None),
+        };
+    }
     let user = UserName::copy_of(alloc, user)?;
-    match kind_call(alloc, kind, members)? {
-        Some(call) => Ok(Some((user, call))),
-        None => Ok(None),
+    match kind_call(alloc, kind, members) {
+        Ok(Some(call)) => Ok(Some(AskedLine::Call { user, call })),
+        Ok(None) => Ok(None),
+        Err(Memory) => Err(Memory),
     }
 }

@@ -11,7 +11,7 @@ use request_lines::{Looked, Responder};
 use std::alloc::{AllocError, Global};
 use std::marker::Model;
 use std::sync::ledger::Ledger;
-use tracker_calls::{Call, Reply, Scratch, UserName, read_line_in};
+use tracker_calls::{AskedLine, Call, Reply, Scratch, UserName, read_line_in};
 use tracker_core::Desk;
 use tracker_import::put_reply_line;
 use tracker_keeper::Keeper;
@@ -68,40 +68,22 @@ impl<L: Ledger, P: Keeper + Drop> RequestLines<L, P> {
     }
 
     // Puts the line of the reply to a line in place of what the answer held, if it changes nothing, or says what the line asks for.
-    fn look_at(
-        &mut self,
-        line: &[u8],
-        answer: &mut Vec<u8>,
-    ) -> Result<Looked<Asked>, AllocError>
+    fn look_at(&mut self, line: &[u8], answer: &mut Vec<u8>) -> Result<Looked<Asked>, AllocError>
         ensures looked { IfOk result (IsLooked (IsReadReply self.old.machine line.now
             answer.new.items (P.faults self.old.keeper)) (IsAsked line.now)) }
         ensures same { self.new ≡ self.old }
     {
         match read_line_in(self.alloc, &mut self.scratch, line) {
-            Ok((user, call)) => self.look_at_call(user, call, answer),
+            Ok(AskedLine::Show { user, issue }) => {
+                put_show(self.alloc, &self.desk, user, issue, answer)?;
+                Ok(Looked::Answered)
+            }
+            Ok(AskedLine::Call { user, call }) => Ok(Looked::Asks(Asked { user, call })),
             Err(refusal) => {
                 put_reply_line(self.alloc, &Reply::Refused(refusal), answer)?;
                 Ok(Looked::Answered)
             }
         }
-    }
-
-    // The same of its call. A show is answered at once.
-    fn look_at_call(
-        &self,
-        user: UserName,
-        call: Call,
-        answer: &mut Vec<u8>,
-    ) -> Result<Looked<Asked>, AllocError>
-        ensures { (line : List ℕ) → line_of line ≡ Ok (user, call)
-            → IfOk result (IsLooked (IsReadReply self.now.machine line
-            answer.new.items (P.faults self.now.keeper)) (IsAsked line)) }
-    {
-        if let Call::Show { issue } = &call {
-            self.answer_show(&user, issue.as_str(), answer)?;
-            return Ok(Looked::Answered);
-        }
-        Ok(Looked::Asks(Asked { user, call }))
     }
 
     // Makes a call, and puts the line of its reply in place of what the answer held.
@@ -117,21 +99,22 @@ impl<L: Ledger, P: Keeper + Drop> RequestLines<L, P> {
         let reply = self.desk.call(caller, call, &mut self.steps);
         put_reply_line(self.alloc, &reply, answer)
     }
+}
 
-    // The same of a show, of which no reply is made: its text is written from the state.
-    fn answer_show(
-        &self,
-        caller: &UserName,
-        issue: &str,
-        answer: &mut Vec<u8>,
-    ) -> Result<(), AllocError>
-        ensures { HasLine (λ reply. MakesCall P.keeps P.tells P.faults self.now
-            caller.now (Call.Show issue.now) reply self.now) result answer.new.items }
-    {
-        match self.desk.write_show(caller, issue, answer) {
-            Ok(()) => end_line(answer),
-            Err(refusal) => put_reply_line(self.alloc, &Reply::Refused(refusal), answer),
-        }
+// Puts the line of the reply to a show in place of what the answer held. No reply is made: its text is written from the state.
+fn put_show<P: Keeper + Drop>(
+    alloc: Global,
+    desk: &Desk<P>,
+    caller: &str,
+    issue: &str,
+    answer: &mut Vec<u8>,
+) -> Result<(), AllocError>
+    ensures { HasLine (λ reply. MakesCall P.keeps P.tells P.faults desk.now
+        caller.now (Call.Show issue.now) reply desk.now) result answer.new.items }
+{
+    match desk.write_show(caller, issue, answer) {
+        Ok(()) => end_line(answer),
+        Err(refusal) => put_reply_line(alloc, &Reply::Refused(refusal), answer),
     }
 }
 
@@ -142,11 +125,7 @@ impl<L: Ledger, P: Keeper + Drop> Responder for RequestLines<L, P> {
 
     ghost asks = { AsksFor };
 
-    fn look(
-        &mut self,
-        line: &[u8],
-        answer: &mut Vec<u8>,
-    ) -> Result<Looked<Asked>, AllocError> {
+    fn look(&mut self, line: &[u8], answer: &mut Vec<u8>) -> Result<Looked<Asked>, AllocError> {
         answer.clear();
         if is_blank(line) {
             return Ok(Looked::Answered);

@@ -137,20 +137,15 @@ impl<P: Keeper + Drop> Desk<P> {
     /// Puts the text of the reply to a show by that user in place of what `answer` held, in its room, which stays with it even
     /// if the show is refused. The reply is that of `call`, and nothing that it tells is copied.
     #[tactic(auto, using(crate::proofs::Shows::told_show, crate::proofs::Shows::refused_show, crate::proofs::Shows::refused_stranger))]
-    pub fn write_show(
-        &self,
-        caller: &UserName,
-        issue: &str,
-        answer: &mut Vec<u8>,
-    ) -> Result<(), Refusal>
+    pub fn write_show(&self, caller: &str, issue: &str, answer: &mut Vec<u8>) -> Result<(), Refusal>
         ensures told { OnOk result (IsReplyText self.now.machine caller.now
             (Call.Show issue.now) answer.new.items) }
         ensures refused { IfErr result (λ r. IsStep self.now.machine caller.now
             (Call.Show issue.now) (Reply.Refused r) self.now.machine) }
         ensures unasked { IfErr result (λ r. r ≢ Refusal.Keeper) }
     {
-        let Some(user) = self.state.user_named(caller.as_str()) else {
-            return Err(unknown(self.alloc, Thing::User, caller.as_str()));
+        let Some(user) = self.state.user_named(caller) else {
+            return Err(unknown(self.alloc, Thing::User, caller));
         };
         write_show(self.alloc, &self.state, user, issue, answer)
     }

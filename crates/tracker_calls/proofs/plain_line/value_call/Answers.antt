@@ -4,6 +4,7 @@ use Rattle.json.proofs.Trees.{view-Object}
 use Rattle.serde_json.specs.Data.{Data, object, no_members}
 use Rattle.serde_json.specs.Read.{of_json, of_members}
 use Rattle.tracker_calls.specs.Asked.{call_of, need}
+use Rattle.tracker_calls.specs.Lent.{asked_of}
 use Rattle.tracker_calls.specs.Plain.{Named}
 use Rattle.tracker_calls.proofs.plain_line.value_call.Goals as goal
 
@@ -12,5 +13,5 @@ returns-in-Object c =
     let read : of_json (value_view c.args.value.now) ≡ option_map object (of_members (members_view c.deref.result.now) no_members) =
     ap of_json (ap value_view c.in-Object.is ∙ view-Object c.in-Object.members)
     ∙ ap (λ (ms : List Named). option_map object (of_members (members_view ms) no_members)) (sym c.deref.ensures.value) in
-    subst (λ (o : Option Data). IfOk c.members_call.result (λ found. IfSome found (λ asked. need o (codes "line") call_of ≡ Ok asked)))
+    subst (λ (o : Option Data). IfOk c.members_call.result (λ found. IfSome found (λ asked. need o (codes "line") call_of ≡ Ok (asked_of asked))))
     (sym read) c.members_call.ensures
