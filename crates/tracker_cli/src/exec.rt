@@ -134,8 +134,7 @@ impl<L: Ledger, P: Keeper + Drop> Responder for RequestLines<L, P> {
     }
 
     fn make(&mut self, change: Asked, answer: &mut Vec<u8>) -> Result<(), AllocError> {
-        let Asked { user, call } = change;
-        self.answer_call(&user, &call, answer)
+        self.answer_call(&change.user, &change.call, answer)
     }
 }
 

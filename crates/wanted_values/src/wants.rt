@@ -285,6 +285,25 @@ fn put_outcome(
     if is_left(set, opening, field) {
         return Ok(());
     }
+    put_wanted(alloc, set, opening, field, outcome)
+}
+
+// The same of a field that the call may well say something of. Those that are left alone so cost no more than the look.
+#[inline(never)]
+fn put_wanted(
+    alloc: Global,
+    set: &ResolvedSet<'_>,
+    opening: Option<Opening<'_>>,
+    field: FieldNo,
+    outcome: &mut Outcome,
+) -> Result<(), Memory>
+    ensures fault { OnOk result (option_map (λ f. f.0) outcome.new.fault
+        ≡ least_with (option_map (λ f. f.0) outcome.old.fault)
+        (faults_in (names_in set.now.setup)
+        (wants_of set.now.setup set.now.set opening.entry) (field.0 ∷ []))) }
+    ensures changes { OnOk result (outcome.new.changes.items ≡ outcome.old.changes.items
+        ++ change_to field.0 (wants_of set.now.setup set.now.set opening.entry field.0)) }
+{
     let wanted = wanted(alloc, set, opening, field)?;
     outcome.fault = fault_after(set.setup(), outcome.fault, field, &wanted);
     put_change(&mut outcome.changes, field, wanted)
