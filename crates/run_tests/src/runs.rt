@@ -118,6 +118,55 @@ fn a_write_that_fails_leaves_a_front(rt: HostRuntime) -> Result<(), Fail> {
     Ok(())
 }
 
+// The status and the output of a run over these bytes, which come at once, where the writes of these numbers fail.
+fn answered(
+    alloc: Global,
+    bytes: &[u8],
+    bad_writes: Vec<u64>,
+) -> Result<(u8, Vec<u8>), AllocError> {
+    let mut source = MemorySource::new(bytes.to_vec(alloc)?, Vec::new(alloc), Vec::new(alloc));
+    let mut sink = MemorySink::new(alloc, 20_000, bad_writes)?;
+    let (status, _) = run(
+        alloc,
+        &words(alloc, "exec")?,
+        &mut source,
+        &mut sink,
+        keeper(alloc)?,
+    );
+    Ok((status, sink.taken().to_vec(alloc)?))
+}
+
+#[test]
+fn replies_that_change_nothing_are_written_together(rt: HostRuntime) -> Result<(), Fail> {
+    let alloc = rt.alloc();
+    let lines =
+        b"{\"user\":\"anna\",\"call\":\"tick\",\"to\":5}\n{}\n{}\n{\"user\":\"anna\",\"call\":\"tick\",\"to\":6}\n{}\n";
+    // The replies to each tick, to the two lines between them, and to the last one.
+    let ends = [0, 20, 94, 114, 151];
+    for place in 0..ends.len() {
+        let bad_writes = [place as u64 + 1].to_vec(alloc)?;
+        let (status, out) = answered(alloc, lines, bad_writes)?;
+        assert_eq!(rt; status, if place < 4 { 3 } else { 0 });
+        assert_eq!(rt; out.len(), ends[place]);
+    }
+    Ok(())
+}
+
+#[test]
+fn more_replies_than_may_wait_are_all_written(rt: HostRuntime) -> Result<(), Fail> {
+    let alloc = rt.alloc();
+    let mut lines = Vec::new(alloc);
+    let mut replies = Vec::new(alloc);
+    for _ in 0..500 {
+        lines.extend_from_slice(b"{}\n")?;
+        replies.extend_from_slice(b"{\"refused\":{\"member\":\"user\",\"no\":1}}\n")?;
+    }
+    let (status, out) = answered(alloc, &lines, Vec::new(alloc))?;
+    assert_eq!(rt; status, 0);
+    assert_eq!(rt; out.as_slice(), replies.as_slice());
+    Ok(())
+}
+
 // `import` and this word.
 fn import_words(alloc: Global, user: &str) -> Result<Vec<String>, AllocError> {
     let mut words = words(alloc, "import")?;
