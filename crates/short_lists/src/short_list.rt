@@ -169,12 +169,36 @@ impl<T: Copy, const N: usize> Kept<T, N> {
         ensures room { OnOk result (HasRoom N self.new) }
     {
         if self.is_nowhere() {
-            *self = Kept::Here(Places::of(item));
+            self.begin(item);
         }
         if self.is_full() {
-            let apart = apart(alloc, self.as_slice())?;
-            *self = Kept::Apart(apart);
+            return self.move_apart(alloc);
         }
+        Ok(())
+    }
+
+    // Gives a list that is nowhere its places. A call of its own, so that they are cleared when the first thing comes, and not with
+    // each.
+    #[inline(never)]
+    fn begin(&mut self, item: T)
+        ensures none { kept_items self.new ≡ [] }
+        ensures some { IsSomewhere self.new }
+        ensures apart { AreApartIfMany N self.new }
+    {
+        *self = Kept::Here(Places::of(item));
+    }
+
+    // Moves the things of a list that is full apart.
+    #[inline(never)]
+    fn move_apart(&mut self, alloc: Global) -> Result<(), Memory>
+        requires many { N ≤ length (kept_items self.old) }
+        requires apart { AreApartIfMany N self.old }
+        ensures same { kept_items self.new ≡ kept_items self.old }
+        ensures apart { AreApartIfMany N self.new }
+        ensures room { OnOk result (HasRoom N self.new) }
+    {
+        let apart = apart(alloc, self.as_slice())?;
+        *self = Kept::Apart(apart);
         Ok(())
     }
 
