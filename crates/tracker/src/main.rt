@@ -9,7 +9,7 @@ use std::net::{Net, TcpListener, TcpStream};
 use std::process::ExitCode;
 use std::sync::Wait;
 use std::time::Clock;
-use std::{env, io};
+use std::{env, io, mem};
 use tracker_cli::{PortLinks, Reading, Store, Writing, run, serve};
 use tracker_keeper::MemoryKeeper;
 
@@ -101,8 +101,18 @@ fn is_serve(words: &[String]) -> bool {
 fn run_over(rt: &HostRuntime, words: &[String], keeper: Kept) -> u8 {
     let mut input = Reading::new(rt.reader());
     let mut out = Writing::new(io::writer(rt));
-    let (status, _keeper) = run(rt.alloc(), words, &mut input, &mut out, keeper);
+    let (status, keeper) = run(rt.alloc(), words, &mut input, &mut out, keeper);
+    leave(keeper);
     status
+}
+
+// Leaves a store as the process ends. Rows in memory go with the process, and aren't given back one by one: of a run of edits that took
+// a fifteenth of the time. A file is closed.
+fn leave(keeper: Kept) {
+    match keeper {
+        Store::Memory(rows) => mem::forget(rows),
+        Store::File(file) => drop(file),
+    }
 }
 
 // Serves HTTP on the port that the word behind `serve` names, until it is stopped.
