@@ -1,5 +1,5 @@
 -- What the members of a plain line are, and which of them are found.
-use Rattle.std.proofs.Common.{◌≡◌, ℕ, List, [], ◌∷◌, Bool, true, false, Option, Some, None, option_map, Ordering, Less, Equal, Greater, cond, refl, ap, sym, ◌∙◌, inl, inr, not, find, nat_cmp, codes, Bor, Vec, Global}
+use Rattle.std.proofs.Common.{◌≡◌, ◌<◌, ◌≤◌, arith, length, get_or, Ok, ℕ, List, [], ◌∷◌, Bool, true, false, Option, Some, None, option_map, Ordering, Less, Equal, Greater, cond, refl, ap, sym, ◌∙◌, inl, inr, not, find, nat_cmp, codes, Bor, Vec, Global}
 use Rattle.std.specs.Prelude.{option_and_then, if◌then◌else◌, ◌&&◌}
 use Rattle.std.specs.List.{list_all}
 use Rattle.std.specs.Option.{is_some}
@@ -20,9 +20,10 @@ use Rattle.serde_json.specs.Data.{Data, string, object, Members, no_members, mem
 use Rattle.serde_json.specs.Find.{get_member, as_str}
 use Rattle.serde_json.specs.Read.{of_json, of_members}
 use Rattle.serde_json.proofs.Views.{get_member-put, get_member-put_other}
+use Rattle.tracker_calls.specs.declared.call.Call.TheVariants as call
 use Rattle.tracker_calls.specs.declared.call.CallKind.{CallKind}
 use Rattle.tracker_calls.specs.Asked.{names_of, first_other, is_member, line_of, call_of, need}
-use Rattle.tracker_calls.specs.Plain.{Named, is_text, text_in, text_of, texts_in, are_texts_in, is_plain, plain_data, with_texts, texts_of, with_values, values_of, last_value, texts_by}
+use Rattle.tracker_calls.specs.Plain.{Named, is_text, text_in, text_of, texts_in, are_texts_in, is_plain, plain_data, with_texts, texts_of, with_values, values_of, last_value, texts_by, IsTextOf}
 use Rattle.tracker_calls.proofs.AskedLines.{data_of-text}
 use Rattle.short_lists.specs.ByName.{name_cmp}
 
@@ -180,3 +181,45 @@ by_match Greater a b c = refl
 pub text_put : (es : List (Bor (List ℕ) × Bor (List ℕ))) (k : Bor (List ℕ)) (v : Bor (List ℕ)) → texts_by (insert_entry name_cmp es k v) ≡ put k.now (string v.now) (texts_by es)
 text_put [] k v = refl
 text_put (e ∷ es) k v = by_match (name_cmp k e.0) _ _ _ ∙ rw (text_put es k v) refl
+
+-- ---- a show whose members stand in the usual order
+
+shown_line : (user issue : List ℕ)
+    → need (option_map object (of_members (json.member (codes "user") (json.string user) (json.member (codes "call") (json.string (codes "show")) (json.member (codes "issue") (json.string issue) json.no_members))) no_members)) (codes "line") call_of
+    ≡ Ok (user, call.Show issue)
+shown_line user issue = refl
+
+is_string : (j : json.Json) (s : List ℕ) → json_find.as_str j ≡ Some s → j ≡ json.string s
+is_string json.null s e = absurd (cc)
+is_string (json.boolean b) s e = absurd (cc)
+is_string (json.number n) s e = absurd (cc)
+is_string (json.string t) s e = ap json.string (some_same t s e) where
+  some_same : (x y : List ℕ) → Some x ≡ Some y → x ≡ y
+  some_same x y same = cc
+is_string (json.array js) s e = absurd (cc)
+is_string (json.object ms) s e = absurd (cc)
+
+named_text : (name text : List ℕ) (m : Named) (rest : json.Members) → IsTextOf name text m → json.member m.0.now (value_view m.1) rest ≡ json.member name (json.string text) rest
+named_text name text m rest is =
+    ap (λ (k : List ℕ). json.member k (value_view m.1) rest) (sym ((bytes_eq-Decides name m.0.now).0 is.0))
+    ∙ ap (λ (j : json.Json). json.member name j rest) (is_string (value_view m.1) text is.1)
+
+pub show_in_order : (a b c : Named) (user kind issue : List ℕ) → IsTextOf (codes "user") user a → IsTextOf (codes "call") kind b → IsTextOf (codes "issue") issue c → bytes_eq (codes "show") kind ≡ true
+    → need (option_map object (of_members (members_view (a ∷ b ∷ c ∷ [])) no_members)) (codes "line") call_of ≡ Ok (user, call.Show issue)
+show_in_order a b c user kind issue first second third same =
+    let last : members_view (c ∷ []) ≡ json.member (codes "issue") (json.string issue) json.no_members = named_text (codes "issue") issue c json.no_members third in
+    let shows : kind ≡ codes "show" = sym ((bytes_eq-Decides (codes "show") kind).0 same) in
+    let members : members_view (a ∷ b ∷ c ∷ []) ≡ json.member (codes "user") (json.string user) (json.member (codes "call") (json.string (codes "show")) (json.member (codes "issue") (json.string issue) json.no_members)) =
+    named_text (codes "user") user a (members_view (b ∷ c ∷ [])) first
+    ∙ ap (json.member (codes "user") (json.string user)) (named_text (codes "call") kind b (members_view (c ∷ [])) second
+    ∙ ap (λ (k : List ℕ). json.member (codes "call") (json.string k) (members_view (c ∷ []))) shows
+    ∙ ap (json.member (codes "call") (json.string (codes "show"))) last) in
+    ap (λ (ms : json.Members). need (option_map object (of_members ms no_members)) (codes "line") call_of) members ∙ shown_line user issue
+
+-- a list of three
+pub three : {X : Type 0} (xs : List X) (a b c : X) → 3 ≤ length xs → length xs < 4 → a ≡ get_or xs 0 a → b ≡ get_or xs 1 b → c ≡ get_or xs 2 c → xs ≡ a ∷ b ∷ c ∷ []
+three [] a b c many few first second third = absurd (omega arith)
+three (x ∷ []) a b c many few first second third = absurd (omega arith)
+three (x ∷ y ∷ []) a b c many few first second third = absurd (omega arith)
+three (x ∷ y ∷ z ∷ []) a b c many few first second third = cc (first, second, third)
+three (x ∷ y ∷ z ∷ w ∷ more) a b c many few first second third = absurd (omega arith)

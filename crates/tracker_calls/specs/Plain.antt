@@ -89,3 +89,7 @@ last_value name before (m ∷ ms) =
 abbrev pub texts_by : List (Bor (List ℕ) × Bor (List ℕ)) → Members
 texts_by [] = no_members
 texts_by (e ∷ es) = member e.0.now (string e.1.now) (texts_by es)
+
+-- a member of that name is that text
+abbrev pub IsTextOf : List ℕ → List ℕ → Named → Type 0
+IsTextOf name text m = (bytes_eq name m.0.now ≡ true) × (as_str (value_view m.1) ≡ Some text)

@@ -9,13 +9,14 @@ ghost use Rattle.serde_json.specs.Data.{object, no_members};
 ghost use Rattle.serde_json.specs.Read.{of_json, of_members};
 ghost use Rattle.tracker_calls.specs.Asked.{line_of, call_of, need};
 ghost use Rattle.tracker_calls.specs.Lent.{asked_of};
-ghost use Rattle.tracker_calls.specs.Plain.{is_plain, values_of};
+ghost use Rattle.tracker_calls.specs.Plain.{is_plain, values_of, IsTextOf};
 
 use crate::call::{CallKind, kind_named};
 use crate::line::AskedLine;
 use crate::plain_calls::kind_call;
 use crate::plain_members::{are_texts, has_no_other, text_member};
 use crate::user_name::UserName;
+use field_forms::short_text::is_same;
 use field_values::Memory;
 use json::{Error, Reader, Scratch, Value};
 use memchr::memchr;
@@ -87,10 +88,42 @@ fn members_call<'a>(
         (codes "line") call_of
         ≡ Ok (asked_of asked))) }
 {
+    if let Some((user, issue)) = plain_show(members) {
+        return Ok(Some(AskedLine::Show { user, issue }));
+    }
     if !are_plain(members) {
         return Ok(None);
     }
     plain_call(alloc, members)
+}
+
+// Who asks for which issue, where the members are those of a show as nearly all lines have them: in this order, each once.
+fn plain_show<'a>(members: &[(&'a str, Value<'a>)]) -> Option<(&'a str, &'a str)>
+    ensures { IfSome result (λ show.
+        need (option_map object (of_members (members_view members.now) no_members))
+        (codes "line") call_of
+        ≡ Ok (asked_of (AskedLine.Show show.0 show.1))) }
+{
+    let [user, call, issue] = members else {
+        return None;
+    };
+    let user = text_named("user", user)?;
+    let call = text_named("call", call)?;
+    let issue = text_named("issue", issue)?;
+    if !is_same("show", call) {
+        return None;
+    }
+    Some((user, issue))
+}
+
+// The text of a member of that name.
+fn text_named<'a>(name: &str, member: &(&'a str, Value<'a>)) -> Option<&'a str>
+    ensures { IfSome result (λ text. IsTextOf name.now text.now member.now) }
+{
+    if !is_same(name, member.0) {
+        return None;
+    }
+    member.1.as_str()
 }
 
 // Whether the value is known to be a text or an object of texts.
