@@ -20,6 +20,8 @@ use tracker_keeper::Keeper;
 /// source failed; 3 the sink failed; 4 the keeper failed before any call, or at a call of `generate`; 5 a row that is kept is
 /// bad; 6 want of memory; 7 a line, the number of lines or a whole input passes its limit; 8 the input of `init` is no setup, or
 /// that of `import` has a bad record; 9 the keeper of `init` or `generate` has rows already.
+///
+/// A run is made to be the last act of a process: under `exec` the memory of the tracker isn't given back, but goes with the process.
 pub fn run<S: Source, T: Sink, P: Keeper + Drop>(
     alloc: Global,
     words: &[String],

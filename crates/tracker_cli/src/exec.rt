@@ -67,6 +67,19 @@ impl<L: Ledger, P: Keeper + Drop> RequestLines<L, P> {
         desk.close()
     }
 
+    /// The same where the process is to end, to which the memory of the desk's state is left.
+    pub fn leave(self) -> P
+        ensures { result ≡ self.keeper }
+    {
+        let RequestLines {
+            alloc: _,
+            desk,
+            steps: _,
+            scratch: _,
+        } = self;
+        desk.leave()
+    }
+
     // Puts the line of the reply to a line in place of what the answer held, if it changes nothing, or says what the line asks for.
     fn look_at(&mut self, line: &[u8], answer: &mut Vec<u8>) -> Result<Looked<Asked>, AllocError>
         ensures looked { IfOk result (IsLooked (IsReadReply self.old.machine line.now

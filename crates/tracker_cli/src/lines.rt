@@ -143,7 +143,8 @@ fn carry_out<L: Ledger, S: Source, T: Sink, P: Keeper + Drop>(
     exec::<L, S, T, P>(alloc, input, out, keeper, blank)
 }
 
-// Has the request lines answered by the desk of what the keeper has. The steps are counted, and the count is let go.
+// Has the request lines answered by the desk of what the keeper has. The steps are counted, and the count is let go. The memory of the
+// desk's state is left to the process, which is to end with the run.
 fn exec<L: Ledger, S: Source, T: Sink, P: Keeper + Drop>(
     alloc: Global,
     input: &mut S,
@@ -179,7 +180,7 @@ fn exec<L: Ledger, S: Source, T: Sink, P: Keeper + Drop>(
     };
     let mut requests = RequestLines::new(alloc, desk, Steps::<L>::new(blank));
     let end = answer_lines(alloc, &mut requests, input, out);
-    Ok((end, requests.close()))
+    Ok((end, requests.leave()))
 }
 
 // Has the lines answered as queries.

@@ -18,6 +18,7 @@ use fields::{Setup, Steps};
 use issue_calls::written_show::write_show;
 use std::alloc::Global;
 use std::marker::Model;
+use std::mem;
 use std::sync::ledger::Ledger;
 use tracker_calls::{Answer, Call, Refusal, Reply, Thing, UserName};
 use tracker_keeper::{KeepFault, Keeper, Row, RowOp};
@@ -166,6 +167,20 @@ impl<P: Keeper + Drop> Desk<P> {
             state: _,
             keeper,
         } = self;
+        keeper
+    }
+
+    /// The same where the process is to end: the memory of the state isn't given back, since it goes with the process. Giving it back
+    /// issue by issue takes a twentieth of the time of a run of edits.
+    pub fn leave(self) -> P
+        ensures { result ≡ self.keeper }
+    {
+        let Desk {
+            alloc: _,
+            state,
+            keeper,
+        } = self;
+        mem::forget(state);
         keeper
     }
 }
