@@ -14,5 +14,5 @@ returns-clause-run g c =
     (λ rows kept. subst (λ (d : DeskParts _). tells d.keeper → IsOpened BUILT_IN.now rows d.machine) begun (c.in-Ok.ensures.opened rows kept))
     (λ rows kept. subst (λ (d : DeskParts _). tells d.keeper → keeps d.keeper (rows_of d.machine)) begun (c.in-Ok.ensures.rows rows kept))
     (subst (λ (d : DeskParts _). g.P.Keeper.faults c.args.keeper ≤ g.P.Keeper.faults d.keeper) begun c.in-Ok.ensures.later_ok)
-    c.close.ensures
+    c.leave.ensures
     c.answer_lines-end.ensures.run
