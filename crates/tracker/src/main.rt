@@ -106,8 +106,7 @@ fn run_over(rt: &HostRuntime, words: &[String], keeper: Kept) -> u8 {
     status
 }
 
-// Leaves a store as the process ends. Rows in memory go with the process, and aren't given back one by one: of a run of edits that took
-// a fifteenth of the time. A file is closed.
+// Leaves a store as the process ends. Rows in memory go with the process, and aren't given back one by one. A file is closed.
 fn leave(keeper: Kept) {
     match keeper {
         Store::Memory(rows) => mem::forget(rows),
