@@ -58,18 +58,19 @@ impl<L: Ledger, P: Keeper + Drop> RequestLines<L, P> {
     pub fn close(self) -> P
         ensures { result ≡ self.keeper }
     {
-        let RequestLines {
-            alloc: _,
-            desk,
-            steps: _,
-            scratch: _,
-        } = self;
-        desk.close()
+        self.into_desk().close()
     }
 
     /// The same where the process is to end, to which the memory of the desk's state is left.
     pub fn leave(self) -> P
         ensures { result ≡ self.keeper }
+    {
+        self.into_desk().leave()
+    }
+
+    // The desk, without what is kept for answering lines.
+    fn into_desk(self) -> Desk<P>
+        ensures { result ≡ self }
     {
         let RequestLines {
             alloc: _,
@@ -77,7 +78,7 @@ impl<L: Ledger, P: Keeper + Drop> RequestLines<L, P> {
             steps: _,
             scratch: _,
         } = self;
-        desk.leave()
+        desk
     }
 
     // Puts the line of the reply to a line in place of what the answer held, if it changes nothing, or says what the line asks for.
