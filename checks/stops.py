@@ -1,7 +1,7 @@
 #!/usr/bin/env python3
 """Stops the disk at each write of a tracker's first lines and of a migration, and looks at the rows that are there afterwards.
 
-usage: python3 bench/stops.py PROGRAM [SEED]
+usage: python3 checks/stops.py PROGRAM [SEED]
 
 PROGRAM is the built tracker, as crates/tracker/out/tracker after `rt run` there. It answers LINES over a file that isn't there yet, under
 strace, which tells what it wrote, what it had the disk keep, and when each reply was out. For each of these moments, files are made as a

@@ -1,64 +1,47 @@
 #!/usr/bin/env python3
-"""Runs the examples of README.md and docs/*.md, and compares what comes with what the pages print.
+"""Runs the examples of README.md and docs/*.md with the tracker, and compares what comes with what the pages print.
 
-usage: python3 bench/pages.py [TRACKER [STORED_RUNS]]
+usage: python3 checks/pages.py [TRACKER]
 
-TRACKER is the built tracker, crates/tracker/out/tracker by default, and STORED_RUNS the built stored_runs, by default that of
-the same checkout as TRACKER. Examples have these forms:
+TRACKER is the built tracker, crates/tracker/out/tracker by default. Examples have these forms:
 
 - A block, indented or fenced, with lines that begin with `$ `: each is a command for the shell, at the top of the repository,
   and so are the lines behind it as long as a line ends with a backslash. The lines from there to the next `$ ` or the block's
-  end are what it writes, standard error too. The words crates/tracker/out/tracker and crates/stored_runs/out/stored_runs stand
-  for the two programs.
+  end are what it writes, standard error too. crates/tracker/out/tracker stands for TRACKER, and the same path of another crate
+  for the program built there, in the checkout that TRACKER is of.
 - A block fenced with the word `exec`: behind `> ` stands a line for `TRACKER :memory: exec`, and on the next line its reply.
   Lines that begin with `#` are for the reader. The blocks and tables of a page are one run, in their order: each goes on from
   the one before.
 - A block fenced with `toml` is a setup. The blocks fenced with `lines`, and the tables, that stand between it and the next one
-  are one run over this setup. They have the form of `exec` blocks, and are answered by STORED_RUNS.
+  are one run over a new file of this setup. They have the form of `exec` blocks.
 - A table with the columns `Query` (or `Query by NAME`; else anna asks) and `Finds`: the search finds these issues in this
   order, or `none`.
 - A table with the columns `Query`, `Kind` and `Place`: the search is refused with number 7, this kind and this place.
 - A table with the columns `Text` and `Spelling`, or `Text`, `Kind` and `Place`: the reply of `TRACKER :memory: check` to the
   text.
-- A table with the columns `Instead of`, `Stands` and `Told`: a part of the text of a new tracker's setup, what stands there
-  instead (`;` ends a line), and what the section `setup` of STORED_RUNS tells.
+- A table with the columns `Instead of`, `Stands` and `Told`: a part of the text of docs/NEW-TRACKER.md, what stands there
+  instead (`;` ends a line, ` & ` stands before a second change), and the fault that `TRACKER :memory: init` tells of the changed
+  text, or `none`. The text itself is compared with the one that a new file keeps.
 
 In tables other columns are for the reader, one pair of backticks round a cell is dropped, and `\\|` is `|`. Each example that
 differs is told with its place, what the page prints (-) and what came (+). The last line counts them. The status is 1 where one
-differs or can't be run.
+differs, or where TRACKER isn't there.
 """
+import contextlib
 import json
 import os
 import pathlib
 import re
 import shlex
+import sqlite3
 import subprocess
 import sys
 import tempfile
 
 TOP = pathlib.Path(__file__).resolve().parent.parent
 TRACKER = 'crates/tracker/out/tracker'
-STORED_RUNS = 'crates/stored_runs/out/stored_runs'
-
-
-class Run:
-    """Lines for one run of a program, each with the reply that the page prints."""
-
-    def __init__(self, words, head=()):
-        self.words, self.head, self.lines = words, list(head), []
-
-    def play(self, told):
-        if not self.lines:
-            return
-        if not os.path.isfile(self.words[0]):
-            for place, line, wanted in self.lines:
-                told(place, line, [wanted], None)
-            return
-        given = '\n'.join(self.head + [line for _, line, _ in self.lines]) + '\n'
-        replies = output(self.words, given).split('\n')[len(self.head):]
-        for number, (place, line, wanted) in enumerate(self.lines):
-            came = replies[number] if number < len(replies) else '(nothing)'
-            told(place, line, [wanted], [came])
+PROGRAM = re.compile(r'\bcrates/(\w+)/out/\1\b')
+NEW_TRACKER = TOP / 'docs/NEW-TRACKER.md'
 
 
 def output(words, given=''):
@@ -67,6 +50,68 @@ def output(words, given=''):
     except (OSError, subprocess.TimeoutExpired) as fault:
         return f'({fault})'
     return ran.stdout.decode(errors='replace')
+
+
+class Run:
+    """Lines for one run of the tracker, each with the reply that the page prints."""
+
+    def __init__(self, words):
+        self.words, self.lines = words, []
+
+    def play(self, told):
+        if not self.lines:
+            return
+        replies = output(self.words, '\n'.join(line for _, line, _ in self.lines) + '\n').split('\n')
+        for number, (place, line, wanted) in enumerate(self.lines):
+            came = replies[number] if number < len(replies) else '(nothing)'
+            told(place, line, [wanted], [came])
+
+
+class SetUpRun(Run):
+    """A run over a new file of a setup."""
+
+    def __init__(self, tracker, store, setup, place):
+        super().__init__([tracker, store, 'exec'])
+        self.setup, self.place = setup, place
+
+    def play(self, told):
+        tracker, store, _ = self.words
+        told(self.place, 'the setup', [''], [output([tracker, store, 'init'], self.setup)])
+        super().play(told)
+
+
+class Faults:
+    """Changes of a new tracker's setup, each with the fault that the page prints."""
+
+    def __init__(self, tracker):
+        self.tracker, self.lines = tracker, []
+
+    def play(self, told):
+        for place, changes, wanted in self.lines:
+            text = new_setup()
+            for change in changes.split(' & '):
+                part, _, new = change.partition(' | ')
+                if part.replace(';', '\n') not in text:
+                    told(place, changes, [wanted], [f'no {part}'])
+                    break
+                text = text.replace(part.replace(';', '\n'), new.replace(';', '\n'))
+            else:
+                came = output([self.tracker, ':memory:', 'init'], text).strip()
+                told(place, changes, [wanted], [came.removeprefix('setup ') or 'none'])
+
+
+def new_setup():
+    """The setup of a new tracker, as its page has it."""
+    return re.search(r'```toml\n(.*?)```', NEW_TRACKER.read_text(), re.S)[1]
+
+
+def kept_setup(tracker, folder):
+    """The setup that a new file keeps."""
+    store = os.path.join(folder, 'new.db')
+    if said := output([tracker, store, 'exec']):
+        return said
+    with contextlib.closing(sqlite3.connect(store)) as base:
+        return base.execute('SELECT body FROM kept WHERE kind = 1').fetchone()[0]
 
 
 def parts(text):
@@ -102,11 +147,10 @@ def cells(row):
 class Page:
     """The examples of a page."""
 
-    def __init__(self, path, tracker, stored_runs, folder):
-        self.path, self.folder, self.commands = path, folder, []
-        self.programs = {TRACKER: tracker, STORED_RUNS: stored_runs}
+    def __init__(self, path, tracker, folder):
+        self.path, self.tracker, self.folder, self.commands = path, tracker, folder, []
         self.checks = Run([tracker, ':memory:', 'check'])
-        self.faults = Run([stored_runs], ['== setup'])
+        self.faults = Faults(tracker)
         self.now = Run([tracker, ':memory:', 'exec'])
         self.runs = [self.checks, self.faults, self.now]
         for kind, begin, lines in parts(path.read_text()):
@@ -123,9 +167,8 @@ class Page:
         return f'{self.path.relative_to(TOP)}:{line}'
 
     def take_setup(self, begin, lines):
-        file = os.path.join(self.folder, f'{self.path.stem}_{begin}.toml')
-        pathlib.Path(file).write_text('\n'.join(lines) + '\n')
-        self.now = Run([self.faults.words[0]], [f'== lines {file}'])
+        store = os.path.join(self.folder, f'{self.path.stem}_{begin}.db')
+        self.now = SetUpRun(self.tracker, store, '\n'.join(lines) + '\n', self.place(begin))
         self.runs.append(self.now)
 
     def take_lines(self, begin, lines):
@@ -185,38 +228,46 @@ class Page:
     def play(self, told):
         for place, command, wanted in self.commands:
             shown = command
-            called = [it for it in self.programs if it in command]
-            if not all(os.path.isfile(self.programs[it]) for it in called):
+            called = {it[0]: program_named(it[1], self.tracker) for it in PROGRAM.finditer(command)}
+            if not all(os.path.isfile(it) for it in called.values()):
                 told(place, shown, wanted, None)
                 continue
-            for name in called:
-                command = command.replace(name, shlex.quote(self.programs[name]))
+            for name, program in called.items():
+                command = command.replace(name, shlex.quote(program))
             came = output(['sh', '-c', command]).split('\n')
             told(place, shown, wanted, came[:-1] if came[-1] == '' else came)
         for run in self.runs:
             run.play(told)
 
 
+def program_named(name, tracker):
+    """The built program of that name, of the same checkout as TRACKER."""
+    if name == 'tracker':
+        return tracker
+    above = pathlib.Path(tracker).parents
+    at = above[3] if tracker.endswith(TRACKER) else TOP
+    return str(at / f'crates/{name}/out/{name}')
+
+
 def main():
-    if len(sys.argv) > 3 or sys.argv[1:2] in (['-h'], ['--help']):
+    if len(sys.argv) > 2 or sys.argv[1:2] in (['-h'], ['--help']):
         sys.exit(__doc__)
     tracker = os.path.abspath(sys.argv[1]) if len(sys.argv) > 1 else str(TOP / TRACKER)
-    checkout = pathlib.Path(tracker).parents[3] if len(pathlib.Path(tracker).parents) > 3 else TOP
-    stored_runs = os.path.abspath(sys.argv[2]) if len(sys.argv) > 2 else str(checkout / STORED_RUNS)
-    for program in (tracker, stored_runs):
-        if not os.path.isfile(program):
-            print(f'{program} is not there: its examples are not run')
+    if not os.path.isfile(tracker):
+        sys.exit(f'{tracker} is not there: no example is run. `rt ci` builds it')
     counts = dict.fromkeys(('passed', 'differ', 'not run'), 0)
 
     def told(place, shown, wanted, came):
         counts['not run' if came is None else 'passed' if wanted == came else 'differ'] += 1
-        if came is not None and wanted != came:
+        if wanted != came:
+            came = ['(the program is not built)'] if came is None else came
             print('\n'.join([f'{place}: {shown}'] + [f'- {line}' for line in wanted] + [f'+ {line}' for line in came]))
 
     with tempfile.TemporaryDirectory() as folder:
+        told(NEW_TRACKER.relative_to(TOP), 'the setup', [new_setup()], [kept_setup(tracker, folder)])
         for path in [TOP / 'README.md', *sorted((TOP / 'docs').glob('*.md'))]:
             before = dict(counts)
-            Page(path, tracker, stored_runs, folder).play(told)
+            Page(path, tracker, folder).play(told)
             if counts != before:
                 print(f'{path.relative_to(TOP)}: ' + ', '.join(f'{counts[it] - before[it]} {it}' for it in counts))
     print(', '.join(f'{number} {it}' for it, number in counts.items()))

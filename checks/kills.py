@@ -1,7 +1,7 @@
 #!/usr/bin/env python3
 """Kills the tracker at random moments while it answers lines over a file, and looks at the rows that are there afterwards.
 
-usage: python3 bench/kills.py PROGRAM [KILLS [SEED]]
+usage: python3 checks/kills.py PROGRAM [KILLS [SEED]]
 
 PROGRAM is the built tracker, as crates/tracker/out/tracker after `rt run` there. Each of 200 runs opens the file that the one before left, is
 given lines faster than it answers them, and is killed after up to 60 milliseconds. The rows are then those that a run which nobody

@@ -1,7 +1,7 @@
 #!/usr/bin/env python3
 """Puts bad rows into a tracker's file, one case at a time, and looks at which row the program names.
 
-usage: python3 bench/bad_rows.py PROGRAM [large]
+usage: python3 checks/bad_rows.py PROGRAM [large]
 
 PROGRAM is the built tracker, as crates/tracker/out/tracker after `rt run` there. One file is made by `init` and `exec`; its rows have to be
 GOOD below. Each case is a copy of it with some rows changed, and is opened by a run without lines, which has to end with status 5, name the

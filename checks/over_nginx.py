@@ -1,7 +1,7 @@
 #!/usr/bin/env python3
 """Runs the tracker behind nginx, by the configuration of docs/HTTP.md, and asks it by curl with names and passwords.
 
-usage: python3 bench/over_nginx.py [PROGRAM]
+usage: python3 checks/over_nginx.py [PROGRAM]
 
 PROGRAM is the built tracker, crates/tracker/out/tracker by default. It is served on port 8765 of 127.0.0.1, and nginx listens on 8443. nginx,
 openssl and curl have to be there, and wrk may be: it tells how many shows come through in a second. Each case has a line; the status is

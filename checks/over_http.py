@@ -1,18 +1,15 @@
 #!/usr/bin/env python3
 """Asks the tracker over HTTP by sockets, by Python's client and by curl, and compares what comes with what docs/HTTP.md says.
 
-usage: python3 bench/over_http.py [PROGRAM [PORT]]
-       python3 bench/over_http.py load [PROGRAM [PORT]]
+usage: python3 checks/over_http.py [PROGRAM [PORT]]
 
 PROGRAM is the built tracker, crates/tracker/out/tracker by default, and is started on PORT of 127.0.0.1, 8766 by default. Each case
-has a line. The last one counts them, and the status is 1 where one is not ok. With the word `load` it times connections one after
-another, each of sixteen requests that are sent at once, and tells how many requests are answered in a second.
+has a line. The last one counts them, and the status is 1 where one is not ok. bench/http_requests.py times requests.
 """
 import http.client
 import json
 import os
 import pathlib
-import resource
 import shutil
 import socket
 import struct
@@ -23,7 +20,6 @@ import time
 
 TOP = pathlib.Path(__file__).resolve().parent.parent
 HOST = '127.0.0.1'
-CONNECTIONS, EACH = 3_000, 16
 
 SHOW = '/issues/OPS-1'
 CREATE = b'{"call":"create","project":"OPS","type":"Task","summary":"Fix login","set":{"points":"3"}}'
@@ -276,21 +272,6 @@ def curl(ask):
              run('-G', '-H', 'X-User: cy', '--data-urlencode', 'jql=points = 3', base + '/search')[0])
 
 
-def load(ask):
-    """Connections one after another, each of sixteen requests that are sent at once."""
-    ask.exchange(posted(CREATE, CLOSE))
-    sent = request(SHOW) * EACH
-    wanted = len(ask.exchange(sent))
-    begin, used = time.monotonic(), resource.getrusage(resource.RUSAGE_SELF).ru_utime
-    for _ in range(CONNECTIONS):
-        if len(ask.exchange(sent, finish=False)) != wanted:
-            sys.exit('a connection had other responses')
-    took = time.monotonic() - begin
-    used = resource.getrusage(resource.RUSAGE_SELF).ru_utime - used
-    print(f'{CONNECTIONS * EACH} requests by {CONNECTIONS} connections: {took:.2f} s, {CONNECTIONS * EACH / took:,.0f} a second '
-          f'(the client used {used:.2f} s)')
-
-
 def started(program, port):
     """The program, which listens."""
     running = subprocess.Popen([program, ':memory:', 'serve', str(port)], stdout=subprocess.DEVNULL)
@@ -308,21 +289,18 @@ def started(program, port):
 
 def main():
     words = sys.argv[1:]
-    timing = words[:1] == ['load']
-    words = words[timing:]
     if len(words) > 2 or words[:1] in (['-h'], ['--help']):
         sys.exit(__doc__)
     program = os.path.abspath(words[0]) if words else str(TOP / 'crates/tracker/out/tracker')
     ask = Asking(int(words[1]) if len(words) > 1 else 8766)
     running = started(program, ask.port)
     try:
-        for cases in (load,) if timing else (calls, targets, heads, methods, connections, python_client, curl):
+        for cases in (calls, targets, heads, methods, connections, python_client, curl):
             cases(ask)
     finally:
         running.kill()
         running.wait()
-    if not timing:
-        print(f'{ask.good} ok, {ask.bad} not ok')
+    print(f'{ask.good} ok, {ask.bad} not ok')
     sys.exit(1 if ask.bad else 0)
 
 

@@ -1,12 +1,13 @@
 #!/usr/bin/env python3
-"""Sees that what README.md, docs/*.md and crates/*/README.md name is there.
+"""Sees that what the pages name is there: README.md, CONTRIBUTING.md, docs/*.md and the README.md of each folder below.
 
-usage: python3 tools/page_names.py
+usage: python3 checks/page_names.py
 
 - A link leads to a file of the repository, and its `#` to a heading there.
+- README.md has a link to each page of docs/, and the README.md of bench/, checks/ and tools/ names each file of its folder.
 - The names in backticks of a link to a .rt or .antt file are defined in that file.
-- A path in backticks that begins with src/, specs/, proofs/ or tools/ is one of the page's crate, or with a crate's name in front
-  one of that crate; .rt and .antt may be left out.
+- A path in backticks that begins with src/, specs/ or proofs/ is one of the page's crate, or with a crate's name in front one of that
+  crate; .rt and .antt may be left out. One that begins with bench/, checks/, tools/ or docs/ is one of the repository.
 - `Type::call` and `laws::law` in backticks are calls of the page's crate, or on other pages of any crate.
 - In the last column of a crate's table, the names behind `call`: are clauses of that call's contract, or of one of the calls that
   stand there.
@@ -19,6 +20,7 @@ import sys
 
 TOP = pathlib.Path(__file__).resolve().parent.parent
 CRATES = {it.name: it for it in sorted((TOP / 'crates').iterdir()) if it.is_dir()}
+FOLDERS = [TOP / it for it in ('bench', 'checks', 'tools')]
 WORDS = r'(?:abbrev |unfoldable |private )*(?:pub )?(?:data |record )?'
 
 
@@ -82,8 +84,7 @@ def names(crate, line):
             base = CRATES.get(path[1] or crate, TOP) / path[2]
             if not any(pathlib.Path(f'{base}{it}').exists() for it in ('', '.rt', '.antt')):
                 yield f'no {word}'
-        if word.startswith('tools/') and not (TOP / word).exists():
-            yield f'no {word}'
+        yield from (f'no {it}' for it in re.findall(r'(?<![\w/])(?:bench|checks|tools|docs)/[\w./-]+', word) if not (TOP / it).exists())
         call = re.fullmatch(r'(laws|[A-Z]\w*)::(\w+)', word)
         if call:
             name = call[2] if call[1] == 'laws' else word
@@ -105,11 +106,23 @@ def clauses(crate, line):
         yield from (f'no clause {it} of {before.strip()}`' for it in re.findall(r'`(\w+)`', behind) if mark and it not in known)
 
 
+def missing(page):
+    """The files that the page has to name, and doesn't."""
+    text = page.read_text()
+    if page == TOP / 'README.md':
+        yield from (f'no link to docs/{it.name}' for it in sorted(TOP.glob('docs/*.md')) if f'](docs/{it.name})' not in text)
+    if page.parent in FOLDERS:
+        yield from (f'{it.name} is not named' for it in sorted(page.parent.iterdir()) if it.is_file() and it != page and f'`{it.name}`' not in text)
+
+
 def main():
     told = 0
-    for page in [TOP / 'README.md', *sorted(TOP.glob('docs/*.md')), *sorted(TOP.glob('crates/*/README.md'))]:
+    for page in [*sorted(TOP.glob('*.md')), *sorted(TOP.glob('docs/*.md')), *sorted(TOP.glob('*/README.md')), *sorted(TOP.glob('crates/*/README.md'))]:
         crate = page.parent.name if page.parent.parent.name == 'crates' else None
         fenced = False
+        for what in missing(page):
+            told += 1
+            print(f'{page.relative_to(TOP)}: {what}')
         for place, line in enumerate(page.read_text().split('\n'), 1):
             fenced ^= line.startswith('```')
             if fenced or line.startswith('    '):
