@@ -16,7 +16,8 @@ TRACKER is the built tracker, crates/tracker/out/tracker by default. Examples ha
   are one run over a new file of this setup. They have the form of `exec` blocks.
 - A table with the columns `Query` (or `Query by NAME`; else anna asks) and `Finds`: the search finds these issues in this
   order, or `none`.
-- A table with the columns `Query`, `Kind` and `Place`: the search is refused with number 7, this kind and this place.
+- A table with the columns `Query`, `Kind` and `Place`: the search is refused with number 7, this kind and this place. Of either table of
+  queries the queries in backticks in a column `Instead` are answered, whatever they find.
 - A table with the columns `Text` and `Spelling`, or `Text`, `Kind` and `Place`: the reply of `TRACKER :memory: check` to the
   text.
 - A table with the columns `Instead of`, `Stands` and `Told`: a part of the text of docs/NEW-TRACKER.md, what stands there
@@ -41,6 +42,7 @@ import tempfile
 TOP = pathlib.Path(__file__).resolve().parent.parent
 TRACKER = 'crates/tracker/out/tracker'
 PROGRAM = re.compile(r'\bcrates/(\w+)/out/\1\b')
+ANY_ANSWER = '(an answer)'
 NEW_TRACKER = TOP / 'docs/NEW-TRACKER.md'
 
 
@@ -64,7 +66,8 @@ class Run:
         replies = output(self.words, '\n'.join(line for _, line, _ in self.lines) + '\n').split('\n')
         for number, (place, line, wanted) in enumerate(self.lines):
             came = replies[number] if number < len(replies) else '(nothing)'
-            told(place, line, [wanted], [came])
+            is_any = wanted == ANY_ANSWER and came.startswith('{"ok":')
+            told(place, line, [wanted], [ANY_ANSWER if is_any else came])
 
 
 class SetUpRun(Run):
@@ -218,6 +221,9 @@ class Page:
                 found = [] if row['Finds'] == 'none' else row['Finds'].split(', ')
                 wanted = {'ok': {'issues': found, 'total': len(found)}}
             self.now.lines.append((place, line, json.dumps(wanted, separators=(',', ':'))))
+            for query in re.findall(r'`([^`]*)`', row['Instead']) or [row['Instead']] if row.get('Instead') else []:
+                line = json.dumps({'user': asks[1] or 'anna', 'call': 'search', 'jql': query}, ensure_ascii=False)
+                self.now.lines.append((place, line, ANY_ANSWER))
         elif head == 'Text' and 'Spelling' in row:
             self.checks.lines.append((place, row['Text'], f'ok {row["Spelling"]}'.strip()))
         elif head == 'Text' and fault:
