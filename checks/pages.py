@@ -20,7 +20,7 @@ TRACKER is the built tracker, crates/tracker/out/tracker by default. Examples ha
   queries the queries in backticks in a column `Instead` are answered, whatever they find.
 - A table with the columns `Text` and `Spelling`, or `Text`, `Kind` and `Place`: the reply of `TRACKER :memory: check` to the
   text.
-- A table with the columns `Instead of`, `Stands` and `Told`: a part of the text of docs/NEW-TRACKER.md, what stands there
+- A table with the columns `Instead of`, `Stands` and `Fault`: a part of the text of docs/NEW-TRACKER.md, what stands there
   instead (`;` ends a line, ` & ` stands before a second change), and the fault that `TRACKER :memory: init` tells of the changed
   text, or `none`. The text itself is compared with the one that a new file keeps.
 
@@ -228,8 +228,8 @@ class Page:
             self.checks.lines.append((place, row['Text'], f'ok {row["Spelling"]}'.strip()))
         elif head == 'Text' and fault:
             self.checks.lines.append((place, row['Text'], f'fault {row["Place"]} {row["Kind"]}'))
-        elif head == 'Instead of' and 'Stands' in row and 'Told' in row:
-            self.faults.lines.append((place, f'{row["Instead of"]} | {row["Stands"]}', row['Told']))
+        elif head == 'Instead of' and 'Stands' in row and 'Fault' in row:
+            self.faults.lines.append((place, f'{row["Instead of"]} | {row["Stands"]}', row['Fault']))
 
     def play(self, told):
         for place, command, wanted in self.commands:
