@@ -1,0 +1,1 @@
+"""Issues of other trackers with their histories, as a setup and request lines. One subject a module."""

@@ -1,0 +1,1 @@
+"""The parts of vug, one subject a module."""
