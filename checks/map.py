@@ -30,6 +30,7 @@ KINDS = {
     'subject': ['Subject', 'SortField'],
 }
 FOLDERS = ('specs', 'src', 'proofs')
+USES = re.compile(r'(?m)^\s*(?:ghost |pub )*use .*$')
 NAME = r'[A-Z]\w*'
 
 
@@ -41,62 +42,63 @@ def code_of(file):
 CODE = {it: code_of(it) for folder in FOLDERS for it in sorted(TOP.glob(f'crates/*/{folder}/**/*')) if it.suffix in ('.rt', '.antt')}
 
 
-def variants(name):
-    """The variants of the type of that name, or its constants; none where it isn't declared."""
-    for text in CODE.values():
+def declared(name):
+    """The file that declares the type of that name, and its variants or constants; none where there is no such type."""
+    for file, text in CODE.items():
         if found := re.search(rf'(?m)^pub enum {name}(?:<[^>{{]*>)? \{{(.*?)^\}}', text, re.S):
-            return re.findall(rf'(?m)^    ({NAME})\b(?= \{{|,|\()', found[1])
+            return file, re.findall(rf'(?m)^    ({NAME})\b(?= \{{|,|\()', found[1])
         if found := re.search(rf'(?m)^pub data {name} : .*? where\n((?:\s+.*\n|\n)*)', text):
-            return re.findall(rf'(?m)^\s+({NAME}) : ', found[1])
+            return file, re.findall(rf'(?m)^\s+({NAME}) : ', found[1])
         if found := re.findall(rf'pub const ({NAME}): {name} =', text):
-            return found
-    return []
+            return file, found
+    return None, []
 
 
 def type_of(name):
     """The type, where several may stand for it."""
-    return next((it for it in name if variants(it)), name[-1]) if isinstance(name, tuple) else name
+    return next((it for it in name if declared(it)[0]), name[-1]) if isinstance(name, tuple) else name
 
 
-def imported(text, name):
+def imported(text, name, crate):
     """By which words the variants of that type go in this text: the words before them, and each that has a word of its own."""
-    module = rf'\.{name}\.TheVariants|\.TheConstants\.{name}|specs\.\w+\.{name}'
-    words = set(re.findall(rf'(?:{module}) as (\w+)', text))
+    module = rf'Rattle\.{crate}\.specs\.[\w.]*\b{name}(?:\.TheVariants)?'
+    words = set(re.findall(rf'{module} as (\w+)', text))
     own = {}
-    for names in re.findall(rf'(?:{module})\.\{{([^}}]*)\}}', text):
+    for names in re.findall(rf'{module}\.\{{([^}}]*)\}}', text):
         for it in names.split(','):
             variant, _, word = it.strip().partition(' as ')
             own[variant] = word or variant
     return words, own
 
 
-def named_in(file, name, wanted):
-    """Those of the variants that the file names."""
+def named_in(file, name, home, wanted):
+    """Those of the variants that the file names, of the type of that name which is declared in the file `home`."""
     text = CODE[file]
+    if file == home:
+        return set(wanted)
     if name not in text:
         return set()
-    words, own = imported(text, name)
-    rest = re.sub(r'(?m)^\s*(?:ghost |pub )*use .*$', '', text)
-    declares = re.search(rf'(?m)^pub (?:data|enum) {name}\b', text)
-    found = set()
-    for it in wanted:
-        forms = [rf'(?<![\w.]){word}\.{it}\b' for word in words]
-        forms += [rf'\b{name}::{it}\b'] if file.suffix == '.rt' else []
-        forms += [rf'(?<![\w.:]){re.escape(own[it])}\b'] if it in own else []
-        if declares or any(re.search(form, rest) for form in forms):
-            found.add(it)
-    return found
+    words, own = imported(text, name, home.relative_to(TOP / 'crates').parts[0])
+    rest = USES.sub('', text)
+    found = set(re.findall(rf'\b{name}::({NAME})', rest)) if file.suffix == '.rt' else set()
+    if words:
+        found |= set(re.findall(rf'(?<![\w.])(?:{"|".join(words)})\.({NAME})', rest))
+    if own:
+        seen = set(re.findall(rf'(?<![\w.:])({"|".join(map(re.escape, own.values()))})(?!\w)', rest))
+        found |= {it for it, word in own.items() if word in seen}
+    return found & set(wanted)
 
 
 def places(names):
     """The variants, and of each file those that it names. Several types have one table, whose rows are the variants of the first."""
-    types = [type_of(it) for it in names]
     rows, files = [], collections.defaultdict(set)
-    for name in types:
-        wanted = variants(name)
+    for name in map(type_of, names):
+        home, wanted = declared(name)
+        if not home:
+            sys.exit(f'no type {name} is declared')
         rows += [it for it in wanted if it not in rows]
         for file in CODE:
-            files[file] |= named_in(file, name, wanted)
+            files[file] |= named_in(file, name, home, wanted)
     return rows, files
 
 

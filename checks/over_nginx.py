@@ -10,6 +10,7 @@ openssl and curl have to be there, and wrk may be: it tells how many shows come 
 import pathlib
 import re
 import shutil
+import socket
 import subprocess
 import sys
 import tempfile
@@ -58,6 +59,16 @@ def cases(room):
     yield 'a path is passed on as it was sent', curl(f'{FRONT}/issues/OPS%2D9'), unknown.replace('-', '%2D')
 
 
+def wait_for(port):
+    """Returns once somebody listens on that port, or after a minute."""
+    for _ in range(600):
+        try:
+            socket.create_connection(('127.0.0.1', port), 1).close()
+            return
+        except OSError:
+            time.sleep(0.1)
+
+
 def main():
     program = sys.argv[1] if len(sys.argv) > 1 else str(TOP / 'crates/tracker/out/tracker')
     wrong = 0
@@ -67,7 +78,8 @@ def main():
         tracker = subprocess.Popen([program, f'{room}/rows', 'serve', '8765'])
         nginx = subprocess.Popen(['nginx', '-c', f'{room}/nginx.conf', '-g', 'daemon off;'], stderr=subprocess.DEVNULL)
         try:
-            time.sleep(1)
+            for port in (8765, 8443):
+                wait_for(port)
             for told, came, wanted in cases(room):
                 wrong += came != wanted
                 print(f'ok      {told}' if came == wanted else f'not ok  {told}: wanted {wanted!r}, came {came!r}')

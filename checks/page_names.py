@@ -17,6 +17,7 @@ What isn't there is told with its place. The status is 1 where anything is told.
 import pathlib
 import re
 import sys
+from functools import cache
 
 TOP = pathlib.Path(__file__).resolve().parent.parent
 CRATES = {it.name: it for it in sorted((TOP / 'crates').iterdir()) if it.is_dir()}
@@ -49,15 +50,21 @@ def calls_of(crate):
 CALLS = {it: calls_of(it) for it in CRATES}
 
 
+@cache
+def text_of(file):
+    return file.read_text()
+
+
 def defines(file, name):
     """Whether the file has a definition of that name."""
     if file.suffix == '.antt':
-        return re.search(rf'(?m)^\s*{WORDS}{re.escape(name)}\s*(?:[({{].*)?:', file.read_text())
-    return re.search(rf'\b(?:fn|struct|enum|trait|type|const|mod) {re.escape(name)}\b', file.read_text())
+        return re.search(rf'(?m)^\s*{WORDS}{re.escape(name)}\s*(?:[({{].*)?:', text_of(file))
+    return re.search(rf'\b(?:fn|struct|enum|trait|type|const|mod) {re.escape(name)}\b', text_of(file))
 
 
+@cache
 def anchors(page):
-    heads = re.findall(r'(?m)^#+ (.*)$', page.read_text())
+    heads = re.findall(r'(?m)^#+ (.*)$', text_of(page))
     return {re.sub(r'[^\w\- ]', '', it.lower().replace('`', '')).strip().replace(' ', '-') for it in heads}
 
 

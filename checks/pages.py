@@ -1,9 +1,10 @@
 #!/usr/bin/env python3
 """Runs the examples of README.md and docs/*.md with the tracker, and compares what comes with what the pages print.
 
-usage: python3 checks/pages.py [TRACKER]
+usage: python3 checks/pages.py [TRACKER [PAGE..]]
 
-TRACKER is the built tracker, crates/tracker/out/tracker by default. Examples have these forms:
+TRACKER is the built tracker, crates/tracker/out/tracker by default. With pages named, as docs/JQL.md, only theirs are run. Examples
+have these forms:
 
 - A block, indented or fenced, with lines that begin with `$ `: each is a command for the shell, at the top of the repository,
   and so are the lines behind it as long as a line ends with a backslash. The lines from there to the next `$ ` or the block's
@@ -256,8 +257,9 @@ def program_named(name, tracker):
 
 
 def main():
-    if len(sys.argv) > 2 or sys.argv[1:2] in (['-h'], ['--help']):
+    if sys.argv[1:2] in (['-h'], ['--help']):
         sys.exit(__doc__)
+    pages = [pathlib.Path(it).resolve() for it in sys.argv[2:]] or [TOP / 'README.md', *sorted((TOP / 'docs').glob('*.md'))]
     tracker = os.path.abspath(sys.argv[1]) if len(sys.argv) > 1 else str(TOP / TRACKER)
     if not os.path.isfile(tracker):
         sys.exit(f'{tracker} is not there: no example is run. `rt ci` builds it')
@@ -271,7 +273,7 @@ def main():
 
     with tempfile.TemporaryDirectory() as folder:
         told(NEW_TRACKER.relative_to(TOP), 'the setup', [new_setup()], [kept_setup(tracker, folder)])
-        for path in [TOP / 'README.md', *sorted((TOP / 'docs').glob('*.md'))]:
+        for path in pages:
             before = dict(counts)
             Page(path, tracker, folder).play(told)
             if counts != before:
