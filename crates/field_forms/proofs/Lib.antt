@@ -1,10 +1,8 @@
-pub mod ShortTexts
 pub mod Cutting
 pub mod Finding
 pub mod Fitting
 pub mod Floats
 pub mod Labels
-pub mod JsonTexts
 pub mod Sizes
 pub mod Fits
 pub mod SoundRules

@@ -4,8 +4,6 @@ pub mod NameForms
 pub mod Cuts
 pub mod Numbers
 pub mod TextLists
-pub mod JsonData
-pub mod JsonTokens
 pub mod Values
 pub mod Known
 pub mod Rules

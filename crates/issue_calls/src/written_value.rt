@@ -1,8 +1,8 @@
 // Values of an issue's fields, written as answers tell them.
 ghost use Rattle.std.specs.Prelude.{◌≡◌, OnOk, option_map, slice_get};
 ghost use Rattle.change_history.specs.History.{present};
-ghost use Rattle.field_forms.specs.JsonData.{texts_data};
-ghost use Rattle.field_forms.specs.JsonTokens.{after};
+ghost use Rattle.json_texts.specs.JsonData.{texts_data};
+ghost use Rattle.json_texts.specs.JsonTokens.{after};
 ghost use Rattle.field_forms.specs.ValueTexts.{chosen_names};
 ghost use Rattle.fields.specs.SetupParts.{parts, names_in};
 ghost use Rattle.tracker_calls.specs.Reply.{shown_or_null};
@@ -11,8 +11,8 @@ ghost use Rattle.tracker_machine.specs.Tracker.{Holds};
 
 use crate::spelled::{choice_name, name_at};
 use change_history::Issue;
-use field_forms::json_text::JsonText;
 use fields::{ChoiceNo, FieldNo, Memory, Setup, Text, Value};
+use json_texts::JsonText;
 
 /// Writes the field's present value, or null where it is empty. One that takes no memory is looked for in the issue alone.
 pub fn write_present(

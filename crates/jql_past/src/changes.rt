@@ -13,7 +13,7 @@ use crate::windows::{Interval, has_moment, known_interval};
 use change_history::{Entry, Issue};
 use field_values::{FieldNo, Moment, UserNo};
 use jql_bound::{Context, Endpoint, Operand, PastPredicate};
-use jql_operands::names_user;
+use jql_present::names_user;
 
 /// Whether one of the field's changes lies in every window, is by an author who is asked for, and goes from and to the values
 /// that are asked for.

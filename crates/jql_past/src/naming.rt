@@ -9,7 +9,7 @@ ghost use Rattle.jql_meaning.specs.Past.{loses};
 
 use field_values::{ChoiceNo, Text, Value};
 use jql_bound::{Context, Operand};
-use jql_operands::{has_value, is_named, names_choice, names_text};
+use jql_present::{has_value, is_named, names_choice, names_text};
 
 /// Whether the field's value has one that an operand names.
 pub fn has_named(context: &Context, operands: &[Operand], value: &Value) -> bool

@@ -6,11 +6,11 @@ ghost use Rattle.jiff_core.specs.Calendar.{IsWithin};
 ghost use Rattle.jql_meaning.specs.Surroundings.{surroundings_of};
 ghost use Rattle.jql_meaning.specs.Comparison.{project_of, second_now, midnight_of, equals_value, equals_moment, is_project, is_issue, equals, value_order, moment_order, order};
 
+use crate::naming::has_value;
 use crate::phase::is_in_phase;
 use change_history::{Issue, Key};
 use field_values::{Day, Moment, Value};
 use jql_bound::{Context, Operand, Subject};
-use jql_operands::has_value;
 use relative_dates::Term;
 use std::cmp::Ordering;
 

@@ -8,3 +8,4 @@ pub mod Parts
 pub mod Trees
 pub mod Query
 pub mod Writes
+pub mod Answered

@@ -1,3 +1,4 @@
 pub mod Print
 pub mod Nesting
 pub mod Spelling
+pub mod Check

@@ -12,6 +12,7 @@ mod reader;
 mod responder;
 mod run;
 mod waiting;
+mod whole_input;
 mod write;
 
 pub use clock::{Clock, ListClock};
@@ -21,4 +22,5 @@ pub use memory_source::MemorySource;
 pub use outside::{Failed, Sink, Source};
 pub use responder::{Looked, Responder};
 pub use run::{End, answer_lines};
+pub use whole_input::{InputFault, read_whole};
 pub use write::write_all;

@@ -5,8 +5,8 @@ ghost use Rattle.std.specs.BTreeMap.{insert_entry};
 ghost use Rattle.short_lists.specs.ByName.{name_cmp, IsPlaceOf};
 
 use crate::short_list::ShortList;
-use field_forms::short_text::order_of;
 use field_values::Memory;
+use short_texts::order_of;
 use std::cmp::Ordering;
 
 // Where the name stands, or else where it belongs.

@@ -5,7 +5,7 @@ use crate::rows::{Setting, list_reply, row_reply};
 use crate::setups::setup_reply;
 use field_values::Steps;
 use fields::Setup;
-use jql_check::check_line;
+use jql_print::check_line;
 use std::alloc::Global;
 use std::sync::ledger::Ledger;
 use std::{fs, str};

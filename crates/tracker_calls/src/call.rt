@@ -4,8 +4,8 @@ ghost use Rattle.tracker_calls.specs.Asked.{kind_named, call_members};
 
 use crate::given::GivenFields;
 use crate::told_text::ToldText;
-use field_forms::short_text::is_same;
 use field_values::{BoardNo, FilterNo, Moment, Names, SprintNo, Text};
+use short_texts::is_same;
 
 /// What a line asks for.
 pub enum Call {

@@ -2,12 +2,12 @@
 ghost use Rattle.std.specs.Prelude.{◌≡◌, OnOk};
 ghost use Rattle.tracker_calls.specs.Reply.{save_filter_data, filter_number_data};
 ghost use Rattle.tracker_calls.specs.Reply.{board_number_data, column_data, board_data};
-ghost use Rattle.field_forms.specs.JsonTokens.{after};
+ghost use Rattle.json_texts.specs.JsonTokens.{after};
 
 use crate::list_json::{Listed, write_list};
 use crate::reply::Column;
-use field_forms::json_text::JsonText;
 use field_values::{BoardNo, FilterNo, Memory};
+use json_texts::JsonText;
 
 /// Writes a filter's number, and of how many issues its query holds.
 pub fn write_save_filter(out: &mut JsonText, filter: FilterNo, members: u64) -> Result<(), Memory>

@@ -1,10 +1,10 @@
 // The JSON of answers about groups.
 ghost use Rattle.std.specs.Prelude.{◌≡◌, OnOk};
 ghost use Rattle.tracker_calls.specs.Reply.{set_group_data};
-ghost use Rattle.field_forms.specs.JsonTokens.{after};
+ghost use Rattle.json_texts.specs.JsonTokens.{after};
 
-use field_forms::json_text::JsonText;
 use field_values::{Memory, Text};
+use json_texts::JsonText;
 
 /// Writes a group's name and how many members it has.
 pub fn write_set_group(out: &mut JsonText, group: &Text, members: u64) -> Result<(), Memory>

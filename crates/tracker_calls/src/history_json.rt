@@ -1,13 +1,13 @@
 // The JSON of a part of an issue's history.
 ghost use Rattle.std.specs.Prelude.{◌≡◌, OnOk};
 ghost use Rattle.tracker_calls.specs.Reply.{history_data, entry_data, shown_or_null};
-ghost use Rattle.field_forms.specs.JsonTokens.{after};
+ghost use Rattle.json_texts.specs.JsonTokens.{after};
 
 use crate::list_json::{Listed, write_list};
 use crate::reply::{Shown, ToldEntry};
 use crate::show_json::write_shown;
-use field_forms::json_text::JsonText;
 use field_values::Memory;
+use json_texts::JsonText;
 
 /// Writes a part of a history.
 pub fn write_history(out: &mut JsonText, entries: &[ToldEntry], total: u64) -> Result<(), Memory>

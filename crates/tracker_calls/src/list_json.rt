@@ -2,10 +2,10 @@
 ghost use Rattle.std.specs.Prelude.{◌≡◌, OnOk, map};
 ghost use Rattle.serde_json.specs.Data.{Data, array};
 ghost use Rattle.serde_json.specs.View.{items_of};
-ghost use Rattle.field_forms.specs.JsonTokens.{after};
+ghost use Rattle.json_texts.specs.JsonTokens.{after};
 
-use field_forms::json_text::JsonText;
 use field_values::Memory;
+use json_texts::JsonText;
 
 /// What a reply tells in a list.
 pub(crate) trait Listed {

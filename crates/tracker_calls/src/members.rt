@@ -12,9 +12,9 @@ ghost use Rattle.tracker_calls.specs.Part.{count_at};
 use crate::call::{CallKind, MOST_FROM, call_members};
 use crate::reply::Refusal;
 use field_forms::name_form::is_title;
-use field_forms::short_text::is_same;
 use field_values::{Moment, Text};
 use serde_json::{Map, Value};
+use short_texts::is_same;
 use std::alloc::Global;
 
 /// The refusal that names a member.

@@ -16,10 +16,10 @@ use crate::line::AskedLine;
 use crate::plain_calls::kind_call;
 use crate::plain_members::{are_texts, has_no_other, text_member};
 use crate::user_name::UserName;
-use field_forms::short_text::is_same;
 use field_values::Memory;
 use json::{Error, Reader, Scratch, Value};
 use memchr::memchr;
+use short_texts::is_same;
 use std::alloc::Global;
 
 // How deep the JSON of a line may nest.

@@ -3,13 +3,13 @@ ghost use Rattle.std.specs.Prelude.{◌≡◌, OnOk};
 ghost use Rattle.tracker_calls.specs.Reply.{move_data, ranked_data, ranks_data};
 ghost use Rattle.tracker_calls.specs.Reply.{rebalance_start_data, rebalance_step_data};
 ghost use Rattle.tracker_calls.specs.Reply.{balance_data};
-ghost use Rattle.field_forms.specs.JsonTokens.{after};
+ghost use Rattle.json_texts.specs.JsonTokens.{after};
 
 use crate::list_json::{Listed, write_list};
 use crate::reply::{BalanceState, RankedKey};
 use crate::told_text::ToldText;
-use field_forms::json_text::JsonText;
 use field_values::Memory;
+use json_texts::JsonText;
 
 /// Writes the rank that an issue was given.
 pub fn write_move(out: &mut JsonText, issue: &ToldText, rank: &ToldText) -> Result<(), Memory>

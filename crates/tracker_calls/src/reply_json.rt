@@ -1,6 +1,6 @@
 // The text of a reply: compact JSON, the members of each object in byte order of their names.
 ghost use Rattle.std.specs.Prelude.{◌≡◌, IfOk, OnOk};
-ghost use Rattle.field_forms.specs.JsonTokens.{after};
+ghost use Rattle.json_texts.specs.JsonTokens.{after};
 ghost use Rattle.tracker_calls.specs.Reply.{reply_text, reply_data, answer_data, create_data};
 ghost use Rattle.tracker_calls.specs.Reply.{edit_data, tick_data, search_data, refusal_data};
 ghost use Rattle.tracker_calls.specs.Reply.{form_data, unknown_data, forbidden_data, index_data};
@@ -21,8 +21,8 @@ use crate::reply::{Answer, BalanceKept, Limit, Refusal, Reply, SprintPhase, Thin
 use crate::show_json::write_show;
 use crate::sprints_json::{write_burndown, write_make_sprint, write_sprint_phase};
 use crate::told_text::ToldText;
-use field_forms::json_text::JsonText;
 use field_values::{Memory, Moment, Permission, Text};
+use json_texts::JsonText;
 use std::alloc::Global;
 
 // The bytes that most replies have at most.
@@ -35,7 +35,7 @@ pub const KEEPER_TEXT: &str = "{\"refused\":{\"no\":14}}";
 pub const MEMORY_TEXT: &str = "{\"refused\":{\"no\":15}}";
 
 /// The compact JSON text of a reply.
-#[tactic(auto, unfolding(crate::specs::Reply::reply_text), using(field_forms::proofs::JsonTexts::whole))]
+#[tactic(auto, unfolding(crate::specs::Reply::reply_text), using(json_texts::proofs::JsonTexts::whole))]
 pub fn reply_text(alloc: Global, reply: &Reply) -> Result<Text, Memory>
     ensures { IfOk result (λ text. text ≡ reply_text reply.now) }
 {
@@ -45,7 +45,7 @@ pub fn reply_text(alloc: Global, reply: &Reply) -> Result<Text, Memory>
 }
 
 /// The bytes of that text, in the room of these, which it takes the place of.
-#[tactic(auto, unfolding(crate::specs::Reply::reply_text), using(field_forms::proofs::JsonTexts::whole))]
+#[tactic(auto, unfolding(crate::specs::Reply::reply_text), using(json_texts::proofs::JsonTexts::whole))]
 pub fn reply_bytes(alloc: Global, reply: &Reply, room: Vec<u8>) -> Result<Vec<u8>, Memory>
     ensures { IfOk result (λ bytes. bytes.items ≡ reply_text reply.now) }
 {

@@ -2,12 +2,12 @@
 ghost use Rattle.std.specs.Prelude.{◌≡◌, OnOk};
 ghost use Rattle.tracker_calls.specs.Reply.{make_sprint_data, sprint_phase_data, burned_data};
 ghost use Rattle.tracker_calls.specs.Reply.{burndown_data, phase_name};
-ghost use Rattle.field_forms.specs.JsonTokens.{after};
+ghost use Rattle.json_texts.specs.JsonTokens.{after};
 
 use crate::list_json::{Listed, write_list};
 use crate::reply::{BurnedRow, SprintPhase};
-use field_forms::json_text::JsonText;
 use field_values::{Memory, SprintNo};
+use json_texts::JsonText;
 
 /// Writes a new sprint's number.
 pub fn write_make_sprint(out: &mut JsonText, sprint: SprintNo) -> Result<(), Memory>

@@ -10,7 +10,7 @@ use Rattle.request_lines.specs.declared.run.End.{End}
 use Rattle.request_lines.specs.declared.run.End.TheVariants.{Done, ReadFault, WriteFault, Memory, LongLine, ManyLines}
 use Rattle.request_lines.proofs.Known.{Appends-trans}
 use Rattle.request_lines.proofs.Progress.{Appends-nil}
-use Rattle.jql_check.specs.Check.{IsReply}
+use Rattle.jql_print.specs.Check.{IsReply}
 use Rattle.tracker_machine.specs.Machine.{Machine}
 use Rattle.tracker_machine.specs.Run.{IsRun, IsFrontOfReply, requests}
 use Rattle.tracker_machine.proofs.Runs.{IsRun-nil, IsRun-line, front_of_reply}

@@ -9,7 +9,7 @@ use Rattle.setup_reading.specs.Reading.{setup_in, Explains}
 use Rattle.request_lines.specs.Lines.{lines, whole_lines, AreWithinLimits, StopsAtLong, StopsAtMany}
 use Rattle.request_lines.specs.declared.run.End.{End}
 use Rattle.request_lines.specs.declared.run.End.TheVariants.{Done, ReadFault, WriteFault, Memory, LongLine, ManyLines}
-use Rattle.jql_check.specs.Check.{IsReply}
+use Rattle.jql_print.specs.Check.{IsReply}
 use Rattle.tracker_keeper.specs.Rows.{Rows, no_rows}
 use Rattle.tracker_machine.specs.Machine.{Machine, opening}
 use Rattle.tracker_machine.specs.Kept.{rows_of}

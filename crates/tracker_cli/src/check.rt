@@ -1,9 +1,9 @@
 // Lines that may be queries, each with its reply.
 ghost use Rattle.std.specs.Prelude.{List, ℕ};
-ghost use Rattle.jql_check.specs.Check.{IsReply};
+ghost use Rattle.jql_print.specs.Check.{IsReply};
 
 use field_values::Memory;
-use jql_check::check_line;
+use jql_print::check_line;
 use request_lines::{Looked, Responder};
 use std::alloc::{AllocError, Global};
 

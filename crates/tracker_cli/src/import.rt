@@ -11,6 +11,7 @@ ghost use Rattle.tracker_cli.specs.Commands.{Stands, AreImported, AreCutImported
 use crate::bad_row::tell_row;
 use crate::texts::csv_line;
 use fields::{BUILT_IN, Steps};
+use request_lines::{InputFault, read_whole};
 use std::alloc::Global;
 use std::marker::Brand;
 use std::sync::ledger::{Blank, Ledger};
@@ -18,7 +19,6 @@ use tracker_calls::{Failed, Sink, Source, UserName, write_all};
 use tracker_core::{Desk, OpenFault};
 use tracker_import::{ImportEnd, import_rows};
 use tracker_keeper::Keeper;
-use whole_input::{InputFault, read_whole};
 
 /// The most bytes of a CSV.
 const IMPORT_LIMIT: usize = 67_108_864;

@@ -14,11 +14,11 @@ ghost use Rattle.tracker_cli.specs.Outcome.{held, limit_input, setup_limit, Grew
 use crate::held::tell_held;
 use crate::texts::setup_line;
 use fields::{Setup, SetupFault};
+use request_lines::{InputFault, read_whole};
 use std::alloc::Global;
 use tracker_calls::{Failed, Sink, Source, write_all};
 use tracker_core::{Desk, OpenFault};
 use tracker_keeper::Keeper;
-use whole_input::{InputFault, read_whole};
 
 /// The most bytes of a setup.
 const SETUP_LIMIT: usize = 1_048_576;

@@ -1,14 +1,14 @@
 // The texts of bodies.
 ghost use Rattle.std.specs.Prelude.{◌≡◌, ◌++◌, IfOk, OnOk, string_bytes};
 ghost use Rattle.serde_json.specs.Written.{compact_text};
-ghost use Rattle.field_forms.specs.JsonTokens.{after};
+ghost use Rattle.json_texts.specs.JsonTokens.{after};
 ghost use Rattle.tracker_keeper.specs.Bodies.{pair_data, balance_data, start_data};
 ghost use Rattle.tracker_keeper.specs.Bodies.{close_data, present_data, sprint_data, filter_data};
 ghost use Rattle.tracker_keeper.specs.Bodies.{board_data};
 
 use crate::part::Format;
-use field_forms::json_text::JsonText;
 use field_values::{FilterNo, Memory, Moment, Text};
+use json_texts::JsonText;
 use rank_balancer::Balance;
 use sprints::SprintState;
 use std::alloc::{AllocError, Global};
@@ -75,7 +75,7 @@ fn put_pair(out: &mut JsonText, one: u64, other: u64) -> Result<(), Memory>
 }
 
 /// The body of a sprint.
-#[tactic(auto, using(field_forms::proofs::JsonTexts::whole))]
+#[tactic(auto, using(json_texts::proofs::JsonTexts::whole))]
 pub fn sprint_text(alloc: Global, name: &str, state: &SprintState) -> Result<Text, Memory>
     ensures { IfOk result (λ text. text ≡ compact_text (sprint_data name.now state.now)) }
 {
@@ -121,7 +121,7 @@ fn put_start(out: &mut JsonText, state: &SprintState) -> Result<(), Memory>
 }
 
 /// The body of a saved filter.
-#[tactic(auto, using(field_forms::proofs::JsonTexts::whole))]
+#[tactic(auto, using(json_texts::proofs::JsonTexts::whole))]
 pub fn filter_text(alloc: Global, jql: &str, name: &str, owner: &str) -> Result<Text, Memory>
     ensures { IfOk result (λ text. text ≡ compact_text (filter_data jql.now name.now owner.now)) }
 {
@@ -142,7 +142,7 @@ fn put_filter(out: &mut JsonText, jql: &str, name: &str, owner: &str) -> Result<
 }
 
 /// The body of a board.
-#[tactic(auto, using(field_forms::proofs::JsonTexts::whole))]
+#[tactic(auto, using(json_texts::proofs::JsonTexts::whole))]
 pub fn board_text(alloc: Global, filter: FilterNo, name: &str) -> Result<Text, Memory>
     ensures { IfOk result (λ text. text ≡ compact_text (board_data filter.0 name.now)) }
 {

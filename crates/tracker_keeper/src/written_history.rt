@@ -4,8 +4,8 @@ ghost use Rattle.std.specs.List.{All};
 ghost use Rattle.serde_json.specs.Data.{array};
 ghost use Rattle.serde_json.specs.View.{items_of};
 ghost use Rattle.serde_json.specs.Written.{compact_text};
-ghost use Rattle.field_forms.specs.JsonData.{texts_data};
-ghost use Rattle.field_forms.specs.JsonTokens.{after};
+ghost use Rattle.json_texts.specs.JsonData.{texts_data};
+ghost use Rattle.json_texts.specs.JsonTokens.{after};
 ghost use Rattle.fields.specs.SetupParts.{names};
 ghost use Rattle.tracker_keeper.specs.Forms.{IsGroupEntry, may_hold};
 ghost use Rattle.tracker_keeper.specs.Bodies.{entry_data, group_data, user_names, members_data};
@@ -14,13 +14,13 @@ use crate::spelled::name_at;
 use crate::written::ROOM;
 use crate::written_values::{put_value, value_room};
 use change_history::{Entry, Group};
-use field_forms::json_text::JsonText;
 use field_values::{IssueNo, Memory, Text, UserNo};
 use fields::Setup;
+use json_texts::JsonText;
 use std::alloc::Global;
 
 /// The body of a change group of an issue.
-#[tactic(auto, using(field_forms::proofs::JsonTexts::whole))]
+#[tactic(auto, using(json_texts::proofs::JsonTexts::whole))]
 pub fn group_text(
     alloc: Global,
     setup: &Setup,
@@ -92,7 +92,7 @@ fn put_entry(out: &mut JsonText, setup: &Setup, entry: &Entry) -> Result<(), Mem
 }
 
 /// The body of a group's members.
-#[tactic(auto, using(field_forms::proofs::JsonTexts::whole))]
+#[tactic(auto, using(json_texts::proofs::JsonTexts::whole))]
 pub(crate) fn members_text(alloc: Global, setup: &Setup, members: &[UserNo]) -> Result<Text, Memory>
     ensures { IfOk result (λ text. text
         ≡ compact_text (members_data (user_names setup.now.users members.now))) }

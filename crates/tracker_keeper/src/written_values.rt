@@ -1,7 +1,7 @@
 // Values of fields as bodies tell them.
 ghost use Rattle.std.specs.Prelude.{◌≡◌, true, OnOk};
-ghost use Rattle.field_forms.specs.JsonData.{texts_data};
-ghost use Rattle.field_forms.specs.JsonTokens.{after};
+ghost use Rattle.json_texts.specs.JsonData.{texts_data};
+ghost use Rattle.json_texts.specs.JsonTokens.{after};
 ghost use Rattle.field_forms.specs.Known.{choices_of};
 ghost use Rattle.field_forms.specs.ValueTexts.{chosen_names};
 ghost use Rattle.fields.specs.SetupParts.{names};
@@ -9,9 +9,9 @@ ghost use Rattle.tracker_keeper.specs.Forms.{may_hold};
 ghost use Rattle.tracker_keeper.specs.ValueData.{value_data};
 
 use crate::spelled::{choice_at, choice_name};
-use field_forms::json_text::JsonText;
 use field_values::{ChoiceNo, FieldNo, Memory, Value};
 use fields::Setup;
+use json_texts::JsonText;
 
 /// The bytes that most names, numbers and labels have at most.
 const NAME_ROOM: usize = 64;

@@ -2,7 +2,7 @@ use Rattle.std.proofs.Common.{◌≡◌, drop, map, ◌++◌, ◌∷◌, []}
 use Rattle.json.specs.Token as token
 use Rattle.serde_json.specs.Data.{string}
 use Rattle.serde_json.specs.View.{items_of}
-use Rattle.field_forms.specs.JsonTokens.{after_items}
+use Rattle.json_texts.specs.JsonTokens.{after_items}
 use Rattle.field_forms.specs.ValueTexts.{chosen_names}
 use Rattle.issue_calls.proofs.written_value.write_chosen.Given as goal
 

@@ -1,7 +1,7 @@
 use Rattle.std.proofs.Common.{◌≡◌, drop, map, ◌++◌, ◌∷◌, []}
 use Rattle.json.specs.Token as token
 use Rattle.serde_json.specs.View.{items_of}
-use Rattle.field_forms.specs.JsonTokens.{after_items}
+use Rattle.json_texts.specs.JsonTokens.{after_items}
 use Rattle.tracker_calls.proofs.list_json.write_list.Given as goal
 
 -- what is left to be written comes to the same

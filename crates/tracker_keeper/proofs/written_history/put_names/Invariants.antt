@@ -2,7 +2,7 @@ use Rattle.std.proofs.Common.{◌≡◌, drop, map, ◌++◌, ◌∷◌, []}
 use Rattle.json.specs.Token as token
 use Rattle.serde_json.specs.Data.{string}
 use Rattle.serde_json.specs.View.{items_of}
-use Rattle.field_forms.specs.JsonTokens.{after_items}
+use Rattle.json_texts.specs.JsonTokens.{after_items}
 use Rattle.tracker_keeper.specs.Bodies.{user_names}
 use Rattle.tracker_keeper.proofs.written_history.put_names.Given as goal
 

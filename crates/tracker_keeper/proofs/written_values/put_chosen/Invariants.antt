@@ -5,7 +5,7 @@ use Rattle.serde_json.specs.View.{items_of}
 use Rattle.field_forms.specs.Known.{choices_of}
 use Rattle.field_forms.specs.ValueTexts.{chosen_names}
 use Rattle.fields.specs.SetupParts.{names}
-use Rattle.field_forms.specs.JsonTokens.{after_items}
+use Rattle.json_texts.specs.JsonTokens.{after_items}
 use Rattle.tracker_keeper.proofs.written_values.put_chosen.Given as goal
 
 -- what is left to be written comes to the same

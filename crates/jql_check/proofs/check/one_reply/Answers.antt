@@ -1,5 +1,0 @@
-use Rattle.jql_check.proofs.Answered.{one_reply}
-use Rattle.jql_check.proofs.check.one_reply.Goals as goal
-
-pub returns : goal.returns
-returns c = one_reply

@@ -1,0 +1,4 @@
+pub mod Checked
+pub mod Means
+pub mod Members
+pub mod Ops
