@@ -118,7 +118,7 @@ fn push_fraction(text: &mut String, thousandths: u64) -> Result<(), AllocError>
 /// The whole number that so many thousandths are; `None` where it has a sign or a fraction. Most numbers have neither, and the
 /// text of one takes no memory.
 #[tactic(auto, unfolding(crate::specs::Numbers::number_text))]
-pub(crate) fn whole_in(number: i64) -> Option<u64>
+pub fn whole_in(number: i64) -> Option<u64>
     ensures { IfSome result (λ whole. number_text number ≡ decimal whole) }
 {
     let size = number.unsigned_abs();
