@@ -1,5 +1,5 @@
 -- An issue's history.
-use Rattle.std.specs.Prelude.{◌≡◌, ◌≢◌, ◌⊎◌, ◌==◌, ℕ, ◌+◌, ◌<◌, ◌≤◌, List, [], ◌∷◌, length, take, if◌then◌else◌}
+use Rattle.std.specs.Prelude.{◌≡◌, ◌≢◌, ◌⊎◌, ◌==◌, ℕ, ◌+◌, ◌<◌, ◌≤◌, List, [], ◌∷◌, length, map, take, if◌then◌else◌}
 use Rattle.field_values.specs.declared.numbers.UserNo.{UserNo}
 use Rattle.field_values.specs.declared.numbers.FieldNo.{FieldNo}
 use Rattle.field_values.specs.declared.numbers.IssueNo.{IssueNo}
@@ -22,6 +22,9 @@ pub record History : Type 0 where
 pub record RoomyHistory : Type 0 where
   pub history : History
   pub room : ℕ
+
+abbrev pub histories_of : List RoomyHistory → List History
+histories_of issues = map (λ i. i.history) issues
 
 -- the opening value of a field
 abbrev pub opening_value : List Change → FieldNo → Value

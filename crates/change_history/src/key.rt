@@ -1,4 +1,5 @@
 ghost use Rattle.std.specs.Prelude.{◌≡◌, ◌∷◌, ◌++◌, IfOk, decimal};
+ghost use Rattle.change_history.specs.Key.{project_of};
 
 use arrayvec::ArrayString;
 use field_values::{Memory, Text};
@@ -77,5 +78,16 @@ impl Key {
                 kept: KeptKey::Apart(Text::copy_of(alloc, self.as_str())?),
             }),
         }
+    }
+}
+
+/// The key of the project, which stands before the hyphen of the issue's.
+#[tactic(auto, using(std::proofs::lemmas::Str::Pattern::split_once_first))]
+pub fn project_of(key: &str) -> &str
+    ensures { result.now ≡ project_of key.now }
+{
+    match key.split_once('-') {
+        Some((project, _)) => project,
+        None => key,
     }
 }

@@ -12,6 +12,6 @@ mod span;
 pub use change::{Change, Changes};
 pub use entry::{Entries, Entry, Group};
 pub use issue::Issue;
-pub use key::Key;
+pub use key::{Key, project_of};
 pub use small::Small;
 pub use span::Span;

@@ -20,9 +20,9 @@ unfoldable pub texts_in : List ℕ → Option (List (List ℕ))
 texts_in text = option_and_then texts_of (read text)
 
 -- the texts as an array
-unfoldable pub text_array : List (List ℕ) → Data
-text_array texts = array (items_of (map string texts))
+abbrev pub texts_data : List (List ℕ) → Data
+texts_data texts = array (items_of (map string texts))
 
 -- the JSON array of these texts, without spaces
 unfoldable pub array_text : List (List ℕ) → List ℕ
-array_text texts = compact_text (text_array texts)
+array_text texts = compact_text (texts_data texts)

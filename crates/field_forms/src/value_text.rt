@@ -4,7 +4,7 @@ ghost use Rattle.std.specs.Prelude.{decimal, slice_get, option_map};
 ghost use Rattle.serde_json.specs.View.{view};
 ghost use Rattle.civil_dates.specs.DateText.{date_text};
 ghost use Rattle.civil_dates.specs.Days.{is_day};
-ghost use Rattle.field_forms.specs.TextLists.{text_array, array_text};
+ghost use Rattle.field_forms.specs.TextLists.{texts_data, array_text};
 ghost use Rattle.field_forms.specs.ValueTexts.{chosen_names, IsInside, IsTextOf};
 
 use crate::number_text::number_text;
@@ -18,9 +18,8 @@ use serde_json::Value as Json;
 use std::alloc::Global;
 
 /// The texts as a JSON array.
-#[tactic(auto, unfolding(crate::specs::TextLists::text_array))]
 fn text_array(alloc: Global, texts: &[Text]) -> Result<Json, Memory>
-    ensures { IfOk result (λ v. view v ≡ text_array texts.now) }
+    ensures { IfOk result (λ v. view v ≡ texts_data texts.now) }
 {
     let mut items = Vec::new(alloc);
     for text in texts {

@@ -5,14 +5,14 @@ ghost use Rattle.field_values.specs.declared.value.Value.{Value};
 ghost use Rattle.field_values.specs.declared.numbers.TheConstants.FieldNo as number;
 ghost use Rattle.fields.specs.SetupParts.{parts, names_in};
 ghost use Rattle.change_history.specs.History.{opening_value};
-ghost use Rattle.jql_meaning.specs.Comparison.{project_of};
+ghost use Rattle.change_history.specs.Key.{project_of};
 ghost use Rattle.workflow.specs.Same.{same_value};
 ghost use Rattle.tracker_machine.specs.Create.{called_before, is_created_as, is_value_of};
 ghost use Rattle.tracker_machine.specs.Meaning.Meaning.{Tells};
 ghost use Rattle.tracker_state.specs.Check.{IsRefusal};
 ghost use Rattle.issue_calls.specs.Create.{IsTold, key_of_project};
 
-use change_history::Issue;
+use change_history::{Issue, project_of};
 use fields::{FieldNo, Memory, ProjectNo, Setup, Text, Value};
 use std::alloc::Global;
 use tracker_calls::{Answer, Refusal, ToldText};
@@ -108,19 +108,7 @@ fn is_created_as(
 fn is_of(issue: &Issue, project: &str) -> bool
     ensures { result ≡ bytes_eq (project_of issue.now.history.key) project.now }
 {
-    project_of(issue) == project
-}
-
-// The key of the issue's project, which stands before the hyphen.
-#[tactic(auto, using(std::proofs::lemmas::Str::Pattern::split_once_first))]
-fn project_of(issue: &Issue) -> &str
-    ensures { result.now ≡ project_of issue.now.history.key }
-{
-    let key = issue.key().as_str();
-    match key.split_once('-') {
-        Some((project, _)) => project,
-        None => key,
-    }
+    project_of(issue.key().as_str()) == project
 }
 
 // Whether the issue was created with the type of that name.

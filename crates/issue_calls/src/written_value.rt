@@ -1,7 +1,7 @@
 // Values of an issue's fields, written as answers tell them.
 ghost use Rattle.std.specs.Prelude.{◌≡◌, OnOk, option_map, slice_get};
 ghost use Rattle.change_history.specs.History.{present};
-ghost use Rattle.json_texts.specs.JsonData.{texts_data};
+ghost use Rattle.field_forms.specs.TextLists.{texts_data};
 ghost use Rattle.json_texts.specs.JsonTokens.{after};
 ghost use Rattle.field_forms.specs.ValueTexts.{chosen_names};
 ghost use Rattle.fields.specs.SetupParts.{parts, names_in};

@@ -1,6 +1,5 @@
 -- The records that an export writes: a header, and then one for each issue.
-use Rattle.std.specs.Prelude.{◌≡◌, ◌⊎◌, ◌==◌, ℕ, true, List, [], ◌∷◌, map, Option, unwrap_or, codes}
-use Rattle.std.specs.List.{before_first}
+use Rattle.std.specs.Prelude.{◌≡◌, ◌⊎◌, ℕ, true, List, [], ◌∷◌, map, Option, unwrap_or, codes}
 use Rattle.csv.specs.Writing.{default_writer, row_text}
 use Rattle.field_values.specs.declared.numbers.FieldNo.{FieldNo}
 use Rattle.field_values.specs.declared.numbers.TheConstants.FieldNo as number
@@ -11,6 +10,7 @@ use Rattle.field_forms.specs.Numbers.{number_text}
 use Rattle.civil_dates.specs.DateText.{date_text}
 use Rattle.fields.specs.Naming.{name_at}
 use Rattle.change_history.specs.History.{History, present}
+use Rattle.change_history.specs.Key.{project_of}
 
 -- the columns
 abbrev pub export_header : List (List ℕ)
@@ -43,10 +43,6 @@ column_text names n (value.Sprint sprint) = []
 -- what a field of the issue holds now
 abbrev pub column_of : Names → History → FieldNo → List ℕ
 column_of names h f = column_text names f.0 (present h f)
-
--- the project's key: what stands before the hyphen of the issue's
-abbrev pub project_of : List ℕ → List ℕ
-project_of key = before_first (λ byte. byte == 45) key
 
 -- the fields of an issue's record, where this text stands for its external id
 abbrev pub columns_of : Names → History → List ℕ → List (List ℕ)

@@ -5,8 +5,8 @@ ghost use Rattle.issue_csv.specs.Writing.{HoldsFitting, column_of, columns_of, e
 ghost use Rattle.issue_csv.specs.Writing.{exported_fields, header_text, issue_text};
 
 use crate::record_text::write_record;
-use crate::told::{column_text, project_of};
-use change_history::Issue;
+use crate::told::column_text;
+use change_history::{Issue, project_of};
 use fields::{FieldNo, Memory, Names, Setup, Text};
 use std::alloc::Global;
 
@@ -74,7 +74,7 @@ fn columns_of(alloc: Global, setup: &Setup, issue: &Issue, external: &str) -> Re
     let mut columns = Names::new(alloc);
     put_text(alloc, issue.key().as_str(), &mut columns)?;
     put_text(alloc, external, &mut columns)?;
-    put_text(alloc, project_of(issue.key()), &mut columns)?;
+    put_text(alloc, project_of(issue.key().as_str()), &mut columns)?;
     put_fields(alloc, setup, issue, exported_fields(), &mut columns)?;
     Ok(columns)
 }

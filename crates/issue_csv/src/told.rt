@@ -2,9 +2,8 @@
 ghost use Rattle.std.specs.Prelude.{◌≡◌, ◌⊎◌, true, IfOk};
 ghost use Rattle.field_forms.specs.Known.{fits};
 ghost use Rattle.fields.specs.SetupParts.{names};
-ghost use Rattle.issue_csv.specs.Writing.{column_text, project_of};
+ghost use Rattle.issue_csv.specs.Writing.{column_text};
 
-use change_history::Key;
 use fields::{FieldNo, Memory, Setup, Text, Value, name_at};
 use std::alloc::Global;
 
@@ -28,16 +27,5 @@ pub fn column_text(
         Value::Set(_) => Text::copy_of(alloc, ""),
         Value::Labels(_) => Text::copy_of(alloc, ""),
         Value::Sprint(_) => Text::copy_of(alloc, ""),
-    }
-}
-
-/// The project's key before the hyphen.
-#[tactic(auto, using(std::proofs::lemmas::Str::Pattern::split_once_first))]
-pub fn project_of(key: &Key) -> &str
-    ensures { result.now ≡ project_of key.now }
-{
-    match key.as_str().split_once('-') {
-        Some((project, _)) => project,
-        None => key.as_str(),
     }
 }

@@ -3,7 +3,8 @@ use Rattle.std.proofs.Common.{◌≡◌, ℕ, ◌+◌, ◌*◌, ◌-◌, ◌<◌
 use Rattle.std.proofs.lemmas.Bool.{cases_lt}
 use Rattle.std.proofs.lemmas.List.{take_more}
 use Rattle.std.proofs.lemmas.List.Sums.{fold_push}
-use Rattle.jql_eval.specs.Numbers.{number_in, digit_before, number_before, lead}
+use Rattle.jql_meaning.specs.Order.{number_in}
+use Rattle.jql_eval.specs.Numbers.{digit_before, number_before, lead}
 
 -- one digit more
 pub number_more : (digits : List ℕ) (left : ℕ) → number_before digits left ≡ 10 * number_before digits (left + 1) + digit_before digits left

@@ -1,9 +1,6 @@
 -- Numbers by their digits.
-use Rattle.std.specs.Prelude.{ℕ, ◌-◌, ◌+◌, ◌*◌, nat_lt, List, length, take, fold, slice_index_or, min, if◌then◌else◌}
-
--- the number that digits write
-abbrev pub number_in : List ℕ → ℕ
-number_in digits = fold (λ number digit. 10 * number + (digit - 48)) 0 digits
+use Rattle.std.specs.Prelude.{ℕ, ◌-◌, nat_lt, List, length, take, slice_index_or, min, if◌then◌else◌}
+use Rattle.jql_meaning.specs.Order.{number_in}
 
 -- the digit with so many others behind it, and 0 in front of the first
 abbrev pub digit_before : List ℕ → ℕ → ℕ

@@ -1,7 +1,7 @@
 -- What the program takes for a standing.
 use Rattle.std.specs.Prelude.{ℕ, List}
 use Rattle.jql_eval.specs.declared.standing.Standing.{Standing as Held}
-use Rattle.jql_meaning.specs.Comparison.{project_of}
+use Rattle.change_history.specs.Key.{project_of}
 use Rattle.jql_meaning.specs.Order.{Standing, size, text, key, nothing, number_of}
 
 -- where an issue of that key stands by it

@@ -1,7 +1,8 @@
 // Numbers by their digits, however many.
 ghost use Rattle.std.specs.Prelude.{◌≡◌, ◌≤◌, ◌+◌, ◌*◌, ◌-◌, ◌^◌, min};
 ghost use Rattle.std.specs.Ordering.{nat_cmp};
-ghost use Rattle.jql_eval.specs.Numbers.{number_in, digit_before, lead};
+ghost use Rattle.jql_meaning.specs.Order.{number_in};
+ghost use Rattle.jql_eval.specs.Numbers.{digit_before, lead};
 
 use std::cmp::Ordering;
 

@@ -7,7 +7,7 @@ ghost use Rattle.field_values.specs.declared.numbers.FieldNo.{FieldNo};
 ghost use Rattle.change_history.specs.History.{present};
 ghost use Rattle.change_history.specs.Small.{small_of};
 ghost use Rattle.change_history.specs.declared.small.Small.{Small};
-ghost use Rattle.jql_meaning.specs.Comparison.{project_of};
+ghost use Rattle.change_history.specs.Key.{project_of};
 ghost use Rattle.jql_meaning.specs.Order.{standing, standing_cmp, value_standing, category_standing, category_place, text_cmp, kind_place, key};
 ghost use Rattle.jql_eval.specs.Standings.{key_standing, seen};
 

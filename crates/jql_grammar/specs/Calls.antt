@@ -4,7 +4,7 @@ use Rattle.field_forms.specs.Names.{place_named}
 use Rattle.relative_dates.specs.declared.term.Term.{Term}
 use Rattle.relative_dates.specs.declared.call.TermCall.{TermCall}
 use Rattle.relative_dates.specs.declared.call.TermCall.TheVariants.{Is, NoSuchName, BadArgument}
-use Rattle.relative_dates.specs.Call.{call_of}
+use Rattle.relative_dates.specs.Call.{call_of, is_named}
 use Rattle.jql_syntax.specs.declared.query.Call.{Call}
 use Rattle.jql_bound.specs.declared.context.Phase.TheVariants.{Future, Active, Closed}
 use Rattle.jql_bound.specs.declared.operand.Operand.{Operand}
@@ -17,7 +17,6 @@ use Rattle.jql_grammar.specs.declared.column.ValueKind.{ValueKind}
 use Rattle.jql_grammar.specs.declared.column.ValueKind.TheVariants.{User, Date, Sprint}
 use Rattle.jql_grammar.specs.Steps.{made, if_some, some_or}
 use Rattle.jql_grammar.specs.Scope.{Scope}
-use Rattle.jql_grammar.specs.Fields.{is_named}
 
 -- ---- functions that stand for one value
 

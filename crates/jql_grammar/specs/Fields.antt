@@ -1,7 +1,6 @@
 -- The fields that a query may name. Names ignore the case of ASCII letters.
-use Rattle.std.specs.Prelude.{ℕ, Bool, ◌||◌, List, Option, Some, None, option_map, if◌then◌else◌, codes}
+use Rattle.std.specs.Prelude.{ℕ, ◌||◌, List, Option, Some, None, option_map, if◌then◌else◌, codes}
 use Rattle.std.specs.Option.{option_or}
-use Rattle.std.specs.Str.{str_eq_ignore_ascii_case}
 use Rattle.field_values.specs.declared.numbers.TheConstants.FieldNo as number
 use Rattle.field_values.specs.declared.field.Field.{Field as OwnField}
 use Rattle.field_forms.specs.Known.{field_named, own_field}
@@ -10,9 +9,7 @@ use Rattle.jql_syntax.specs.declared.query.Field.TheVariants.{Named, Custom}
 use Rattle.jql_bound.specs.declared.leaf.Subject.TheVariants.{Field as Held, Project, Key, Created, Updated}
 use Rattle.jql_bound.specs.declared.order.SortField.{SortField}
 use Rattle.jql_bound.specs.declared.order.SortField.TheVariants.{Subject as TheSubject, StatusCategory, Rank}
-
-abbrev pub is_named : List ℕ → List ℕ → Bool
-is_named name other = str_eq_ignore_ascii_case name other
+use Rattle.relative_dates.specs.Call.{is_named}
 
 -- the field of that number, as what of an issue it is
 abbrev pub held : ℕ → SortField

@@ -7,7 +7,7 @@ use Rattle.field_values.specs.declared.words.Category.TheVariants.{ToDo, InProgr
 use Rattle.field_forms.specs.Cuts.{cut_at}
 use Rattle.field_forms.specs.Names.{is_project_key}
 use Rattle.field_values.specs.Digits.{read_on, is_digit}
-use Rattle.jql_grammar.specs.Fields.{is_named}
+use Rattle.relative_dates.specs.Call.{is_named}
 
 -- one digit or more
 abbrev pub are_digits : List ℕ → Bool

@@ -21,7 +21,7 @@ use Rattle.jql_grammar.specs.declared.column.ValueKind.{ValueKind}
 use Rattle.jql_grammar.specs.declared.column.ValueKind.TheVariants.{Text, Choice, Priority, Resolution, User, Versions, Labels, Date, Number, Sprint, Project, Key, Category as TheCategory}
 use Rattle.jql_grammar.specs.Steps.{some_or}
 use Rattle.jql_grammar.specs.Scope.{Scope}
-use Rattle.jql_grammar.specs.Fields.{is_named}
+use Rattle.relative_dates.specs.Call.{is_named}
 use Rattle.jql_grammar.specs.Forms.{number_in, is_issue_key, category_named, is_same_category}
 
 -- a choice of the field of that number

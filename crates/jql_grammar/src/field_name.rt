@@ -1,7 +1,8 @@
 // The fields that a query may name.
 ghost use Rattle.std.specs.Prelude.{◌≡◌, ◌||◌, option_map, codes};
 ghost use Rattle.field_forms.specs.Known.{own_field};
-ghost use Rattle.jql_grammar.specs.Fields.{is_named, held, other_named, later_named, field_in};
+ghost use Rattle.relative_dates.specs.Call.{is_named};
+ghost use Rattle.jql_grammar.specs.Fields.{held, other_named, later_named, field_in};
 
 use fields::{Field as OwnField, FieldNo, Setup};
 use jql_bound::{SortField, Subject};

@@ -1,6 +1,5 @@
 -- How what a comparison looks at stands to an operand, at the present moment.
-use Rattle.std.specs.Prelude.{ℕ, ◌==◌, Bool, false, List, Option, Some, None, pos, ℤ}
-use Rattle.std.specs.List.{before_first}
+use Rattle.std.specs.Prelude.{ℕ, Bool, false, List, Option, Some, None, pos, ℤ}
 use Rattle.std.specs.Str.{bytes_eq}
 use Rattle.std.specs.Ordering.{int_cmp, nat_cmp, int_eq, is_lt, is_le, is_gt, is_ge}
 use Rattle.std.specs.declared.cmp.Ordering.{Ordering}
@@ -8,6 +7,7 @@ use Rattle.field_values.specs.declared.numbers.Day.{Day}
 use Rattle.field_values.specs.declared.numbers.SprintNo.{SprintNo}
 use Rattle.field_values.specs.declared.value.Value.{Value}
 use Rattle.change_history.specs.History.{History, present, updated}
+use Rattle.change_history.specs.Key.{project_of}
 use Rattle.relative_dates.specs.declared.term.Term.{Term}
 use Rattle.relative_dates.specs.Calendar.{midnight}
 use Rattle.relative_dates.specs.Term.{second}
@@ -16,10 +16,6 @@ use Rattle.jql_bound.specs.declared.leaf.Subject.{Subject}
 use Rattle.jql_bound.specs.declared.leaf.Inequality.{Inequality}
 use Rattle.jql_meaning.specs.Surroundings.{Surroundings, phase_of, is_in_phase}
 use Rattle.jql_meaning.specs.Naming.{names, some_value}
-
--- the project's key: what stands before the hyphen of the issue's
-abbrev pub project_of : List ℕ → List ℕ
-project_of key = before_first (λ byte. byte == 45) key
 
 -- the second that a date means at the present moment
 abbrev pub second_now : Surroundings → ℕ → Term → ℤ

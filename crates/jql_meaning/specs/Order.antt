@@ -15,7 +15,7 @@ use Rattle.jql_bound.specs.declared.leaf.Subject.{Subject}
 use Rattle.jql_bound.specs.declared.order.SortField.{SortField}
 use Rattle.jql_bound.specs.declared.order.Direction.{Direction}
 use Rattle.jql_bound.specs.declared.order.OrderKey.{OrderKey}
-use Rattle.jql_meaning.specs.Comparison.{project_of}
+use Rattle.change_history.specs.Key.{project_of}
 
 -- what decides where an issue stands: a size, a text, the two parts of an issue's key, or nothing, which comes last
 pub data Standing : Type 0 where
@@ -40,10 +40,13 @@ standing_cmp (text t) (text u) = text_cmp t u
 standing_cmp (key p n) (key q m) = ordering_then (text_cmp p q) (nat_cmp n m)
 standing_cmp one other = nat_cmp (kind_place one) (kind_place other)
 
+-- the number that digits write
+abbrev pub number_in : List ℕ → ℕ
+number_in digits = fold (λ number digit. 10 * number + (digit - 48)) 0 digits
+
 -- the number in an issue's key
 abbrev pub number_of : List ℕ → ℕ
-number_of name =
-    fold (λ number digit. 10 * number + (digit - 48)) 0 (after_first (λ byte. byte == 45) name)
+number_of name = number_in (after_first (λ byte. byte == 45) name)
 
 -- a user stands by name and a choice by its place in the setup's list; priorities stand from the lowest, which is the last, to the
 -- highest

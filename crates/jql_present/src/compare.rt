@@ -4,7 +4,8 @@ ghost use Rattle.std.specs.List.{position_or_len};
 ghost use Rattle.std.specs.Ordering.{int_cmp, int_eq};
 ghost use Rattle.jiff_core.specs.Calendar.{IsWithin};
 ghost use Rattle.jql_meaning.specs.Surroundings.{surroundings_of};
-ghost use Rattle.jql_meaning.specs.Comparison.{project_of, second_now, midnight_of, equals_value, equals_moment, is_project, is_issue, equals, value_order, moment_order, order};
+ghost use Rattle.change_history.specs.Key.{project_of};
+ghost use Rattle.jql_meaning.specs.Comparison.{second_now, midnight_of, equals_value, equals_moment, is_project, is_issue, equals, value_order, moment_order, order};
 
 use crate::naming::has_value;
 use crate::phase::is_in_phase;

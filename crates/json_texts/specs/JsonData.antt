@@ -1,8 +1,7 @@
 -- Numbers and texts as JSON.
-use Rattle.std.specs.Prelude.{ℕ, ℤ, List, Option, Some, None, map}
-use Rattle.serde_json.specs.Data.{Data, null, number, unsigned, string, array}
+use Rattle.std.specs.Prelude.{ℕ, ℤ, List, Option, Some, None}
+use Rattle.serde_json.specs.Data.{Data, null, number, unsigned, string}
 use Rattle.serde_json.specs.Find.{of_integer}
-use Rattle.serde_json.specs.View.{items_of}
 
 abbrev pub natural : ℕ → Data
 natural n = number (unsigned n)
@@ -18,6 +17,3 @@ natural_or_null (Some n) = natural n
 abbrev pub text_or_null : Option (List ℕ) → Data
 text_or_null None = null
 text_or_null (Some text) = string text
-
-abbrev pub texts_data : List (List ℕ) → Data
-texts_data texts = array (items_of (map string texts))

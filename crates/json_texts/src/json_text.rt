@@ -6,7 +6,7 @@ ghost use Rattle.serde_json.specs.Data.{null, string, boolean};
 ghost use Rattle.civil_dates.specs.DateText.{date_text};
 ghost use Rattle.civil_dates.specs.Days.{is_day};
 ghost use Rattle.json_texts.specs.JsonData.{natural, integer, natural_or_null, text_or_null};
-ghost use Rattle.json_texts.specs.JsonData.{texts_data};
+ghost use Rattle.field_forms.specs.TextLists.{texts_data};
 ghost use Rattle.json_texts.specs.JsonTokens.{after};
 ghost use Rattle.field_forms.specs.Numbers.{number_text};
 

@@ -2,7 +2,7 @@
 ghost use Rattle.std.specs.Prelude.{◌≡◌, ◌<◌, IsTrue};
 ghost use Rattle.jql_meaning.specs.Surroundings.{surroundings_of};
 ghost use Rattle.tracker_filters.specs.Saved.{MayPut};
-ghost use Rattle.tracker_filters.specs.Watched.{histories_of};
+ghost use Rattle.change_history.specs.History.{histories_of};
 
 use change_history::{Change, Changes, Issue, Key};
 use field_values::{

@@ -3,7 +3,8 @@ use Rattle.std.specs.Prelude.{ℕ, ℤ, Bool, List, [], ◌∷◌, ◌++◌, Opt
 use Rattle.serde_json.specs.Data.{Data, null, boolean, string, array, object, item, no_items, Members, member, no_members, put}
 use Rattle.serde_json.specs.View.{items_of}
 use Rattle.serde_json.specs.Written.{compact_text}
-use Rattle.json_texts.specs.JsonData.{natural, integer, natural_or_null, text_or_null, texts_data}
+use Rattle.field_forms.specs.TextLists.{texts_data}
+use Rattle.json_texts.specs.JsonData.{natural, integer, natural_or_null, text_or_null}
 use Rattle.tracker_calls.specs.declared.reply.Reply.{Reply}
 use Rattle.tracker_calls.specs.declared.reply.Reply.TheVariants as reply
 use Rattle.tracker_calls.specs.declared.reply.Answer.{Answer}

@@ -1,10 +1,10 @@
 -- What stands at a place of a list.
 use Rattle.std.proofs.Common.{◌⊎◌, ◌≡◌, ◌≢◌, ℕ, zero, suc, Some, List, [], ◌∷◌, ◌++◌, length, set, option_map, slice_get, refl, ap, ◌∙◌, inl, inr, arith}
 use Rattle.std.proofs.lemmas.Option.{none-some, same_Some, slice_get-map}
-use Rattle.change_history.specs.History.{RoomyHistory}
+use Rattle.change_history.specs.History.{RoomyHistory, histories_of}
 use Rattle.std.specs.declared.snapshot.Snapshot.{Snapshot}
 use Rattle.change_history.specs.declared.issue.Issue.{Issue}
-use Rattle.tracker_filters.specs.Watched.{histories_of, histories_in}
+use Rattle.tracker_filters.specs.Watched.{histories_in}
 use Rattle.std.proofs.lemmas.List.{map-append, map-set}
 
 -- what stands in a list that is longer by one

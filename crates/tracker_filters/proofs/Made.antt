@@ -2,12 +2,11 @@
 use Rattle.std.proofs.Common.{◌≡◌, ℕ, ◌+◌, Some, Option, List, [], ◌∷◌, ◌++◌, length, slice_get, refl, sym, ◌∙◌, ap, subst, inl, inr, length-append}
 use Rattle.std.proofs.lemmas.List.{length-map}
 use Rattle.std.proofs.lemmas.Option.{none-some, same_Some}
-use Rattle.change_history.specs.History.{RoomyHistory, History}
+use Rattle.change_history.specs.History.{RoomyHistory, History, histories_of}
 use Rattle.jql_bound.specs.Condition.{Condition}
 use Rattle.jql_meaning.specs.Surroundings.{Surroundings}
 use Rattle.jql_eval.specs.Told.{Told}
 use Rattle.jql_eval.specs.Right.{IsRight}
-use Rattle.tracker_filters.specs.Watched.{histories_of}
 use Rattle.tracker_filters.specs.Ready.{AreVerdicts}
 use Rattle.tracker_filters.proofs.Lists.{get_pushed, history_at}
 

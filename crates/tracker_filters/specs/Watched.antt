@@ -3,7 +3,7 @@ use Rattle.std.specs.Prelude.{ℕ, ◌≡◌, ◌+◌, ◌<◌, ◌^◌, List, [
 use Rattle.std.specs.declared.snapshot.Snapshot.{Snapshot}
 use Rattle.field_values.specs.declared.numbers.IssueNo.{IssueNo}
 use Rattle.change_history.specs.declared.issue.Issue.{Issue}
-use Rattle.change_history.specs.History.{RoomyHistory, History}
+use Rattle.change_history.specs.History.{History}
 use Rattle.jql_bound.specs.Condition.{Condition}
 use Rattle.jql_meaning.specs.Surroundings.{Surroundings}
 use Rattle.jql_meaning.specs.Truth.{query_holds}
@@ -23,9 +23,6 @@ pub record WatchedFilters : Type 0 where
   pub histories : List History
   pub around : Surroundings
   pub moment : ℕ
-
-abbrev pub histories_of : List RoomyHistory → List History
-histories_of issues = map (λ i. i.history) issues
 
 abbrev pub histories_in : List (Snapshot Issue) → List History
 histories_in seen = map (λ s. s.value.history) seen

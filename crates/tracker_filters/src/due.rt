@@ -6,7 +6,8 @@ ghost use Rattle.filter_views.specs.Grid.{IsGrid};
 ghost use Rattle.filter_views.specs.Counts.{due};
 ghost use Rattle.rising_numbers.specs.ByNumber.{RiseFrom};
 ghost use Rattle.tracker_filters.specs.Saved.{number};
-ghost use Rattle.tracker_filters.specs.Watched.{AreCellsOf, AreRight, histories_of};
+ghost use Rattle.change_history.specs.History.{histories_of};
+ghost use Rattle.tracker_filters.specs.Watched.{AreCellsOf, AreRight};
 ghost use Rattle.tracker_filters.specs.Cells.{IsDue, NoneIsDue, ArePending};
 
 use crate::filter::Filter;

@@ -4,7 +4,7 @@ ghost use Rattle.jql_meaning.specs.Surroundings.{surroundings_of};
 ghost use Rattle.filter_views.specs.Cell.{filters as numbers_in, is_there};
 ghost use Rattle.rising_numbers.specs.ByNumber.{RiseFrom};
 ghost use Rattle.tracker_filters.specs.Saved.{number};
-ghost use Rattle.tracker_filters.specs.Watched.{histories_of};
+ghost use Rattle.change_history.specs.History.{histories_of};
 ghost use Rattle.tracker_filters.specs.Members.{asks_members, asking_cost, members_cost, SettlesRow, SettlesMembers};
 
 use crate::asking::asks_members;

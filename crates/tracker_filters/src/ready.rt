@@ -2,7 +2,7 @@
 ghost use Rattle.std.specs.Prelude.{◌≡◌, ◌<◌, ◌+◌, length, slice_get, option_map, Some, IfOk, OnOk, OnErr};
 ghost use Rattle.jql_meaning.specs.Surroundings.{surroundings_of};
 ghost use Rattle.tracker_filters.specs.Saved.{condition_of};
-ghost use Rattle.tracker_filters.specs.Watched.{histories_of};
+ghost use Rattle.change_history.specs.History.{histories_of};
 ghost use Rattle.tracker_filters.specs.Ready.{AreVerdicts};
 
 use crate::filter::Filter;

@@ -5,7 +5,7 @@ ghost use Rattle.filter_views.specs.FilterRow.{HasNumber};
 ghost use Rattle.filter_views.specs.Cell.{filters as numbers_in};
 ghost use Rattle.rising_numbers.specs.ByNumber.{RiseFrom};
 ghost use Rattle.tracker_filters.specs.Saved.{number};
-ghost use Rattle.tracker_filters.specs.Watched.{histories_of};
+ghost use Rattle.change_history.specs.History.{histories_of};
 ghost use Rattle.tracker_filters.specs.Cells.{SettlesIssue};
 ghost use Rattle.tracker_filters.specs.Sprint.{AreNumbered, SettlesSprint, is_in_sprint, cost_in, sprint_cost};
 

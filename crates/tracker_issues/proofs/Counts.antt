@@ -6,7 +6,7 @@ use Rattle.std.proofs.lemmas.List.Sums.{sum_by_push, sum_by-cons}
 use Rattle.field_values.specs.declared.parts.Project.{Project}
 use Rattle.change_history.specs.History.{History}
 use Rattle.fields.specs.Naming.{name_at}
-use Rattle.jql_meaning.specs.Comparison.{project_of}
+use Rattle.change_history.specs.Key.{project_of}
 use Rattle.tracker_machine.specs.Known.{issues_of}
 use Rattle.tracker_machine.proofs.Totals.{issues_of-set}
 use Rattle.tracker_issues.specs.Counts.{counts_of}

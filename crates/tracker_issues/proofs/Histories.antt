@@ -2,8 +2,7 @@
 use Rattle.std.proofs.Common.{◌≡◌, ℕ, zero, suc, ◌<◌, List, [], ◌∷◌, ◌++◌, length, slice_get, set, map, Option, None, Some, option_map, unwrap_or, IfSome, refl, ap, ap₂, ◌∙◌, arith}
 use Rattle.std.proofs.lemmas.List.{map-set}
 use Rattle.std.proofs.lemmas.Option.{slice_get-map}
-use Rattle.change_history.specs.History.{RoomyHistory, History}
-use Rattle.tracker_issues.specs.Issues.{histories_of}
+use Rattle.change_history.specs.History.{RoomyHistory, History, histories_of}
 
 pub histories_push : (is : List RoomyHistory) (i : RoomyHistory) → histories_of (is ++ i ∷ []) ≡ histories_of is ++ i.history ∷ []
 histories_push [] i = refl

@@ -5,9 +5,8 @@ use Rattle.std.specs.Option.{option_or, is_some}
 use Rattle.std.specs.HashMap.{HashMap, get, get_by_text}
 use Rattle.std.specs.Map.{lookup, update}
 use Rattle.std.proofs.lemmas.Slice.Eq.{bytes_eq-Decides}
-use Rattle.change_history.specs.History.{RoomyHistory, History}
+use Rattle.change_history.specs.History.{RoomyHistory, History, histories_of}
 use Rattle.tracker_machine.specs.Known.{place_of_issue}
-use Rattle.tracker_issues.specs.Issues.{histories_of}
 
 -- a key that is found stands in the table
 found_at : (bytes : List ℕ) (x : String Global × ℕ) (rest : Option ℕ) (v : ℕ) (b : Bool) → bytes_eq bytes (string_bytes x.0) ≡ b → cond b (Some x.1) rest ≡ Some v

@@ -17,7 +17,7 @@ use Rattle.fields.specs.Sound.{IsSound}
 use Rattle.fields.specs.Naming.{name_at, key_of}
 use Rattle.fields.proofs.PlaceNames.{at_place, projects_are_found}
 use Rattle.change_history.specs.History.{History}
-use Rattle.jql_meaning.specs.Comparison.{project_of}
+use Rattle.change_history.specs.Key.{project_of}
 use Rattle.workflow.specs.Conditions.{project_number}
 use Rattle.tracker_machine.specs.Known.{project_keys}
 use Rattle.tracker_machine.proofs.Settled as settled

@@ -13,7 +13,7 @@ use Rattle.field_forms.specs.Names.{place_named}
 use Rattle.fields.specs.Naming.{name_at, key_of}
 use Rattle.fields.specs.Sound.{IsSound}
 use Rattle.change_history.specs.History.{History}
-use Rattle.jql_meaning.specs.Comparison.{project_of}
+use Rattle.change_history.specs.Key.{project_of}
 use Rattle.workflow.specs.Conditions.{project_number}
 use Rattle.tracker_machine.specs.Known.{project_keys, issues_of}
 use Rattle.tracker_machine.proofs.Settled.{from_found}

@@ -1,5 +1,5 @@
 -- The issues that the desk keeps, and how they are found.
-use Rattle.std.specs.Prelude.{◌≡◌, ◌≤◌, ◌+◌, ◌-◌, ◌++◌, ℕ, List, length, map, String}
+use Rattle.std.specs.Prelude.{◌≡◌, ◌≤◌, ◌+◌, ◌-◌, ◌++◌, ℕ, List, length, String}
 use Rattle.std.specs.declared.alloc.Global.{Global}
 use Rattle.std.specs.HashMap.{HashMap, spare, get_by_text}
 use Rattle.change_history.specs.History.{RoomyHistory, History}
@@ -13,9 +13,6 @@ pub record Shelf : Type 0 where
   pub kept : List RoomyHistory
   pub room : ℕ
   pub tally : Tally
-
-abbrev pub histories_of : List RoomyHistory → List History
-histories_of kept = map (λ i. i.history) kept
 
 -- an issue with entries more, for which there was room
 abbrev pub with_entries : RoomyHistory → List Entry → RoomyHistory

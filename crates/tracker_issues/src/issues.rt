@@ -8,7 +8,7 @@ ghost use Rattle.change_history.specs.History.{MayAdd};
 ghost use Rattle.tracker_machine.specs.Known.{place_of_issue};
 ghost use Rattle.tracker_machine.specs.Checks.{entries_kept, bytes_kept, entry_bytes, history_bytes};
 ghost use Rattle.tracker_issues.specs.Counts.{counts_of};
-ghost use Rattle.tracker_issues.specs.Issues.{histories_of, with_entries};
+ghost use Rattle.tracker_issues.specs.Issues.{with_entries};
 
 use change_history::{Group, Issue};
 use fields::{Memory, Project, ProjectNo};
@@ -33,7 +33,8 @@ pub struct Issues {
 
 impl Model for Issues {
     ghost use Rattle.std.specs.Prelude.{vec_len, vec_capacity};
-    ghost use Rattle.tracker_issues.specs.Issues.{Shelf, AreIndexed, histories_of};
+    ghost use Rattle.change_history.specs.History.{histories_of};
+    ghost use Rattle.tracker_issues.specs.Issues.{Shelf, AreIndexed};
 
     ghost Value = { Shelf };
 

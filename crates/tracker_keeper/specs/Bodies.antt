@@ -1,7 +1,8 @@
 -- The one text of each part.
 use Rattle.std.specs.Prelude.{ℕ, List, [], ◌∷◌, map, codes}
 use Rattle.field_values.specs.declared.numbers.UserNo.{UserNo}
-use Rattle.json_texts.specs.JsonData.{natural, texts_data}
+use Rattle.field_forms.specs.TextLists.{texts_data}
+use Rattle.json_texts.specs.JsonData.{natural}
 use Rattle.field_forms.specs.Known.{Names}
 use Rattle.change_history.specs.declared.change.Change.{Change}
 use Rattle.change_history.specs.declared.entry.Entry.{Entry}

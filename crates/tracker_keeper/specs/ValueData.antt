@@ -2,7 +2,8 @@
 use Rattle.std.specs.Prelude.{ℕ}
 use Rattle.field_values.specs.declared.value.Value.{Value}
 use Rattle.field_values.specs.declared.value.Value.TheVariants as value
-use Rattle.json_texts.specs.JsonData.{natural, texts_data}
+use Rattle.field_forms.specs.TextLists.{texts_data}
+use Rattle.json_texts.specs.JsonData.{natural}
 use Rattle.field_forms.specs.Known.{Names, choices_of}
 use Rattle.field_forms.specs.Numbers as numbers
 use Rattle.field_forms.specs.ValueTexts.{chosen_names}

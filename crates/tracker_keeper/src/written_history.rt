@@ -4,7 +4,7 @@ ghost use Rattle.std.specs.List.{All};
 ghost use Rattle.serde_json.specs.Data.{array};
 ghost use Rattle.serde_json.specs.View.{items_of};
 ghost use Rattle.serde_json.specs.Written.{compact_text};
-ghost use Rattle.json_texts.specs.JsonData.{texts_data};
+ghost use Rattle.field_forms.specs.TextLists.{texts_data};
 ghost use Rattle.json_texts.specs.JsonTokens.{after};
 ghost use Rattle.fields.specs.SetupParts.{names};
 ghost use Rattle.tracker_keeper.specs.Forms.{IsGroupEntry, may_hold};

@@ -1,6 +1,6 @@
 // Values of fields as bodies tell them.
 ghost use Rattle.std.specs.Prelude.{◌≡◌, true, OnOk};
-ghost use Rattle.json_texts.specs.JsonData.{texts_data};
+ghost use Rattle.field_forms.specs.TextLists.{texts_data};
 ghost use Rattle.json_texts.specs.JsonTokens.{after};
 ghost use Rattle.field_forms.specs.Known.{choices_of};
 ghost use Rattle.field_forms.specs.ValueTexts.{chosen_names};

@@ -6,13 +6,13 @@ use Rattle.std.proofs.lemmas.Slice.Eq.{bytes_eq-Decides}
 use Rattle.std.proofs.lemmas.Bool.Decides.{Decides-and, Decides-eqb, Decides-like, same_from_decides}
 use Rattle.std.proofs.lemmas.List.{length-map}
 use Rattle.std.proofs.lemmas.Option.{none-some, slice_get_within}
-use Rattle.change_history.specs.History.{RoomyHistory, History}
+use Rattle.change_history.specs.History.{RoomyHistory, History, histories_of}
 use Rattle.field_values.specs.declared.numbers.UserNo.{UserNo}
 use Rattle.rising_numbers.specs.ByNumber.{put_by_number}
 use Rattle.tracker_filters.specs.declared.filter.Filter.{Filter}
 use Rattle.tracker_filters.specs.Saved.{number, is_named, by_owner, HaveOwnNames, AreSaved, MayPut}
 use Rattle.tracker_filters.specs.Sprint.{AreNumbered}
-use Rattle.tracker_filters.specs.Watched.{WatchedFilters, histories_of}
+use Rattle.tracker_filters.specs.Watched.{WatchedFilters}
 use Rattle.tracker_filters.proofs.Lists.{history_at}
 use Rattle.tracker_loading.proofs.Behind.{behind_above, put_behind}
 

@@ -16,7 +16,7 @@ use Rattle.rising_numbers.specs.ByNumber.{put_by_number}
 use Rattle.rising_numbers.proofs.ByNumber.{rise_put}
 use Rattle.change_history.specs.declared.entry.Entry.{Entry}
 use Rattle.change_history.specs.declared.entry.Group.{Group}
-use Rattle.change_history.specs.History.{History, RoomyHistory, present}
+use Rattle.change_history.specs.History.{History, RoomyHistory, present, histories_of}
 use Rattle.rank_strings.specs.Rank.{RankParts, IsRank}
 use Rattle.tracker_filters.specs.declared.filter.Filter.{Filter}
 use Rattle.tracker_filters.specs.Saved.{number}
@@ -28,7 +28,7 @@ use Rattle.tracker_machine.proofs.Regrouped.{asked_regrouped}
 use Rattle.tracker_machine.proofs.Settled.{from_found, to_found}
 use Rattle.tracker_machine.proofs.Saved.{all_put}
 use Rattle.tracker_issues.specs.Counts.{Tally, IsTally}
-use Rattle.tracker_issues.specs.Issues.{Shelf, histories_of, with_entries}
+use Rattle.tracker_issues.specs.Issues.{Shelf, with_entries}
 use Rattle.tracker_issues.proofs.Histories.{histories_set, set_here}
 use Rattle.tracker_issues.proofs.Tallies.{tally_push, tally_set, tally_beside}
 use Rattle.tracker_rows.specs.Rules.{IsInTurn, MayBeGroup}

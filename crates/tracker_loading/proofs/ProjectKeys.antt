@@ -12,7 +12,7 @@ use Rattle.fields.specs.Sound.{IsSound}
 use Rattle.fields.specs.Naming.{name_at, key_of}
 use Rattle.fields.proofs.PlaceNames.{projects_are_found}
 use Rattle.change_history.specs.History.{History}
-use Rattle.jql_meaning.specs.Comparison.{project_of}
+use Rattle.change_history.specs.Key.{project_of}
 use Rattle.tracker_machine.specs.Known.{project_keys, issues_of}
 use Rattle.tracker_machine.specs.Tracker.{IsNextKey}
 use Rattle.tracker_machine.proofs.Settled.{at_place}

@@ -4,7 +4,7 @@ ghost use Rattle.jql_meaning.specs.Surroundings.{surroundings_of};
 ghost use Rattle.rising_numbers.specs.ByNumber.{put_by_number};
 ghost use Rattle.tracker_filters.specs.Saved.{number, AreSaved, MayPut};
 ghost use Rattle.tracker_filters.specs.Sprint.{AreNumbered};
-ghost use Rattle.tracker_filters.specs.Watched.{histories_of};
+ghost use Rattle.change_history.specs.History.{histories_of};
 ghost use Rattle.tracker_loading.specs.Filtered.{HasSeen};
 
 use change_history::Issue;

@@ -1,10 +1,9 @@
 //! An issue that is read.
 ghost use Rattle.std.specs.Prelude.{◌≡◌, ◌≤◌, ◌<◌, ◌-◌, ◌^◌, ◌++◌, ◌∷◌, ◌↔◌, [], true, false, min, length, IfOk, IsTrue};
 ghost use Rattle.std.specs.List.{All};
-ghost use Rattle.change_history.specs.History.{opening_value};
+ghost use Rattle.change_history.specs.History.{opening_value, histories_of};
 ghost use Rattle.tracker_machine.specs.Checks.{entries_kept, bytes_kept, history_bytes};
 ghost use Rattle.tracker_machine.specs.Tracker.{AreNamed};
-ghost use Rattle.tracker_issues.specs.Issues.{histories_of};
 ghost use Rattle.tracker_rows.specs.Rules.{MayBeIssue};
 ghost use Rattle.tracker_loading.specs.Rules.{MayStand};
 ghost use Rattle.tracker_loading.specs.Turns.{AreCreatedInTurn};

@@ -2,14 +2,14 @@
 ghost use Rattle.std.specs.Prelude.{◌≡◌, ◌<◌, ◌≤◌, ◌+◌, ◌↔◌, length, IfOk, IfSome, IsTrue, None};
 ghost use Rattle.fields.specs.SetupParts.{parts};
 ghost use Rattle.fields.specs.Naming.{name_at};
-ghost use Rattle.jql_meaning.specs.Comparison.{project_of};
+ghost use Rattle.change_history.specs.Key.{project_of};
 ghost use Rattle.tracker_machine.specs.Known.{project_keys, issues_of};
 ghost use Rattle.tracker_machine.specs.Tracker.{IsNextKey};
 ghost use Rattle.tracker_issues.specs.Counts.{IsTally};
-ghost use Rattle.tracker_issues.specs.Issues.{histories_of};
+ghost use Rattle.change_history.specs.History.{histories_of};
 ghost use Rattle.tracker_loading.specs.Rules.{IsKeyAt};
 
-use change_history::Key;
+use change_history::{Key, project_of};
 use field_values::Memory;
 use fields::{ProjectNo, Setup};
 use std::alloc::Global;
@@ -38,17 +38,6 @@ pub(crate) fn project_of_next(
         return Ok(None);
     }
     Ok(Some(project))
-}
-
-// What stands before the hyphen.
-#[tactic(auto, using(std::proofs::lemmas::Str::Pattern::split_once_first))]
-fn project_of(key: &str) -> &str
-    ensures { result.now ≡ project_of key.now }
-{
-    match key.split_once('-') {
-        Some((project, _)) => project,
-        None => key,
-    }
 }
 
 fn is_same(one: &str, other: &str) -> bool

@@ -43,7 +43,7 @@ use Rattle.tracker_keeper.specs.declared.part.Part.{Part}
 use Rattle.tracker_keeper.specs.Forms.{IsNumber, is_small, is_filled, may_hold, are_among, are_opening, IsIssueKey, IsGroupEntry, IsStamp, HasStamps}
 use Rattle.tracker_keeper.specs.Kept.{part_keys, IsSetupText, IsPart, IsPartAt}
 use Rattle.tracker_machine.specs.Machine.{Machine, opening}
-use Rattle.jql_meaning.specs.Comparison.{project_of}
+use Rattle.change_history.specs.Key.{project_of}
 use Rattle.tracker_machine.specs.Known.{project_keys, issues_of}
 use Rattle.tracker_machine.specs.Chronicle.{HasEntry}
 use Rattle.tracker_machine.specs.Tracker.{Holds, AllEntriesHold, AllEntriesFit, AllSmall, AreByUsers, IsSettled, RunsFrom, IsNextKey, AreKeyed, IsExternalOf, HaveUsers, IsTracker, MayOpen, MayGroup}

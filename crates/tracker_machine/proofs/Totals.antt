@@ -5,7 +5,7 @@ use Rattle.std.proofs.lemmas.List.Sums.{sum_by_push, sum_by-set}
 use Rattle.std.proofs.lemmas.Option.{slice_get_within, get_or_from_slice_get}
 use Rattle.change_history.specs.declared.entry.Entry.{Entry}
 use Rattle.change_history.specs.History.{History}
-use Rattle.jql_meaning.specs.Comparison.{project_of}
+use Rattle.change_history.specs.Key.{project_of}
 use Rattle.tracker_machine.specs.Known.{issues_of}
 use Rattle.tracker_machine.specs.Checks.{entries_kept, bytes_kept, history_bytes, entry_bytes}
 use Rattle.std.proofs.lemmas.List.Sums.{sum_by-append}

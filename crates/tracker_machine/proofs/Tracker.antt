@@ -38,7 +38,7 @@ use Rattle.tracker_machine.specs.Saved.{SavedFilter, filter_number, board_number
 use Rattle.tracker_machine.specs.Effect.{Effect, applied, IsAllowed, with_external, with_issue, longer, with_group, with_new_rank, with_balance, with_moves, with_group_members, MayName, MayHave}
 use Rattle.tracker_machine.specs.Effect.Effect.{NewMoment, NewIssue, NewGroup, NewRank, NewBalance, NewRanks, NewSprint, NewState, NewFilter, NoFilter, NewBoard, NoBoard, NewMembers}
 use Rattle.fields.specs.Naming.{name_at, key_of}
-use Rattle.jql_meaning.specs.Comparison.{project_of}
+use Rattle.change_history.specs.Key.{project_of}
 use Rattle.tracker_machine.specs.Known.{project_keys, issues_of}
 use Rattle.tracker_machine.specs.Checks.{entries_kept, bytes_kept, entry_bytes}
 use Rattle.tracker_machine.specs.Tracker.{AllEntriesFit, AllSmall, IsSettled, RunsFrom, RisesAbove, IsNextKey, AreKeyed, AreExternals, HaveUsers, IsTracker, MayOpen, MayGroup}

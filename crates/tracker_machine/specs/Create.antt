@@ -13,7 +13,7 @@ use Rattle.fields.specs.SetupParts.{names_in}
 use Rattle.change_history.specs.declared.change.Change.{Change}
 use Rattle.change_history.specs.History.{History, opening_value}
 use Rattle.external_ids.specs.Ids.{external_named}
-use Rattle.jql_meaning.specs.Comparison.{project_of}
+use Rattle.change_history.specs.Key.{project_of}
 use Rattle.workflow.specs.Same.{is_empty, same_value}
 use Rattle.rank_strings.specs.Rank.{RankParts}
 use Rattle.tracker_calls.specs.declared.given.GivenField.{GivenField}

@@ -8,7 +8,7 @@ use Rattle.field_forms.specs.Names.{place_named}
 use Rattle.field_values.specs.Parts.{Parts}
 use Rattle.fields.specs.Naming.{key_of}
 use Rattle.change_history.specs.History.{History}
-use Rattle.jql_meaning.specs.Comparison.{project_of}
+use Rattle.change_history.specs.Key.{project_of}
 use Rattle.tracker_machine.specs.Machine.{Machine}
 
 abbrev pub project_keys : Parts → List (List ℕ)

@@ -2,8 +2,7 @@
 use Rattle.std.proofs.Common.{◌≡◌, ℕ, zero, suc, ◌-◌, ◌+◌, ◌<◌, List, [], ◌∷◌, ◌++◌, length, Some, option_map, slice_get, slice_set, refl, sym, ◌∙◌, ap, length-append, arith}
 use Rattle.std.proofs.lemmas.List.{length-map, length-set}
 use Rattle.std.proofs.lemmas.Option.{none-some, same_Some, slice_get-map, slice_get_within}
-use Rattle.change_history.specs.History.{History, RoomyHistory}
-use Rattle.tracker_work.specs.Seen.{histories_of}
+use Rattle.change_history.specs.History.{History, RoomyHistory, histories_of}
 
 as_many : (issues : List RoomyHistory) → length (histories_of issues) ≡ length issues
 as_many issues = length-map issues (λ (i : RoomyHistory). i.history)

@@ -7,7 +7,8 @@ use Rattle.burndown.specs.Burndown.{IsReserved, slots_of}
 use Rattle.burndown.specs.Chart.{IsBurndownOf}
 use Rattle.tracker_work.specs.declared.replay.Origin.{Origin}
 use Rattle.tracker_work.specs.declared.replay.Replay.{Replay}
-use Rattle.tracker_work.specs.Seen.{Seen, reading_of, state_in, histories_of}
+use Rattle.change_history.specs.History.{histories_of}
+use Rattle.tracker_work.specs.Seen.{Seen, reading_of, state_in}
 use Rattle.tracker_work.specs.States.{state_before, IsUpTo, StaysUntil}
 
 -- what a burndown is made from

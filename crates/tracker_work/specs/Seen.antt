@@ -7,7 +7,7 @@ use Rattle.field_values.specs.declared.status.Status.{Status}
 use Rattle.field_values.specs.declared.value.Value.{Value}
 use Rattle.field_values.specs.declared.words.Category.{Category}
 use Rattle.field_values.specs.declared.words.Category.TheVariants.{ToDo, InProgress, Done}
-use Rattle.change_history.specs.History.{History, RoomyHistory, present}
+use Rattle.change_history.specs.History.{History, present}
 use Rattle.sprints.specs.declared.sprint.Sprint.{Sprint}
 use Rattle.sprints.specs.declared.state.SprintState.{SprintState}
 use Rattle.sprints.specs.declared.state.SprintState.TheVariants.{Future}
@@ -77,6 +77,3 @@ with_state seen s state =
 -- with the histories after one more change group
 abbrev pub with_histories : Seen → List History → Seen
 with_histories seen histories = record seen { histories = histories; change = seen.change + 1 }
-
-abbrev pub histories_of : List RoomyHistory → List History
-histories_of issues = map (λ i. i.history) issues

@@ -1,7 +1,8 @@
 //! Change groups that are seen.
 ghost use Rattle.std.specs.Prelude.{◌≡◌, ◌+◌, ◌<◌, length, slice_get, Some};
 ghost use Rattle.burndown.specs.Group.{group_of};
-ghost use Rattle.tracker_work.specs.Seen.{histories_of, share_now, with_histories};
+ghost use Rattle.change_history.specs.History.{histories_of};
+ghost use Rattle.tracker_work.specs.Seen.{share_now, with_histories};
 ghost use Rattle.tracker_work.specs.Work.{IsWork, MayTell, ComesLast, GrowsAt, HasSameRoom};
 
 use crate::work::Work;

@@ -1,8 +1,8 @@
 //! The change groups of all issues, as a burndown is told of them.
 ghost use Rattle.std.specs.Prelude.{◌≡◌, ◌++◌, IfOk, OnOk, option_copied};
 ghost use Rattle.burndown.specs.Reading.{share_of};
-ghost use Rattle.change_history.specs.History.{opening_value};
-ghost use Rattle.tracker_work.specs.Seen.{is_done_by, histories_of};
+ghost use Rattle.change_history.specs.History.{opening_value, histories_of};
+ghost use Rattle.tracker_work.specs.Seen.{is_done_by};
 ghost use Rattle.tracker_work.specs.Told.{share_after, ends_group, groups_among, groups_in, groups_of};
 
 use crate::shares::{is_done_in, points_in, sprint_in};

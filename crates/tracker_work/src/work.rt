@@ -43,7 +43,7 @@ impl Drop for Work {
 }
 
 impl Model for Work {
-    ghost use Rattle.tracker_work.specs.Seen.{histories_of};
+    ghost use Rattle.change_history.specs.History.{histories_of};
     ghost use Rattle.tracker_work.specs.Work.{TrackedWork, IsWork};
 
     ghost Value = { TrackedWork };

@@ -1,5 +1,5 @@
 use Rattle.std.proofs.Common.{◌≡◌, ◌^◌, min, take}
-use Rattle.jql_eval.specs.Numbers.{number_in}
+use Rattle.jql_meaning.specs.Order.{number_in}
 use Rattle.jql_eval.proofs.number.number_in.Given as goal
 
 abbrev pub invariant-loop-digit : goal.invariant-loop-digit

@@ -1,5 +1,5 @@
 use Rattle.jql_meaning.specs.Surroundings.{surroundings_of}
-use Rattle.tracker_filters.specs.Watched.{histories_of}
+use Rattle.change_history.specs.History.{histories_of}
 use Rattle.tracker_filters.proofs.Rights.{pending_ends}
 use Rattle.tracker_filters.proofs.due.catch_up.Goals as goal
 

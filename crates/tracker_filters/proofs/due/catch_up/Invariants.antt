@@ -2,7 +2,7 @@ use Rattle.std.proofs.Common.{◌≡◌, ◌+◌}
 use Rattle.jql_meaning.specs.Surroundings.{surroundings_of}
 use Rattle.filter_views.specs.Views.{shape}
 use Rattle.filter_views.specs.Counts.{due}
-use Rattle.tracker_filters.specs.Watched.{histories_of}
+use Rattle.change_history.specs.History.{histories_of}
 use Rattle.tracker_filters.specs.Cells.{ArePending}
 use Rattle.tracker_filters.proofs.due.catch_up.Given as goal
 

@@ -2,7 +2,7 @@ use Rattle.std.proofs.Common.{length, refl, arith, ap, ◌∙◌}
 use Rattle.std.proofs.lemmas.Option.{slice_get_read}
 use Rattle.filter_views.specs.Views.{Shape}
 use Rattle.jql_meaning.specs.Surroundings.{surroundings_of}
-use Rattle.tracker_filters.specs.Watched.{histories_of}
+use Rattle.change_history.specs.History.{histories_of}
 use Rattle.tracker_filters.proofs.Settling.{row_there}
 use Rattle.tracker_filters.proofs.Regrouping.{one_asked, all_asked, members_cost_more}
 use Rattle.tracker_filters.proofs.members.settle_members.Goals as goal

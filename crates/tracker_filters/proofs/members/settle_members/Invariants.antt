@@ -1,6 +1,6 @@
 use Rattle.std.proofs.Common.{◌≡◌, ◌+◌, length, take}
 use Rattle.jql_meaning.specs.Surroundings.{surroundings_of}
-use Rattle.tracker_filters.specs.Watched.{histories_of}
+use Rattle.change_history.specs.History.{histories_of}
 use Rattle.tracker_filters.specs.Members.{members_cost}
 use Rattle.tracker_filters.proofs.Regrouping.{SettledAsking}
 use Rattle.tracker_filters.proofs.members.settle_members.Given as goal

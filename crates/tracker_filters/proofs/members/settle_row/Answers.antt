@@ -1,10 +1,9 @@
 use Rattle.std.proofs.Common.{◌+◌, length, refl, arith}
 use Rattle.std.proofs.lemmas.List.{length-map}
 use Rattle.std.proofs.lemmas.Option.{slice_get_read}
-use Rattle.change_history.specs.History.{RoomyHistory}
+use Rattle.change_history.specs.History.{RoomyHistory, histories_of}
 use Rattle.jql_meaning.specs.Surroundings.{surroundings_of}
 use Rattle.filter_views.specs.Cell.{Cell}
-use Rattle.tracker_filters.specs.Watched.{histories_of}
 use Rattle.tracker_filters.proofs.Lists.{history_at}
 use Rattle.tracker_filters.proofs.Regrouping.{one_cell_more, all_cells}
 use Rattle.tracker_filters.proofs.members.settle_row.Goals as goal

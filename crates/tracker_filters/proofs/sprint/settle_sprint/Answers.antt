@@ -1,9 +1,8 @@
 use Rattle.std.proofs.Common.{length, refl, arith}
 use Rattle.std.proofs.lemmas.List.{length-map}
 use Rattle.std.proofs.lemmas.Option.{slice_get_read}
-use Rattle.change_history.specs.History.{RoomyHistory}
+use Rattle.change_history.specs.History.{RoomyHistory, histories_of}
 use Rattle.jql_meaning.specs.Surroundings.{surroundings_of}
-use Rattle.tracker_filters.specs.Watched.{histories_of}
 use Rattle.tracker_filters.proofs.Lists.{history_at}
 use Rattle.tracker_filters.proofs.Sprinting.{one_more, all_settled, cost_more}
 use Rattle.tracker_filters.proofs.sprint.settle_sprint.Goals as goal

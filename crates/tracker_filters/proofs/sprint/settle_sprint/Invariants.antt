@@ -1,6 +1,6 @@
 use Rattle.std.proofs.Common.{◌≡◌, ◌+◌, length, take}
 use Rattle.jql_meaning.specs.Surroundings.{surroundings_of}
-use Rattle.tracker_filters.specs.Watched.{histories_of}
+use Rattle.change_history.specs.History.{histories_of}
 use Rattle.tracker_filters.specs.Sprint.{sprint_cost}
 use Rattle.tracker_filters.proofs.Sprinting.{SettledFirst}
 use Rattle.tracker_filters.proofs.sprint.settle_sprint.Given as goal

@@ -1,11 +1,10 @@
 use Rattle.std.proofs.Common.{List, sym, subst, arith}
 use Rattle.field_values.specs.declared.status.Status.{Status}
 use Rattle.fields.specs.SetupParts.{parts}
-use Rattle.change_history.specs.History.{RoomyHistory}
-use Rattle.tracker_work.specs.Seen.{Seen, done_of, histories_of as work_histories}
+use Rattle.change_history.specs.History.{RoomyHistory, histories_of}
+use Rattle.tracker_work.specs.Seen.{Seen, done_of}
 use Rattle.tracker_work.specs.Load.{MayBeLoaded}
 use Rattle.tracker_filters.specs.Sprint.{AreNumbered}
-use Rattle.tracker_filters.specs.Watched.{histories_of}
 use Rattle.tracker_state.proofs.Sprinting.{are_numbered}
 use Rattle.tracker_loading.specs.Assembled.{made_with}
 use Rattle.tracker_loading.specs.Making.{order_of}
@@ -40,7 +39,7 @@ load-requires c =
     λ statuses issues. record {
       done = done_of statuses;
       sprints = c.args.given.sprints.sprints;
-      histories = work_histories issues;
+      histories = histories_of issues;
       change = c.args.base.now.change;
     } in
     subst (λ (statuses : List Status). MayBeLoaded (made statuses c.as_vec.result.now.items)) (sym c.as_slice-statuses.ensures)

@@ -1,7 +1,7 @@
 use Rattle.std.proofs.Common.{◌≡◌, ◌++◌}
 use Rattle.std.specs.Vec.Iter.{into_iter_items}
 use Rattle.jql_meaning.specs.Surroundings.{surroundings_of}
-use Rattle.tracker_filters.specs.Watched.{histories_of}
+use Rattle.change_history.specs.History.{histories_of}
 use Rattle.tracker_loading.specs.Filtered.{HasSeen}
 use Rattle.tracker_loading.proofs.filtered.asked.Given as goal
 

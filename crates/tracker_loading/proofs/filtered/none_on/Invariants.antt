@@ -1,6 +1,6 @@
 use Rattle.std.proofs.Common.{◌≡◌, [], take}
 use Rattle.jql_meaning.specs.Surroundings.{surroundings_of}
-use Rattle.tracker_filters.specs.Watched.{histories_of}
+use Rattle.change_history.specs.History.{histories_of}
 use Rattle.tracker_loading.specs.Filtered.{HasSeen}
 use Rattle.tracker_loading.proofs.filtered.none_on.Given as goal
 

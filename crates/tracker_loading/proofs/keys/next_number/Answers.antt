@@ -2,11 +2,10 @@ use Rattle.std.proofs.Common.{◌≤◌, ◌+◌, ℕ, List, slice_get, ap, sym,
 use Rattle.std.proofs.lemmas.List.{length-map}
 use Rattle.fields.specs.SetupParts.{parts}
 use Rattle.fields.specs.Naming.{name_at}
-use Rattle.change_history.specs.History.{History, RoomyHistory}
+use Rattle.change_history.specs.History.{History, RoomyHistory, histories_of}
 use Rattle.tracker_machine.specs.Known.{project_keys, issues_of}
 use Rattle.tracker_machine.proofs.Settled.{from_found}
 use Rattle.tracker_issues.specs.Counts.{counts_of}
-use Rattle.tracker_issues.specs.Issues.{histories_of}
 use Rattle.tracker_issues.proofs.Counts.{few_counted, count_here, number_is}
 use Rattle.tracker_loading.proofs.keys.next_number.Goals as goal
 

@@ -4,10 +4,9 @@ use Rattle.field_values.specs.Parts.{Parts}
 use Rattle.field_forms.specs.Names.{place_named}
 use Rattle.fields.specs.SetupParts.{parts}
 use Rattle.fields.specs.Naming.{name_at, key_of}
-use Rattle.change_history.specs.History.{History}
-use Rattle.jql_meaning.specs.Comparison.{project_of}
+use Rattle.change_history.specs.History.{History, histories_of}
+use Rattle.change_history.specs.Key.{project_of}
 use Rattle.tracker_machine.specs.Known.{project_keys, issues_of}
-use Rattle.tracker_issues.specs.Issues.{histories_of}
 use Rattle.tracker_loading.proofs.ProjectKeys.{place_within, none_named, only_next}
 use Rattle.tracker_loading.proofs.Truths.{refused}
 use Rattle.tracker_loading.proofs.keys.project_of_next.Goals as goal

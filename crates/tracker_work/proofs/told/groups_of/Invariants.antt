@@ -1,5 +1,5 @@
 use Rattle.std.proofs.Common.{◌≡◌, ◌++◌, drop}
-use Rattle.tracker_work.specs.Seen.{histories_of}
+use Rattle.change_history.specs.History.{histories_of}
 use Rattle.tracker_work.specs.Told.{groups_of}
 use Rattle.tracker_work.proofs.told.groups_of.Given as goal
 

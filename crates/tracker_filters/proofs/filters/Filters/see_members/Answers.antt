@@ -1,8 +1,8 @@
 use Rattle.std.proofs.Common.{◌≡◌, ℕ, List, sym, subst}
-use Rattle.change_history.specs.History.{History}
+use Rattle.change_history.specs.History.{History, histories_of}
 use Rattle.jql_bound.specs.declared.context.Context.{Context}
 use Rattle.jql_meaning.specs.Surroundings.{surroundings_of}
-use Rattle.tracker_filters.specs.Watched.{WatchedFilters, AreWatched, histories_of, histories_in}
+use Rattle.tracker_filters.specs.Watched.{WatchedFilters, AreWatched, histories_in}
 use Rattle.tracker_filters.specs.Members.{DifferInMembers, SettlesMembers}
 use Rattle.tracker_filters.proofs.Regrouping.{watched_members}
 use Rattle.tracker_filters.proofs.filters.Filters.see_members.Goals as goal

@@ -1,8 +1,8 @@
 use Rattle.std.proofs.Common.{◌≡◌, ◌≤◌, List, rules, sym, subst}
 use Rattle.field_values.specs.Years.{last_second}
-use Rattle.change_history.specs.History.{History}
+use Rattle.change_history.specs.History.{History, histories_of}
 use Rattle.jql_meaning.specs.Surroundings.{Surroundings, surroundings_of}
-use Rattle.tracker_filters.specs.Watched.{WatchedFilters, histories_of, histories_in}
+use Rattle.tracker_filters.specs.Watched.{WatchedFilters, histories_in}
 use Rattle.tracker_filters.specs.Cells.{ArePending}
 use Rattle.tracker_filters.proofs.Watching.{begins}
 use Rattle.tracker_filters.proofs.filters.Filters.see_moment.Goals as goal

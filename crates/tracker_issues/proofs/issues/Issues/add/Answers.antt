@@ -2,10 +2,10 @@ use Rattle.std.proofs.Common.{◌≡◌, ◌+◌, ◌<◌, length, slice_get, se
 use Rattle.std.specs.Prelude.{sum_by}
 use Rattle.std.proofs.lemmas.List.{length-append}
 use Rattle.std.proofs.lemmas.Option.{slice_get_read}
-use Rattle.change_history.specs.History.{RoomyHistory, History}
+use Rattle.change_history.specs.History.{RoomyHistory, History, histories_of}
 use Rattle.tracker_machine.specs.Checks.{entry_bytes, history_bytes}
 use Rattle.tracker_machine.proofs.Totals.{history_bytes-more, entries_kept-set, bytes_kept-set}
-use Rattle.tracker_issues.specs.Issues.{histories_of, with_entries}
+use Rattle.tracker_issues.specs.Issues.{with_entries}
 use Rattle.tracker_issues.proofs.Histories.{histories_set, history_at, some_is, if_found, kept_is}
 use Rattle.tracker_issues.proofs.Keys.{place_of_issue-set}
 use Rattle.tracker_issues.proofs.issues.Issues.add.Goals as goal

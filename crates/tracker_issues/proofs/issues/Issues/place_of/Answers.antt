@@ -1,6 +1,6 @@
 use Rattle.std.proofs.Common.{◌≡◌, ◌<◌, IfSome, length, rules, sym, subst}
 use Rattle.tracker_machine.specs.Known.{place_of_issue}
-use Rattle.tracker_issues.specs.Issues.{histories_of}
+use Rattle.change_history.specs.History.{histories_of}
 use Rattle.tracker_issues.proofs.Keys.{place_within}
 use Rattle.tracker_issues.proofs.issues.Issues.place_of.Goals as goal
 

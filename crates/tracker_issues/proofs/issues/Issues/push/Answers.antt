@@ -2,10 +2,9 @@ use Rattle.std.proofs.Common.{◌≡◌, ◌+◌, length, bytes_eq, Some, None, 
 use Rattle.std.proofs.lemmas.List.{length-map}
 use Rattle.std.specs.Prelude.{if◌then◌else◌}
 use Rattle.std.specs.Option.{option_or}
-use Rattle.change_history.specs.History.{RoomyHistory}
+use Rattle.change_history.specs.History.{RoomyHistory, histories_of}
 use Rattle.tracker_machine.specs.Known.{place_of_issue}
 use Rattle.tracker_machine.proofs.Totals.{entries_kept-push, bytes_kept-push}
-use Rattle.tracker_issues.specs.Issues.{histories_of}
 use Rattle.tracker_issues.proofs.Histories.{histories_push}
 use Rattle.tracker_issues.proofs.Keys.{place_of_issue-append}
 use Rattle.tracker_issues.proofs.issues.Issues.push.Goals as goal

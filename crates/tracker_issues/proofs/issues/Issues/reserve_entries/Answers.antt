@@ -2,9 +2,9 @@ use Rattle.std.proofs.Common.{◌≡◌, ◌<◌, List, length, slice_get, set, 
 use Rattle.std.proofs.lemmas.Option.{slice_get_read}
 use Rattle.std.proofs.lemmas.Result.{on_ok_weaker}
 use Rattle.std.proofs.Math.Seq.{map-set_same}
-use Rattle.change_history.specs.History.{RoomyHistory}
+use Rattle.change_history.specs.History.{RoomyHistory, histories_of}
 use Rattle.tracker_issues.specs.Counts.{Tally}
-use Rattle.tracker_issues.specs.Issues.{Shelf, histories_of}
+use Rattle.tracker_issues.specs.Issues.{Shelf}
 use Rattle.tracker_issues.proofs.Histories.{some_is, if_found}
 use Rattle.tracker_issues.proofs.issues.Issues.reserve_entries.Goals as goal
 

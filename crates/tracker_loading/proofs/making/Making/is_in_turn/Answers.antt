@@ -1,8 +1,7 @@
 use Rattle.std.proofs.Common.{◌≤◌, List, subst}
 use Rattle.std.specs.Prelude.{IsTrue, ◌↔◌}
-use Rattle.change_history.specs.History.{RoomyHistory}
+use Rattle.change_history.specs.History.{RoomyHistory, histories_of}
 use Rattle.tracker_machine.specs.Machine.{Machine}
-use Rattle.tracker_issues.specs.Issues.{histories_of}
 use Rattle.tracker_rows.specs.Rules.{IsInTurn}
 use Rattle.tracker_loading.specs.Turns.{HasItsTurn}
 use Rattle.tracker_loading.specs.contracts.making.Making.{the_view}

@@ -1,10 +1,9 @@
 use Rattle.std.proofs.Common.{◌≡◌, ◌≤◌, ◌-◌, ℕ, List, length, slice_get, set, Some, ap, sym, subst, ◌∙◌, arith}
 use Rattle.std.specs.BTreeSet.{keys}
 use Rattle.change_history.specs.declared.entry.Entry.{Entry}
-use Rattle.change_history.specs.History.{History, MayAdd}
+use Rattle.change_history.specs.History.{History, MayAdd, histories_of}
 use Rattle.tracker_machine.specs.Machine.{Machine}
 use Rattle.tracker_machine.specs.Effect.{longer, grown}
-use Rattle.tracker_issues.specs.Issues.{histories_of}
 use Rattle.tracker_rows.specs.Rules.{MayBeGroupOf}
 use Rattle.tracker_rows.proofs.Issues.{may_add}
 use Rattle.tracker_loading.specs.Making.{IsMaking}

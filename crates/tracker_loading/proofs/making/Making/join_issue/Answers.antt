@@ -1,10 +1,9 @@
 use Rattle.std.proofs.Common.{◌≡◌, ◌<◌, ◌+◌, ◌∷◌, ◌++◌, [], ℕ, List, slice_get, set, IfSome, ap, sym, subst, ◌∙◌, arith}
 use Rattle.field_values.specs.declared.numbers.ProjectNo.{ProjectNo}
-use Rattle.change_history.specs.History.{History, RoomyHistory}
+use Rattle.change_history.specs.History.{History, RoomyHistory, histories_of}
 use Rattle.tracker_machine.specs.Machine.{Machine}
 use Rattle.tracker_machine.proofs.Settled.{from_found}
 use Rattle.tracker_issues.specs.Counts.{Tally}
-use Rattle.tracker_issues.specs.Issues.{histories_of}
 use Rattle.tracker_issues.proofs.Counts.{few_counted}
 use Rattle.tracker_issues.proofs.Histories.{histories_push}
 use Rattle.tracker_rows.specs.Rules.{MayBeIssue}

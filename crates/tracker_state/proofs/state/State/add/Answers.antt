@@ -1,13 +1,13 @@
 use Rattle.std.proofs.Common.{◌≡◌, ◌++◌, ◌+◌, ◌<◌, length, slice_get, set, Some, IfSome, ap, sym, subst, ◌∙◌}
 use Rattle.std.proofs.lemmas.List.{length-map}
 use Rattle.std.specs.Option.{option_map_or, option_copied}
-use Rattle.change_history.specs.History.{RoomyHistory, History, MayAdd}
+use Rattle.change_history.specs.History.{RoomyHistory, History, MayAdd, histories_of}
 use Rattle.tracker_machine.specs.Machine.{Machine}
 use Rattle.tracker_machine.specs.Effect.{applied, IsAllowed, longer, with_group}
 use Rattle.tracker_machine.specs.Tracker.{MayGroup}
 use Rattle.tracker_machine.proofs.Settled.{at_place, from_found}
 use Rattle.tracker_issues.specs.Counts.{Tally}
-use Rattle.tracker_issues.specs.Issues.{histories_of, with_entries}
+use Rattle.tracker_issues.specs.Issues.{with_entries}
 use Rattle.tracker_issues.proofs.Histories.{histories_set, history_at}
 use Rattle.tracker_state.specs.State.{Held, IsState, saved_filters}
 use Rattle.tracker_state.specs.contracts.state.State.{the_view}

@@ -6,7 +6,7 @@ use Rattle.tracker_machine.specs.Machine.{Machine}
 use Rattle.tracker_machine.specs.Effect.{IsAllowed, MayName, with_external}
 use Rattle.tracker_machine.specs.Known.{project_keys, next_key}
 use Rattle.tracker_machine.specs.Tracker.{MayOpen}
-use Rattle.tracker_issues.specs.Issues.{histories_of}
+use Rattle.change_history.specs.History.{histories_of}
 use Rattle.tracker_issues.proofs.Counts.{counted_at, few_counted}
 use Rattle.tracker_issues.proofs.Histories.{histories_push}
 use Rattle.tracker_state.specs.Plan.{id_of}

@@ -3,7 +3,8 @@ use Rattle.sprints.specs.declared.state.SprintState.TheVariants.{Active}
 use Rattle.sprints.specs.Sprint.{IsThere}
 use Rattle.sprints.specs.State.{after_start}
 use Rattle.sprints.specs.Change.{IsInState}
-use Rattle.tracker_work.specs.Seen.{Seen, histories_of}
+use Rattle.change_history.specs.History.{histories_of}
+use Rattle.tracker_work.specs.Seen.{Seen}
 use Rattle.tracker_work.specs.Work.{TrackedWork}
 use Rattle.tracker_work.proofs.Answered.{starts, stays}
 use Rattle.tracker_work.proofs.Steps.{started}
