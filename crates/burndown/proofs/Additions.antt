@@ -7,6 +7,7 @@ use Rattle.std.proofs.lemmas.Option.{none-some}
 use Rattle.field_values.specs.declared.numbers.UserNo.{UserNo}
 use Rattle.field_values.specs.declared.numbers.FieldNo.{FieldNo}
 use Rattle.field_values.specs.declared.value.Value.{Value}
+use Rattle.tracker_limits.specs.Limits.{most_issues}
 use Rattle.change_history.specs.declared.entry.Entry.{Entry}
 use Rattle.change_history.specs.History.{History, value_after, opening_value, present, AreGroupEntries}
 use Rattle.sprints.specs.declared.state.SprintState.{SprintState}
@@ -56,7 +57,7 @@ module _ (reading : (FieldNo → Value) → Share) (s n : ℕ) where
 pub totals_fit : TotalsFit
 totals_fit reading hs few points s n = within (length hs) (remaining_then reading hs s n) few (sum_within reading s n hs points)
   where
-    within : (k : ℕ) (x : ℤ) → k ≤ 50000 → IsWithin (k * 10 ^ 12) x → IsTotal x
+    within : (k : ℕ) (x : ℤ) → k ≤ most_issues → IsWithin (k * 10 ^ 12) x → IsTotal x
     within k x le b = (omega (arith, ints, le, b), omega (arith, ints, le, b))
 
 course_fits : (reading : (FieldNo → Value) → Share) (hs : List History) → AreFew hs → HavePoints reading hs → (s n : ℕ) (state : SprintState) (c : Course) → c ≡ course_by reading hs s state n → IsTotal c.total

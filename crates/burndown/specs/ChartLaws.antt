@@ -117,7 +117,7 @@ RoomStaysApart =
     IsBurndownOf reading hs states now old → GrowsInRoom old new
     → IsBurndownOf reading hs states now new
 
--- what remains of at most 50,000 issues of at most 10^12 thousandths is always in the range of totals
+-- what remains of as many issues as a tracker holds, of at most 10^12 thousandths is always in the range of totals
 abbrev pub TotalsFit : Type 0
 TotalsFit =
     (reading : (FieldNo → Value) → Share) (hs : List History) → AreFew hs → HavePoints reading hs →

@@ -2,6 +2,7 @@
 use Rattle.std.specs.Prelude.{ℕ, suc, ◌≡◌, ◌≢◌, ◌<◌, ◌≤◌, ◌^◌, ℤ, pos, neg_ℤ, ◌≤ℤ◌, List, [], ◌∷◌, length, Some, None, IfSome, slice_get, All}
 use Rattle.field_values.specs.declared.numbers.FieldNo.{FieldNo}
 use Rattle.field_values.specs.declared.value.Value.{Value}
+use Rattle.tracker_limits.specs.Limits.{most_issues}
 use Rattle.change_history.specs.History.{History}
 use Rattle.sprints.specs.declared.state.SprintState.{SprintState}
 use Rattle.sprints.specs.declared.state.SprintState.TheVariants.{Future, Active, Closed}
@@ -42,9 +43,9 @@ pub record IsGroupOf (reading : (FieldNo → Value) → Share) (hs : List Histor
   pub before_is : group.before ≡ share_then reading issue number
   pub after_is : share_then reading issue (suc number) ≡ Some group.after
 
--- at most 50,000 issues
+-- no more issues than a tracker holds
 abbrev pub AreFew : List History → Type 0
-AreFew hs = length hs ≤ 50000
+AreFew hs = length hs ≤ most_issues
 
 -- at most 10^12 thousandths of points, either way
 abbrev pub ArePoints : ℤ → Type 0

@@ -29,7 +29,7 @@ pub fn steps_of_histories()
     ensures room { RoomStaysApart }
 {}
 
-/// Up to 50,000 issues of up to 10^12 thousandths of points keep each total in range.
+/// As many issues as a tracker holds, of up to 10^12 thousandths of points, keep each total in range.
 pub fn totals_fit()
     ensures { TotalsFit }
 {}

@@ -1,6 +1,7 @@
 -- What a create comes to once its checks are made.
-use Rattle.std.specs.Prelude.{◌≡◌, ◌≢◌, ◌<◌, ◌≤◌, ℕ, true, List, length, Option, Some, Result, Ok, Err}
+use Rattle.std.specs.Prelude.{◌≡◌, ◌≢◌, ◌<◌, ◌≤◌, ℕ, true, List, length, Option, Some, Result, Ok, Err, ◌-◌}
 use Rattle.field_values.specs.declared.numbers.ProjectNo.{ProjectNo}
+use Rattle.tracker_limits.specs.Limits.{most_issues, most_text_bytes, text_reserve}
 use Rattle.fields.specs.Naming.{name_at}
 use Rattle.fields.specs.SetupParts.{names_in}
 use Rattle.change_history.specs.History.{opening_value}
@@ -33,8 +34,8 @@ key_of_project m project = name_at (project_keys m.setup) project.0
 -- room for one more
 pub record MayBegin (m : Machine) (new : NewValues) : Type 0 where
   pub there : new.project.0 < length m.setup.project
-  pub few : length m.histories < 50_000
-  pub light : bytes_kept m.histories ≤ 499_800_000
+  pub few : length m.histories < most_issues
+  pub light : bytes_kept m.histories ≤ most_text_bytes - text_reserve
   pub slight : AreLight (filled new.changes.items)
   pub fitting : AllFit (names_in m.setup) new.changes.items
   pub sprints : AreOfSprints (length m.sprints) new.changes.items

@@ -1,6 +1,7 @@
 // The checks of calls that make or change an issue, each of which may refuse a call.
-ghost use Rattle.std.specs.Prelude.{◌≡◌, ◌<◌, ◌≤◌, length, option_map, IfOk, Some};
+ghost use Rattle.std.specs.Prelude.{◌≡◌, ◌<◌, ◌≤◌, length, option_map, IfOk, Some, ◌-◌};
 ghost use Rattle.field_forms.specs.Names.{place_named};
+ghost use Rattle.tracker_limits.specs.Limits.{entries_reserve, most_entries, most_issues, most_text_bytes, text_reserve};
 ghost use Rattle.fields.specs.SetupParts.{names_in};
 ghost use Rattle.workflow.specs.Laws.{AllFit};
 ghost use Rattle.fields.specs.Naming.{field_name};
@@ -19,6 +20,7 @@ use fields::{FieldNo, ProjectNo, SprintNo, Text};
 use sprints::SprintState;
 use std::alloc::Global;
 use tracker_calls::{Limit, Refusal, SprintPhase, Thing};
+use tracker_limits::{ENTRIES_RESERVE, MOST_ENTRIES, MOST_ISSUES, MOST_TEXT_BYTES, TEXT_RESERVE};
 use tracker_state::{State, unknown, unnumbered};
 use wanted_values::{
     Opening, Outcome, ResolvedSet, UnknownName, first_unknown_name, is_in, missing_sprint,
@@ -119,10 +121,10 @@ pub fn check_closed(
 
 /// There is room for one more issue.
 pub fn check_issues(state: &State) -> Result<(), Refusal>
-    ensures few { IfOk result (λ u. length state.now.machine.histories < 50_000) }
+    ensures few { IfOk result (λ u. length state.now.machine.histories < most_issues) }
     ensures check { Checks (issues_refusal state.now.machine) result }
 {
-    if state.issue_count() >= 50_000 {
+    if state.issue_count() >= MOST_ISSUES {
         return Err(Refusal::Limit {
             limit: Limit::Issues,
         });
@@ -132,10 +134,10 @@ pub fn check_issues(state: &State) -> Result<(), Refusal>
 
 /// There is room for the entries of one more change group.
 pub fn check_entries(state: &State) -> Result<(), Refusal>
-    ensures few { IfOk result (λ u. entries_kept state.now.machine.histories ≤ 1_999_957) }
+    ensures few { IfOk result (λ u. entries_kept state.now.machine.histories ≤ most_entries - entries_reserve) }
     ensures check { Checks (entries_refusal state.now.machine) result }
 {
-    if state.entry_count() > 1_999_957 {
+    if state.entry_count() > MOST_ENTRIES - ENTRIES_RESERVE {
         return Err(Refusal::Limit {
             limit: Limit::Entries,
         });
@@ -145,10 +147,10 @@ pub fn check_entries(state: &State) -> Result<(), Refusal>
 
 /// There is room for the texts of one more call.
 pub fn check_bytes(state: &State) -> Result<(), Refusal>
-    ensures few { IfOk result (λ u. bytes_kept state.now.machine.histories ≤ 499_800_000) }
+    ensures few { IfOk result (λ u. bytes_kept state.now.machine.histories ≤ most_text_bytes - text_reserve) }
     ensures check { Checks (bytes_refusal state.now.machine) result }
 {
-    if state.byte_count() > 499_800_000 {
+    if state.byte_count() > MOST_TEXT_BYTES - TEXT_RESERVE {
         return Err(Refusal::Limit {
             limit: Limit::TextBytes,
         });

@@ -1,7 +1,8 @@
 // The call `create`: a new issue of a project, or what is told of the one that has its external id already.
-ghost use Rattle.std.specs.Prelude.{◌≡◌, ◌<◌, ◌≤◌, ℕ, List, Option, length, option_and_then, slice_get, IfOk, IfSome, Some, None, true};
+ghost use Rattle.std.specs.Prelude.{◌≡◌, ◌<◌, ◌≤◌, ℕ, List, Option, length, option_and_then, slice_get, IfOk, IfSome, Some, None, true, ◌-◌};
 ghost use Rattle.std.specs.Option.{option_copied};
 ghost use Rattle.field_forms.specs.Names.{place_named};
+ghost use Rattle.tracker_limits.specs.Limits.{most_issues, most_text_bytes, text_reserve};
 ghost use Rattle.fields.specs.SetupParts.{names_in};
 ghost use Rattle.workflow.specs.Laws.{AllFit};
 ghost use Rattle.tracker_calls.specs.Named.{is_external};
@@ -196,9 +197,9 @@ fn check_values(
     ensures named { IfOk result (λ changes. AreNamed (opening_value (filled changes.items))) }
     ensures listed { IfOk result (λ changes. AreSmall (filled changes.items)
         → are_opening (names_in state.now.machine.setup) (filled changes.items) ≡ true) }
-    ensures few { IfOk result (λ changes. length state.now.machine.histories < 50_000) }
+    ensures few { IfOk result (λ changes. length state.now.machine.histories < most_issues) }
     ensures light { IfOk result (λ changes.
-        bytes_kept state.now.machine.histories ≤ 499_800_000) }
+        bytes_kept state.now.machine.histories ≤ most_text_bytes - text_reserve) }
     ensures slight { IfOk result (λ changes. AreLight (filled changes.items)) }
 {
     fitting_is_light(state.setup());

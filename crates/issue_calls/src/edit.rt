@@ -1,7 +1,8 @@
 // The call `edit`: fields of an issue become other values, as one change group.
-ghost use Rattle.std.specs.Prelude.{◌≡◌, ◌<◌, ◌≤◌, ℕ, length, slice_get, IfOk, IfSome, Some};
+ghost use Rattle.std.specs.Prelude.{◌≡◌, ◌<◌, ◌≤◌, ℕ, length, slice_get, IfOk, IfSome, Some, ◌-◌};
 ghost use Rattle.change_history.specs.History.{present};
 ghost use Rattle.field_forms.specs.Known.{Names};
+ghost use Rattle.tracker_limits.specs.Limits.{entries_reserve, most_entries, most_text_bytes, text_reserve};
 ghost use Rattle.fields.specs.SetupParts.{names_in};
 ghost use Rattle.workflow.specs.Difference.{AreNews};
 ghost use Rattle.workflow.specs.Laws.{AllFit};
@@ -62,8 +63,8 @@ fn check_edit(
     ensures changes { IfOk result (λ r. r.1.items ≡ set_changes state.now.machine set.now.set) }
     ensures fitting { IfOk result (λ r. AllFit (names_in state.now.machine.setup) r.1.items) }
     ensures sprints { IfOk result (λ r. AreOfSprints (length state.now.machine.sprints) r.1.items) }
-    ensures few { IfOk result (λ r. entries_kept state.now.machine.histories ≤ 1_999_957) }
-    ensures light { IfOk result (λ r. bytes_kept state.now.machine.histories ≤ 499_800_000) }
+    ensures few { IfOk result (λ r. entries_kept state.now.machine.histories ≤ most_entries - entries_reserve) }
+    ensures light { IfOk result (λ r. bytes_kept state.now.machine.histories ≤ most_text_bytes - text_reserve) }
 {
     let place = known_issue(alloc, state, issue)?;
     check_set(alloc, state, set)?;
@@ -87,8 +88,8 @@ fn change(
 ) -> Result<Prepared, Refusal>
     requires there { place < length state.old.machine.histories }
     requires user { caller.0 < length state.old.machine.setup.users }
-    requires few { entries_kept state.old.machine.histories ≤ 1_999_957 }
-    requires light { bytes_kept state.old.machine.histories ≤ 499_800_000 }
+    requires few { entries_kept state.old.machine.histories ≤ most_entries - entries_reserve }
+    requires light { bytes_kept state.old.machine.histories ≤ most_text_bytes - text_reserve }
     requires fitting { AllFit (names_in state.old.machine.setup) changes.items }
     requires sprints { AreOfSprints (length state.old.machine.sprints) changes.items }
     ensures same { state.new.machine ≡ state.old.machine }

@@ -1,5 +1,5 @@
 // A change group of an issue, as edits and transitions make it.
-ghost use Rattle.std.specs.Prelude.{◌≡◌, ◌≢◌, ◌<◌, ◌≤◌, ◌+◌, ℕ, [], ◌∷◌, length, slice_get, IfOk, IfSome, OnOk, OnErr, Some};
+ghost use Rattle.std.specs.Prelude.{◌≡◌, ◌≢◌, ◌<◌, ◌≤◌, ◌+◌, ℕ, [], ◌∷◌, length, slice_get, IfOk, IfSome, OnOk, OnErr, Some, ◌-◌};
 ghost use Rattle.change_history.specs.History.{present, updated, last_change, MayAdd};
 ghost use Rattle.field_forms.specs.Known.{Names};
 ghost use Rattle.fields.specs.SetupParts.{names_in, names};
@@ -20,6 +20,7 @@ ghost use Rattle.issue_calls.specs.Rows.{group_row};
 ghost use Rattle.tracker_state.specs.Rows.{present_op};
 ghost use Rattle.tracker_keeper.specs.Forms.{IsGroupEntry};
 ghost use Rattle.std.specs.List.{All};
+ghost use Rattle.tracker_limits.specs.Limits.{entries_reserve, most_entries, most_text_bytes, text_reserve};
 
 use crate::rows::row_ops;
 use change_history::{Change, Entries, Entry, Group, Issue};
@@ -50,8 +51,8 @@ pub fn grouped(
 ) -> Result<Prepared, Refusal>
     requires there { place < length state.old.machine.histories }
     requires user { caller.0 < length state.old.machine.setup.users }
-    requires few { entries_kept state.old.machine.histories ≤ 1_999_957 }
-    requires light { bytes_kept state.old.machine.histories ≤ 499_800_000 }
+    requires few { entries_kept state.old.machine.histories ≤ most_entries - entries_reserve }
+    requires light { bytes_kept state.old.machine.histories ≤ most_text_bytes - text_reserve }
     requires news { IfSome (slice_get state.old.machine.histories place) (λ h.
         AreNews (present h) 0 net.items) }
     requires fitting { AllFit (names_in state.old.machine.setup) net.items }
@@ -95,8 +96,8 @@ fn new_group(
 ) -> Result<(GroupPlan, Vec<RowOp>), Memory>
     requires there { place < length state.old.machine.histories }
     requires user { caller.0 < length state.old.machine.setup.users }
-    requires few { entries_kept state.old.machine.histories ≤ 1_999_957 }
-    requires light { bytes_kept state.old.machine.histories ≤ 499_800_000 }
+    requires few { entries_kept state.old.machine.histories ≤ most_entries - entries_reserve }
+    requires light { bytes_kept state.old.machine.histories ≤ most_text_bytes - text_reserve }
     requires news { IfSome (slice_get state.old.machine.histories place) (λ h.
         AreNews (present h) 0 net.items) }
     requires some { net.items ≢ [] }
@@ -212,7 +213,7 @@ fn group_of(
         IfSome (slice_get state.now.machine.histories place) (λ h.
         group.entries ≡ entries_of (present h)
         (state.now.machine.change + 1) state.now.machine.moment caller net.items)) }
-    ensures few { IfOk result (λ group. length group.entries ≤ 43) }
+    ensures few { IfOk result (λ group. length group.entries ≤ entries_reserve) }
     ensures light { IfOk result (λ group. AllLight group.entries) }
     ensures fitting { IfOk result (λ group.
         AllEntriesFit (names_in state.now.machine.setup) group.entries) }
@@ -252,7 +253,7 @@ fn net_entries(
     ensures entries { IfOk result (λ entries. entries
         ≡ entries_of (present issue.now.history) change at author net.items) }
     ensures few { IfOk result (λ entries. (names : Names) → AllFit names net.items →
-        length names.fields ≤ 30 → length entries ≤ 43) }
+        length names.fields ≤ 30 → length entries ≤ entries_reserve) }
     ensures fitting { IfOk result (λ entries. (names : Names) → AllFit names net.items →
         AllEntriesFit names entries) }
     ensures sprints { IfOk result (λ entries. (count : ℕ) →

@@ -1,6 +1,7 @@
 // The new issue that a create makes, with all that is kept of it.
 ghost use Rattle.std.specs.Prelude.{◌≡◌, ◌<◌, ◌≤◌, ◌+◌, ◌∷◌, ◌++◌, Ok, length, string_bytes, IfOk, IfSome, OnOk, Some, true, false};
 ghost use Rattle.std.specs.Option.{option_copied};
+ghost use Rattle.tracker_limits.specs.Limits.{most_issues, text_reserve};
 ghost use Rattle.fields.specs.SetupParts.{names_in};
 ghost use Rattle.tracker_machine.specs.Checks.{history_bytes};
 ghost use Rattle.tracker_machine.specs.Create.{created, opened, opening_history, filled};
@@ -205,7 +206,7 @@ fn new_issue(
     ensures project { IfOk result (λ r. r.0.project ≡ values.project) }
     ensures rank { IfOk result (λ r. r.0.rank ≡ rank) }
     ensures bytes { IfOk result (λ r. r.0.bytes ≡ history_bytes r.0.issue.history) }
-    ensures light { IfOk result (λ r. r.0.bytes ≤ 200_000) }
+    ensures light { IfOk result (λ r. r.0.bytes ≤ text_reserve) }
     ensures listed { IfOk result (λ r.
         are_opening (names_in state.now.machine.setup) (filled values.changes.items) ≡ true) }
     ensures external { IfOk result (λ r. id_of r.0.external ≡ option_copied external.entry) }
@@ -238,7 +239,7 @@ fn issue_in(
     project: ProjectNo,
     opening: Changes,
 ) -> Result<(Issue, String, Row), Memory>
-    requires few { length state.now.machine.histories < 50_000 }
+    requires few { length state.now.machine.histories < most_issues }
     requires there { project.0 < length state.now.machine.setup.project }
     requires listed { are_opening (names_in state.now.machine.setup) opening ≡ true }
     ensures history { IfOk result (λ r. r.0.history ≡ opened state.now.machine caller.0
@@ -257,7 +258,7 @@ fn issue_in(
 
 // The number of the next issue.
 fn next_no(state: &State) -> IssueNo
-    requires { length state.now.machine.histories < 50_000 }
+    requires { length state.now.machine.histories < most_issues }
     ensures { result.0 ≡ length state.now.machine.histories + 1 }
 {
     IssueNo(state.issue_count() as u32 + 1)
@@ -272,7 +273,7 @@ fn row_of(
     key: &Key,
     values: &[Change],
 ) -> Result<Row, Memory>
-    requires few { length state.now.machine.histories < 50_000 }
+    requires few { length state.now.machine.histories < most_issues }
     requires listed { are_opening (names_in state.now.machine.setup) values.now ≡ true }
     ensures { IfOk result (λ row. row ≡ issue_row (names_in state.now.machine.setup)
         (opening_history state.now.machine caller.0 key.now values.now)) }
@@ -301,7 +302,7 @@ fn opened(
     key: Key,
     opening: Changes,
 ) -> Result<Issue, Memory>
-    requires few { length state.now.machine.histories < 50_000 }
+    requires few { length state.now.machine.histories < most_issues }
     ensures { IfOk result (λ issue. issue.history
         ≡ opening_history state.now.machine caller.0 key opening) }
 {

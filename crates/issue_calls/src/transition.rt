@@ -1,5 +1,5 @@
 // The call `transition`: an issue goes to another status, as one change group with all that comes with it.
-ghost use Rattle.std.specs.Prelude.{◌≡◌, ◌<◌, ◌≤◌, ℕ, length, slice_get, IfOk, IfSome, Some, true};
+ghost use Rattle.std.specs.Prelude.{◌≡◌, ◌<◌, ◌≤◌, ℕ, length, slice_get, IfOk, IfSome, Some, true, ◌-◌};
 ghost use Rattle.change_history.specs.History.{present};
 ghost use Rattle.fields.specs.SetupParts.{names_in, parts};
 ghost use Rattle.workflow.specs.Plan.{planned};
@@ -12,6 +12,7 @@ ghost use Rattle.tracker_machine.specs.Transition.{transition_named, transition_
 ghost use Rattle.tracker_state.specs.Check.{Checks};
 ghost use Rattle.tracker_machine.specs.Tracker.{Holds};
 ghost use Rattle.field_forms.specs.SoundRules.{rules_are_sound};
+ghost use Rattle.tracker_limits.specs.Limits.{entries_reserve, most_entries, most_text_bytes, text_reserve};
 ghost use Rattle.wanted_values.specs.InSprints.{GivesKnownSprint, AreOfSprints};
 ghost use Rattle.tracker_state.specs.Plan.{IsPrepared};
 
@@ -82,8 +83,8 @@ fn check_transition(
         IfSome (slice_get state.now.machine.histories r.0) (λ h. AreNews (present h) 0 r.1.items)) }
     ensures fitting { IfOk result (λ r. AllFit (names_in state.now.machine.setup) r.1.items) }
     ensures sprints { IfOk result (λ r. AreOfSprints (length state.now.machine.sprints) r.1.items) }
-    ensures few { IfOk result (λ r. entries_kept state.now.machine.histories ≤ 1_999_957) }
-    ensures light { IfOk result (λ r. bytes_kept state.now.machine.histories ≤ 499_800_000) }
+    ensures few { IfOk result (λ r. entries_kept state.now.machine.histories ≤ most_entries - entries_reserve) }
+    ensures light { IfOk result (λ r. bytes_kept state.now.machine.histories ≤ most_text_bytes - text_reserve) }
 {
     let place = known_issue(alloc, state, issue)?;
     let number = known_transition(alloc, state, transition)?;

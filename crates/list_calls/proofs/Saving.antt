@@ -13,6 +13,7 @@ use Rattle.rising_numbers.specs.Places.{StandsAt}
 use Rattle.rising_numbers.proofs.Free.{free_above, free_below}
 use Rattle.rising_numbers.proofs.ByNumber.{above}
 use Rattle.rising_numbers.proofs.Placed.{by_place}
+use Rattle.tracker_limits.specs.Limits.{most_filters}
 use Rattle.tracker_calls.specs.declared.reply.Refusal.TheVariants as refusal
 use Rattle.tracker_calls.specs.declared.reply.Limit.TheVariants as limit
 use Rattle.tracker_machine.specs.Machine.{Machine}
@@ -41,7 +42,7 @@ named_at owner name (f ∷ fs) g is = by (is_named owner name f) (named_at owner
     by false rest e = let at = rest e in (suc at.0, at.1)
 
 module _ (setup : Parts) (fs : List SavedFilter) (owner : UserNo) (name text : List ℕ) (query : Query)
-    (rising : RiseFrom filter_number 1 fs) (few : length fs ≤ 200) (each : All (IsFilter setup) fs)
+    (rising : RiseFrom filter_number 1 fs) (few : length fs ≤ most_filters) (each : All (IsFilter setup) fs)
     (owned : owner.0 < length setup.users) (titled : is_title name ≡ true) (asks : asked setup owner.0 text ≡ Ok query) where
   abbrev filter_of : FilterNo → SavedFilter
   filter_of n = record { no = n; owner = owner; name = name; text = text }
@@ -49,12 +50,12 @@ module _ (setup : Parts) (fs : List SavedFilter) (owner : UserNo) (name text : L
   is_filter : (n : FilterNo) → n.0 < 2 ^ 32 → IsFilter setup (filter_of n)
   is_filter n small = record { small = small; owned = owned; named = titled; query = query; asks = asks }
 
-  may_save_as : (o : Option SavedFilter) → filter_named owner name fs ≡ o → only_if (is_some o || nat_lt (length fs) 200) (refusal.Limit limit.Filters) ≡ None
+  may_save_as : (o : Option SavedFilter) → filter_named owner name fs ≡ o → only_if (is_some o || nat_lt (length fs) most_filters) (refusal.Limit limit.Filters) ≡ None
       → MaySave setup fs (filter_of (option_map_or (λ f. f.no) o (record { 0 = free_from filter_number 1 fs })))
   may_save_as None none room =
       let least = free_above filter_number 1 fs in
       let most = free_below filter_number 1 fs in
-      let less = few_passes (length fs) 200 (refusal.Limit limit.Filters) room in
+      let less = few_passes (length fs) most_filters (refusal.Limit limit.Filters) room in
       record {
         positive = omega (arith, least);
         filter = is_filter (record { 0 = free_from filter_number 1 fs }) (omega (arith, most, few));

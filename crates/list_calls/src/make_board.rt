@@ -10,8 +10,8 @@ use crate::rows::board_ops;
 use board::Board;
 use fields::{FilterNo, Permission, Text, UserNo};
 use std::alloc::Global;
-use tracker_boards::MOST_BOARDS;
 use tracker_calls::{Answer, Limit, Refusal};
+use tracker_limits::MOST_BOARDS;
 use tracker_state::{Plan, Prepared, State, check_permission};
 
 /// Prepares a new board of the filter, or says why not.

@@ -22,7 +22,8 @@ use jql_bound::Bound;
 use std::alloc::Global;
 use std::sync::ledger::Ledger;
 use tracker_calls::{Answer, Limit, Refusal};
-use tracker_filters::{Filter, MOST_FILTERS, ReadyFilter};
+use tracker_filters::{Filter, ReadyFilter};
+use tracker_limits::MOST_FILTERS;
 use tracker_state::{Plan, Prepared, State, asked};
 
 /// Prepares that the caller's filter of that name has this text, or says why not.

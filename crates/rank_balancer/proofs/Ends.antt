@@ -6,6 +6,7 @@ use Rattle.std.proofs.lemmas.Bool.Decides.{nat_tests}
 use Rattle.std.proofs.lemmas.List.{get_or_default}
 use Rattle.std.proofs.lemmas.Option.{slice_get-get_or, slice_get_past}
 use Rattle.std.proofs.Math.Nat.{mul-suc, suc-mul, zero-mul, mul_comm, mul-le-mul_left, mul-div-le, lt-mul-div-succ}
+use Rattle.tracker_limits.specs.Limits.{most_issues}
 use Rattle.rank_strings.specs.Rank.{RankParts, IsRank, AreDigits}
 use Rattle.rank_strings.specs.Text.{rank_text}
 use Rattle.rank_strings.specs.Chosen.{number}
@@ -28,7 +29,7 @@ use Rattle.rank_balancer.proofs.Keeps.{neighbour_at, same_move, at_first, to_up}
 use Rattle.rank_balancer.proofs.Spacing.{SpacedUp, SpacedDown, spaced_up, spaced_down}
 
 -- some picks on the way up
-pub moves_up : (ps qs : List Pair) (from border : ℕ) (moves : List Move) → length ps ≤ 50000 → from < 2 → SpacedUp ps qs from border → ArePicks qs from (from + 1) moves →
+pub moves_up : (ps qs : List Pair) (from border : ℕ) (moves : List Move) → length ps ≤ most_issues → from < 2 → SpacedUp ps qs from border → ArePicks qs from (from + 1) moves →
     (left : ℕ) × (left + length moves ≡ border) × SpacedUp ps (after_moves qs moves) from left
 moves_up ps qs from border [] few low was picks = (border, omega arith, was)
 moves_up ps qs from zero (m ∷ ms) few low was picks =
@@ -49,7 +50,7 @@ moves_up ps qs from (suc place) (m ∷ ms) few low was picks =
     (rest.0, omega (arith, n), rest.2)
 
 -- some picks on the way down
-pub moves_down : (ps qs : List Pair) (border : ℕ) (moves : List Move) → length ps ≤ 50000 → SpacedDown ps qs border → ArePicks qs 2 0 moves →
+pub moves_down : (ps qs : List Pair) (border : ℕ) (moves : List Move) → length ps ≤ most_issues → SpacedDown ps qs border → ArePicks qs 2 0 moves →
     (done : ℕ) × (border + length moves ≡ done) × SpacedDown ps (after_moves qs moves) done
 moves_down ps qs border [] few was picks = (border, omega arith, was)
 moves_down ps qs border (m ∷ ms) few was picks = by (cases_lt border (length ps)) (moves_down ps (after_move qs m) (border + 1) ms few)
@@ -126,7 +127,7 @@ State : List Pair → ℕ → ℕ → List Pair → ℕ → Type 0
 State ps from to qs left =
     ((from < 2) × (to ≡ from + 1) × SpacedUp ps qs from left) ⊎ ((from ≡ 2) × (to ≡ 0) × ((done : ℕ) × (done + left ≡ length ps) × SpacedDown ps qs done))
 
-module _ (ps : List Pair) (few : length ps ≤ 50000) (from to : ℕ) where
+module _ (ps : List Pair) (few : length ps ≤ most_issues) (from to : ℕ) where
   state_left : (qs : List Pair) (left : ℕ) → State ps from to qs left → left_in from qs ≡ left
   unfolding State
   state_left qs left (inl up) = let state = up.2.state in left_in-low qs from (from + 1) left state.parted (omega arith)

@@ -4,6 +4,7 @@ use Rattle.std.specs.Prelude.{option_map, if◌then◌else◌}
 use Rattle.std.proofs.lemmas.Bool.{cases_eq}
 use Rattle.std.proofs.lemmas.Bool.Decides.{nat_tests}
 use Rattle.std.proofs.lemmas.Option.{slice_get-get_or, slice_get_past}
+use Rattle.tracker_limits.specs.Limits.{most_issues}
 use Rattle.rank_strings.specs.Rank.{RankParts}
 use Rattle.rank_strings.specs.Chosen.{number, IsChosen}
 use Rattle.rank_strings.proofs.Unique.{stepped_up, stepped_down}
@@ -32,7 +33,7 @@ pub record SpacedDown (ps qs : List Pair) (border : ℕ) : Type 0 where
   pub state : IsAfter ps qs 0 2 border
   pub spaced : (k : ℕ) → k < border → ((rank_at qs k).further ≡ []) × (number (rank_at qs k).front ≡ 544195584 + 8192 * k)
 
-module _ (ps qs : List Pair) (from place : ℕ) (few : length ps ≤ 50000) (low : from < 2) (was : SpacedUp ps qs from (place + 1)) (rank : RankParts) (next : IsNextRank (from + 1) (rank_below qs (place + 1)) rank) where
+module _ (ps qs : List Pair) (from place : ℕ) (few : length ps ≤ most_issues) (low : from < 2) (was : SpacedUp ps qs from (place + 1)) (rank : RankParts) (next : IsNextRank (from + 1) (rank_below qs (place + 1)) rank) where
   new_up : (gaps : ℕ) → place + gaps + 1 ≡ length ps → (rank.further ≡ []) × (number rank.front + 8192 * gaps ≡ 1632586752)
   new_up zero is =
       let state = was.state in
@@ -73,7 +74,7 @@ module _ (ps qs : List Pair) (from place : ℕ) (few : length ps ≤ 50000) (low
           let at : rank_at qs k ≡ rank_at (after_move qs (issue_at ps place, rank)) k = sym (same k ∙ rank_elsewhere qs was.state.order place rank (fits_up ps qs from place rank low was.state next) k e) in
           subst (λ (r : RankParts). (r.further ≡ []) × (number r.front + 8192 * gaps ≡ 1632586752)) at (was.spaced k gaps (omega arith) is)
 
-module _ (ps qs : List Pair) (place : ℕ) (few : length ps ≤ 50000) (was : SpacedDown ps qs place) (lt : place < length ps) (rank : RankParts) (next : IsNextRank 0 (rank_above qs place) rank) where
+module _ (ps qs : List Pair) (place : ℕ) (few : length ps ≤ most_issues) (was : SpacedDown ps qs place) (lt : place < length ps) (rank : RankParts) (next : IsNextRank 0 (rank_above qs place) rank) where
   in_qs : place < length qs
   in_qs = let state = was.state in let n = state.len in omega (arith, n, lt)
 

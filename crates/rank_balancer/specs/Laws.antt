@@ -5,6 +5,7 @@ use Rattle.rank_strings.specs.Text.{rank_text}
 use Rattle.rank_balancer.specs.declared.balance.Balance.{Balance}
 use Rattle.rank_balancer.specs.declared.balance.Balance.TheVariants.{Idle, Moving}
 use Rattle.field_values.specs.declared.numbers.IssueNo.{IssueNo}
+use Rattle.tracker_limits.specs.Limits.{most_issues}
 use Rattle.board.specs.declared.place.Place.{Place}
 use Rattle.board.specs.Order.{Pair, IsOrder, IsIn, IsFreeFor, without, put_in}
 use Rattle.board.specs.Place.{AreNamed, IsRankFor}
@@ -65,11 +66,11 @@ pub record IsOnTheWay (count steps issues bucket : ℕ) (qs : List Pair) (e : Ba
   pub ends : steps ≡ steps_for issues count
       → (e ≡ Idle (next_bucket bucket)) × All (λ p. length (rank_text p.0) ≡ 9) qs
 
--- from an idle balance with at most 50,000 issues, steps of one count end the rebalancing after just so many, and none is refused
+-- from an idle balance with as many issues as a tracker may hold, steps of one count end the rebalancing after just so many, and none is refused
 abbrev pub StepsEnd : Type 0
 StepsEnd =
     (ps : List Pair) (bucket count steps : ℕ) (qs : List Pair) (e : Balance) → IsOrder ps
-    → Agrees ps (Idle bucket) → length ps ≤ 50000 → 1 ≤ count →
+    → Agrees ps (Idle bucket) → length ps ≤ most_issues → 1 ≤ count →
     StepsLead count steps ps (Moving bucket (next_bucket bucket)) qs e
     → IsOnTheWay count steps (length ps) bucket qs e
 

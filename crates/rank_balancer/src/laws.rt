@@ -20,7 +20,7 @@ pub fn moves_keep_the_balance()
     ensures moved { MovesKeepTheBalance }
 {}
 
-/// From an idle balance with n issues, at most 50,000, the greater of 1 and n / c rounded up steps of count c end the rebalancing.
+/// From an idle balance with n issues, as a tracker may hold, the greater of 1 and n / c rounded up steps of count c end the rebalancing.
 /// None of them is refused for want of room, and every rank then has nine bytes.
 pub fn steps_end()
     ensures { StepsEnd }

@@ -10,10 +10,8 @@ use fields::{Permission, SprintNo, Text, UserNo};
 use sprints::SprintState;
 use std::alloc::Global;
 use tracker_calls::{Answer, Limit, Refusal};
+use tracker_limits::MOST_SPRINTS;
 use tracker_state::{Plan, Prepared, State, check_permission};
-
-/// How many sprints are kept at most.
-const MOST_SPRINTS: u32 = 1_000;
 
 /// Prepares a new sprint of that name, or says why not.
 pub fn make_sprint(

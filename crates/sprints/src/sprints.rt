@@ -1,5 +1,6 @@
 //! All sprints of a tracker.
 ghost use Rattle.std.specs.Prelude.{◌≡◌, ◌+◌, ◌↔◌, ◌<◌, ◌≤◌, [], ◌∷◌, ◌++◌, length, IfOk, IfErr, OnOk, OnErr, IsOk, IfSome, IsSome, option_copied};
+ghost use Rattle.tracker_limits.specs.Limits.{most_sprints};
 ghost use Rattle.sprints.specs.Sprint.{HasRoomForOne, IsThere, future, sprint_of, state_of, name_of};
 ghost use Rattle.sprints.specs.Change.{IsWantOfRoom, IsInState, Changes};
 ghost use Rattle.sprints.specs.State.{after_start, after_close};
@@ -9,9 +10,7 @@ use crate::state::{SprintFault, SprintState};
 use field_values::{Memory, Moment, SprintNo, Text};
 use std::alloc::Global;
 use std::marker::Model;
-
-/// How many sprints are kept at most.
-const MOST: usize = 1000;
+use tracker_limits::MOST_SPRINTS;
 
 /// The sprints, numbered from 1 in order of creation.
 ///
@@ -23,13 +22,14 @@ pub struct Sprints {
 
 impl Model for Sprints {
     ghost use Rattle.std.specs.Prelude.{◌≤◌, vec_len, vec_capacity};
+    ghost use Rattle.tracker_limits.specs.Limits.{most_sprints};
     ghost use Rattle.sprints.specs.Sprint.{SprintList};
 
     ghost Value = { SprintList };
 
     ghost view = { λ s. record { sprints = s.list.items; room = vec_capacity s.list } };
 
-    ghost invariant = { λ s. vec_len s.list ≤ 1000 };
+    ghost invariant = { λ s. vec_len s.list ≤ most_sprints };
 }
 
 impl Sprints {
@@ -53,17 +53,17 @@ impl Sprints {
         Ok(())
     }
 
-    /// Makes a future sprint of this name, with the next number. `Full` comes exactly at 1,000 sprints, and where room was made there
+    /// Makes a future sprint of this name, with the next number. `Full` comes exactly where there are as many as there may be, and where room was made there
     /// is no other fault. After a fault all is as before.
     pub fn create(&mut self, name: Text) -> Result<SprintNo, SprintFault>
         ensures created { IfOk result (λ sprint. (sprint.0 ≡ length self.old.sprints + 1)
             × (self.new.sprints ≡ self.old.sprints ++ future name ∷ [])) }
-        ensures full { (result ≡ Err SprintFault.Full) ↔ (length self.old.sprints ≡ 1000) }
+        ensures full { (result ≡ Err SprintFault.Full) ↔ (length self.old.sprints ≡ most_sprints) }
         ensures refused { IfErr result (λ fault. IsWantOfRoom fault × (self.new ≡ self.old)) }
-        ensures reserved { HasRoomForOne self.old → length self.old.sprints < 1000 → IsOk result }
+        ensures reserved { HasRoomForOne self.old → length self.old.sprints < most_sprints → IsOk result }
         ensures more { self.old.room ≤ self.new.room }
     {
-        if self.list.len() == MOST {
+        if self.list.len() == MOST_SPRINTS as usize {
             return Err(SprintFault::Full);
         }
         let Ok(()) = self.list.reserve(1) else {
@@ -126,10 +126,10 @@ impl Sprints {
         Some(&kept.name)
     }
 
-    /// The number of sprints, at most 1,000.
+    /// The number of sprints.
     pub fn count(&self) -> u32
         ensures number { result ≡ length self.now.sprints }
-        ensures most { result ≤ 1000 }
+        ensures most { result ≤ most_sprints }
     {
         self.list.len() as u32
     }

@@ -5,7 +5,8 @@ use Rattle.rising_numbers.specs.ByNumber.{by_number, put_by_number, without_numb
 use Rattle.rising_numbers.proofs.ByNumber.{rise_put, rise_without}
 use Rattle.rising_numbers.proofs.Lengths.{length_put_free, length_without}
 use Rattle.rising_numbers.proofs.Kept.{rise_filter, length_filter}
-use Rattle.tracker_boards.specs.Boards.{number, most_boards, AreBoards, without_boards_of}
+use Rattle.tracker_limits.specs.Limits.{most_boards}
+use Rattle.tracker_boards.specs.Boards.{number, AreBoards, without_boards_of}
 
 pub boards_put : (b : Board) (bs : List Board) → 0 < b.no.0 → by_number number b.no.0 bs ≡ None → length bs < most_boards → AreBoards bs → AreBoards (put_by_number number b bs)
 boards_put b bs positive free few kept = record {

@@ -2,6 +2,7 @@
 use Rattle.std.specs.Prelude.{ℕ, ◌<◌, ◌≤◌, ◌==◌, not, List, length, filter}
 use Rattle.board.specs.declared.board.Board.{Board}
 use Rattle.rising_numbers.specs.ByNumber.{RiseFrom}
+use Rattle.tracker_limits.specs.Limits.{most_boards}
 
 -- the boards by number, and how many may stand without more memory
 pub record BoardList : Type 0 where
@@ -10,9 +11,6 @@ pub record BoardList : Type 0 where
 
 abbrev pub number : Board → ℕ
 number b = b.no.0
-
-abbrev pub most_boards : ℕ
-most_boards = 200
 
 -- numbers rise from 1 on, and there are not too many
 pub record AreBoards (bs : List Board) : Type 0 where

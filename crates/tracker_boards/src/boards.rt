@@ -2,16 +2,14 @@
 ghost use Rattle.std.specs.Prelude.{◌≡◌, ◌≢◌, ◌<◌, [], None, length, vec_capacity, OnOk};
 ghost use Rattle.std.specs.Option.{option_copied};
 ghost use Rattle.rising_numbers.specs.ByNumber.{by_number, put_by_number, without_number, free_from};
-ghost use Rattle.tracker_boards.specs.Boards.{number, most_boards, AreBoards, HasBoardRoom, without_boards_of};
+ghost use Rattle.tracker_limits.specs.Limits.{most_boards};
+ghost use Rattle.tracker_boards.specs.Boards.{number, AreBoards, HasBoardRoom, without_boards_of};
 
 use board::Board;
 use field_values::{BoardNo, FilterNo, Memory};
 use rising_numbers::{find, free_number, put_in, take_out};
 use std::alloc::Global;
 use std::marker::Model;
-
-/// How many boards a tracker has at most.
-pub const MOST_BOARDS: usize = 200;
 
 /// The boards by number. A number that is let go is given again.
 ///

@@ -3,4 +3,4 @@
 
 mod boards;
 
-pub use boards::{Boards, MOST_BOARDS};
+pub use boards::Boards;

@@ -24,6 +24,7 @@ use Rattle.tracker_calls.specs.declared.reply.SprintPhase.{SprintPhase}
 use Rattle.tracker_calls.specs.declared.reply.SprintPhase.TheVariants as phase
 use Rattle.field_values.specs.declared.rules.Permission.{Permission}
 use Rattle.field_values.specs.declared.rules.Permission.TheVariants as permission
+use Rattle.tracker_limits.specs.Limits.{most_boards, most_entries, most_filters, most_issues, most_sprints, most_text_bytes}
 use Rattle.tracker_calls.specs.declared.reply.Refusal.{Refusal}
 use Rattle.tracker_calls.specs.declared.reply.Refusal.TheVariants as refusal
 use Rattle.tracker_calls.specs.declared.reply.Thing.{Thing}
@@ -52,12 +53,12 @@ limit_name limit.Sprints = codes "sprints"
 
 -- how many are kept at most
 abbrev pub limit_number : Limit → ℕ
-limit_number limit.Issues = 50_000
-limit_number limit.Entries = 2_000_000
-limit_number limit.TextBytes = 500_000_000
-limit_number limit.Filters = 200
-limit_number limit.Boards = 200
-limit_number limit.Sprints = 1_000
+limit_number limit.Issues = most_issues
+limit_number limit.Entries = most_entries
+limit_number limit.TextBytes = most_text_bytes
+limit_number limit.Filters = most_filters
+limit_number limit.Boards = most_boards
+limit_number limit.Sprints = most_sprints
 
 abbrev pub permission_name : Permission → List ℕ
 permission_name permission.Browse = codes "browse"

@@ -24,6 +24,9 @@ use crate::told_text::ToldText;
 use field_values::{Memory, Moment, Permission, Text};
 use json_texts::JsonText;
 use std::alloc::Global;
+use tracker_limits::{
+    MOST_BOARDS, MOST_ENTRIES, MOST_FILTERS, MOST_ISSUES, MOST_SPRINTS, MOST_TEXT_BYTES,
+};
 
 // The bytes that most replies have at most.
 const ROOM: usize = 480;
@@ -383,12 +386,12 @@ impl Limit {
         ensures { result ≡ limit_number self }
     {
         match self {
-            Limit::Issues => 50_000,
-            Limit::Entries => 2_000_000,
-            Limit::TextBytes => 500_000_000,
-            Limit::Filters => 200,
-            Limit::Boards => 200,
-            Limit::Sprints => 1_000,
+            Limit::Issues => MOST_ISSUES as u64,
+            Limit::Entries => MOST_ENTRIES as u64,
+            Limit::TextBytes => MOST_TEXT_BYTES,
+            Limit::Filters => MOST_FILTERS as u64,
+            Limit::Boards => MOST_BOARDS as u64,
+            Limit::Sprints => u64::from(MOST_SPRINTS),
         }
     }
 }

@@ -13,13 +13,14 @@ use Rattle.filter_views.specs.Views.{Shape, shape, AddsIssue, RemovesFilter}
 use Rattle.filter_views.specs.Grid.{IsGrid}
 use Rattle.tracker_filters.specs.declared.filter.Filter.{Filter}
 use Rattle.rising_numbers.specs.ByNumber.{by_number, put_by_number, without_number}
-use Rattle.tracker_filters.specs.Saved.{number, condition_of, most_filters, MayPut}
+use Rattle.tracker_filters.specs.Saved.{number, condition_of, MayPut}
 use Rattle.tracker_filters.specs.Watched.{AreRight, AreWatched, holders_from}
 use Rattle.tracker_filters.specs.Cells.{SettlesIssue, SettlesFilter, ArePending}
 use Rattle.tracker_filters.specs.Ready.{AreVerdicts}
 use Rattle.rising_numbers.proofs.ByNumber.{rise_put, rise_without, by_put}
 use Rattle.rising_numbers.proofs.Lengths.{length_without, length_put_most}
 use Rattle.rising_numbers.proofs.Listed.{is_listed}
+use Rattle.tracker_limits.specs.Limits.{most_filters}
 use Rattle.tracker_filters.proofs.Named.{own_names_put, own_names_without}
 use Rattle.tracker_filters.proofs.Rights.{all_same, right_new, right_change, right_put, right_without, pending_begins}
 use Rattle.tracker_filters.proofs.Shapes.{cells_same, cells_new, cells_change, cells_without}

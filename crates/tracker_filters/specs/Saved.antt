@@ -5,6 +5,7 @@ use Rattle.field_values.specs.declared.numbers.UserNo.{UserNo}
 use Rattle.jql_bound.specs.Condition.{Condition, view}
 use Rattle.tracker_filters.specs.declared.filter.Filter.{Filter}
 use Rattle.rising_numbers.specs.ByNumber.{RiseFrom, by_number}
+use Rattle.tracker_limits.specs.Limits.{most_filters}
 
 -- the condition of a filter; one without a condition holds of every issue
 abbrev pub condition_of : Filter → Option Condition
@@ -26,9 +27,6 @@ by_owner owner name (f ∷ fs) = if is_named owner name f then Some f else by_ow
 abbrev pub HaveOwnNames : List Filter → Type 0
 HaveOwnNames [] = Unit {0}
 HaveOwnNames (f ∷ fs) = (by_owner f.owner f.name fs ≡ None) × HaveOwnNames fs
-
-abbrev pub most_filters : ℕ
-most_filters = 200
 
 -- the filters of a tracker: their numbers rise from 1 on, no user has two of one name, and there are not too many
 pub record AreSaved (fs : List Filter) : Type 0 where

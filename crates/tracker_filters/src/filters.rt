@@ -31,9 +31,6 @@ use std::marker::Model;
 use std::snapshot::Snapshot;
 use std::sync::ledger::Ledger;
 
-/// How many filters a tracker has at most.
-pub const MOST_FILTERS: usize = 200;
-
 /// The saved filters by number, and for each of them whether it holds of each issue, and until when.
 ///
 /// Contracts see them beside what the verdicts have seen: the issues' histories, what decides beside these, and the moment. Of that

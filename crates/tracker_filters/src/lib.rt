@@ -12,5 +12,5 @@ mod ready;
 mod sprint;
 
 pub use filter::Filter;
-pub use filters::{Filters, MOST_FILTERS};
+pub use filters::Filters;
 pub use ready::ReadyFilter;

@@ -2,6 +2,7 @@
 use Rattle.std.specs.Prelude.{◌≡◌, ◌<◌, ◌≤◌, ◌+◌, ℕ, List, length}
 use Rattle.std.specs.List.{All}
 use Rattle.field_values.specs.Parts.{Parts}
+use Rattle.tracker_limits.specs.Limits.{most_issues, most_text_bytes}
 use Rattle.change_history.specs.History.{History, opening_value}
 use Rattle.fields.specs.Naming.{name_at, key_of}
 use Rattle.tracker_machine.specs.Machine.{Machine}
@@ -12,12 +13,12 @@ use Rattle.tracker_rows.specs.Rules.{IsInTurn}
 
 -- the issue keeps all rules but the one of its key
 pub record MayStand (m : Machine) (h : History) : Type 0 where
-  pub few : length m.histories < 50_000
+  pub few : length m.histories < most_issues
   pub no : h.no.0 ≡ length m.histories + 1
   pub rising : All (λ g. g.change < h.change) m.histories
   pub turn : IsInTurn m h.change h.at
   pub named : AreNamed (opening_value h.opening)
-  pub light : bytes_kept m.histories + history_bytes h ≤ 500_000_000
+  pub light : bytes_kept m.histories + history_bytes h ≤ most_text_bytes
 
 -- the key is that of the next issue of the project at a place
 pub record IsKeyAt (setup : Parts) (histories : List History) (key : List ℕ)

@@ -10,8 +10,8 @@ use crate::making::Making;
 use board::Board;
 use field_values::{FilterNo, Memory};
 use rising_numbers::find;
-use tracker_boards::MOST_BOARDS;
 use tracker_filters::Filter;
+use tracker_limits::MOST_BOARDS;
 
 impl Making {
     /// Adds a board whose number is free, or answers false exactly where it breaks a rule.

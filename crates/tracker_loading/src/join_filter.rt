@@ -11,7 +11,8 @@ use crate::making::Making;
 use field_values::{FilterNo, Memory, Text, UserNo};
 use rising_numbers::put_in;
 use std::alloc::Global;
-use tracker_filters::{Filter, MOST_FILTERS};
+use tracker_filters::Filter;
+use tracker_limits::MOST_FILTERS;
 
 impl Making {
     /// Adds a filter whose number is free, or answers false exactly where it breaks a rule.

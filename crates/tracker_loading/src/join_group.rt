@@ -9,11 +9,10 @@ ghost use Rattle.tracker_loading.specs.Turns.{IsBehindGroups};
 use crate::entries::{lead_on, may_empty_fields};
 use crate::making::Making;
 use crate::turn::has_its_turn;
-use crate::weight::{MOST_BYTES, bytes_of_entries};
+use crate::weight::bytes_of_entries;
 use change_history::{Group, Issue};
 use field_values::{IssueNo, Memory, Moment};
-
-const MOST_ENTRIES: usize = 2_000_000;
+use tracker_limits::{MOST_ENTRIES, MOST_TEXT_BYTES};
 
 impl Making {
     /// Adds a group that is behind all others to its issue, or answers false exactly where it breaks a rule.
@@ -74,7 +73,7 @@ impl Making {
         if self.issues.entries().saturating_add(entries.len()) > MOST_ENTRIES {
             return false;
         }
-        self.issues.bytes().saturating_add(bytes) <= MOST_BYTES
+        self.issues.bytes().saturating_add(bytes) <= MOST_TEXT_BYTES
     }
 
     /// Whether a change of that number and moment comes in turn.

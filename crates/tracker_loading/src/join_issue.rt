@@ -11,13 +11,11 @@ ghost use Rattle.tracker_loading.specs.Turns.{AreCreatedInTurn};
 use crate::entries::is_empty;
 use crate::keys::project_of_next;
 use crate::making::Making;
-use crate::weight::MOST_BYTES;
 use change_history::Issue;
 use field_values::{FieldNo, Memory};
 use std::alloc::Global;
 use tracker_issues::Issues;
-
-const MOST_ISSUES: usize = 50_000;
+use tracker_limits::{MOST_ISSUES, MOST_TEXT_BYTES};
 
 impl Making {
     /// Puts an issue that has no entry, and whose text bytes are given too, behind the others, or answers false exactly where it breaks
@@ -69,7 +67,7 @@ impl Making {
         if !is_named(issue) {
             return false;
         }
-        self.issues.bytes().saturating_add(bytes) <= MOST_BYTES
+        self.issues.bytes().saturating_add(bytes) <= MOST_TEXT_BYTES
     }
 }
 

@@ -1,5 +1,6 @@
 //! A sprint that is read.
 ghost use Rattle.std.specs.Prelude.{◌≡◌, ◌<◌, ◌++◌, ◌∷◌, ◌↔◌, [], true, false, length, Some, IfOk, IsTrue};
+ghost use Rattle.tracker_limits.specs.Limits.{most_sprints};
 ghost use Rattle.sprints.specs.Sprint.{HasRoomForOne, IsThere, state_of};
 ghost use Rattle.sprints.specs.Change.{IsInState};
 ghost use Rattle.tracker_machine.specs.SprintRules.{IsTimely};
@@ -8,8 +9,7 @@ ghost use Rattle.tracker_rows.specs.Rules.{MayBeSprint};
 use crate::making::Making;
 use field_values::{Memory, Moment, SprintNo};
 use sprints::{Sprint, SprintState, Sprints};
-
-const MOST_SPRINTS: u32 = 1_000;
+use tracker_limits::MOST_SPRINTS;
 
 impl Making {
     /// Adds a sprint behind the others, or answers false exactly where it breaks a rule.
@@ -53,7 +53,7 @@ fn is_timely(state: &SprintState, moment: Moment, change: u64) -> bool
 /// Puts a sprint behind the others. It takes no memory.
 fn put_sprint(sprints: &mut Sprints, sprint: Sprint)
     requires room { HasRoomForOne sprints.old }
-    requires few { length sprints.old.sprints < 1_000 }
+    requires few { length sprints.old.sprints < most_sprints }
     ensures { sprints.new.sprints ≡ sprints.old.sprints ++ sprint ∷ [] }
 {
     let Sprint { name, state } = sprint;

@@ -1,5 +1,6 @@
 //! The keys of issues.
 ghost use Rattle.std.specs.Prelude.{◌≡◌, ◌<◌, ◌≤◌, ◌+◌, ◌↔◌, length, IfOk, IfSome, IsTrue, None};
+ghost use Rattle.tracker_limits.specs.Limits.{most_issues};
 ghost use Rattle.fields.specs.SetupParts.{parts};
 ghost use Rattle.fields.specs.Naming.{name_at};
 ghost use Rattle.change_history.specs.Key.{project_of};
@@ -23,7 +24,7 @@ pub(crate) fn project_of_next(
     key: &str,
 ) -> Result<Option<ProjectNo>, Memory>
     requires counted { IsTally issues.now.tally (parts setup.now) (histories_of issues.now.kept) }
-    requires few { length issues.now.kept ≤ 50_000 }
+    requires few { length issues.now.kept ≤ most_issues }
     ensures found { IfOk result (λ found. IfSome found (λ no.
         IsKeyAt (parts setup.now) (histories_of issues.now.kept) key.now no.0)) }
     ensures none { IfOk result (λ found. found ≡ None →
@@ -58,7 +59,7 @@ fn project_key(setup: &Setup, project: ProjectNo) -> &str
 // The number of the project's next issue.
 fn next_number(setup: &Setup, issues: &Issues, project: ProjectNo) -> u32
     requires counted { IsTally issues.now.tally (parts setup.now) (histories_of issues.now.kept) }
-    requires few { length issues.now.kept ≤ 50_000 }
+    requires few { length issues.now.kept ≤ most_issues }
     requires there { project.0 < length (parts setup.now).project }
     ensures { result ≡ issues_of (name_at (project_keys (parts setup.now)) project.0)
         (histories_of issues.now.kept) + 1 }

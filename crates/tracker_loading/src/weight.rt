@@ -5,9 +5,6 @@ ghost use Rattle.tracker_machine.specs.Checks.{text_bytes, entry_bytes};
 use change_history::{Change, Entry};
 use field_values::{Text, Value};
 
-/// The most text bytes that all issues together have.
-pub(crate) const MOST_BYTES: u64 = 500_000_000;
-
 fn length_of(text: &Text) -> u64
     ensures { result ≡ length text.now }
 {

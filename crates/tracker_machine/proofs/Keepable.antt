@@ -26,6 +26,7 @@ use Rattle.rank_strings.specs.Rank.{RankParts}
 use Rattle.jql_meaning.specs.Surroundings.{numbered}
 use Rattle.field_forms.specs.declared.form.Form.{Form}
 use Rattle.field_forms.specs.Known.{Names, form_of, choices_of, fits, fits_form}
+use Rattle.tracker_limits.specs.Limits.{most_issues}
 use Rattle.fields.specs.SetupParts.{names_in}
 use Rattle.fields.specs.Naming.{name_at, key_of, field_numbers}
 use Rattle.change_history.specs.declared.change.Change.{Change}
@@ -291,7 +292,7 @@ few_issues_of p [] = omega arith
 few_issues_of p (h ∷ hs) =
     omega (arith, sum_by-cons (λ (i : History). if bytes_eq (project_of i.key) p then 1 else 0) h hs, one_or_none (bytes_eq (project_of h.key) p), few_issues_of p hs)
 
-next_key_formed : (setup : Parts) (before : List History) (key : List ℕ) → length before ≤ 50_000 → IsNextKey setup before key → IsIssueKey (part_keys setup) key
+next_key_formed : (setup : Parts) (before : List History) (key : List ℕ) → length before ≤ most_issues → IsNextKey setup before key → IsIssueKey (part_keys setup) key
 next_key_formed setup before key few (place, inside, is) =
     let found = at_place (part_keys setup) place (omega (arith, inside, length-map setup.project (λ p. p.key))) in
     record {
@@ -303,7 +304,7 @@ next_key_formed setup before key few (place, inside, is) =
       key_is = is ∙ ap (λ o. key_of (unwrap_or o []) (issues_of (name_at (project_keys setup) place) before + 1)) found.1;
     }
 
-key_formed : (setup : Parts) (before hs : List History) (k : ℕ) (h : History) → length before + length hs ≤ 50_000 → AreKeyed setup before hs → slice_get hs k ≡ Some h
+key_formed : (setup : Parts) (before hs : List History) (k : ℕ) (h : History) → length before + length hs ≤ most_issues → AreKeyed setup before hs → slice_get hs k ≡ Some h
     → IsIssueKey (part_keys setup) h.key
 key_formed setup before [] k h few keyed at = absurd (cc)
 key_formed setup before (g ∷ gs) zero h few keyed at =

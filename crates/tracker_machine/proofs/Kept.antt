@@ -26,6 +26,7 @@ use Rattle.change_history.specs.declared.entry.Entry.{Entry}
 use Rattle.change_history.specs.declared.entry.Group.{Group}
 use Rattle.change_history.specs.History.{History, present, AreGroupEntries, MayAdd}
 use Rattle.field_forms.specs.Known.{Names}
+use Rattle.tracker_limits.specs.Limits.{most_issues}
 use Rattle.board.specs.declared.board.Board.{Board}
 use Rattle.sprints.specs.declared.sprint.Sprint.{Sprint}
 use Rattle.sprints.specs.declared.state.SprintState.{SprintState}
@@ -457,7 +458,7 @@ issue_ops m h rank external may =
     (part_op m.setup (rank_part h.no rank) (external_parts h.no external) number (external_op m.setup h.no external number)))
 
 -- the ranks that moves give
-rank_ops : (setup : Parts) (count : ℕ) (moves : List Move) → count ≤ 50_000 → All (IsNumbered count) moves → All IsSmallOp (put_parts setup (rank_parts moves))
+rank_ops : (setup : Parts) (count : ℕ) (moves : List Move) → count ≤ most_issues → All (IsNumbered count) moves → All IsSmallOp (put_parts setup (rank_parts moves))
 rank_ops setup count [] few numbered = All-nil IsSmallOp
 rank_ops setup count (move ∷ moves) few numbered =
     let here = All-head (IsNumbered count) move moves numbered in

@@ -16,6 +16,7 @@ use Rattle.field_values.specs.declared.numbers.BoardNo.{BoardNo}
 use Rattle.field_values.specs.declared.numbers.FilterNo.{FilterNo}
 use Rattle.field_values.specs.declared.numbers.UserNo.{UserNo}
 use Rattle.field_values.specs.Parts.{Parts}
+use Rattle.tracker_limits.specs.Limits.{most_filters}
 use Rattle.board.specs.declared.board.Board.{Board}
 use Rattle.tracker_machine.specs.Saved.{SavedFilter, filter_number, board_number, is_named, filter_named, HaveOwnNames, is_board_of, without_boards_of, IsFilter, IsBoard, AreSaved, MaySave, MayMake}
 
@@ -227,7 +228,7 @@ module _ (setup : Parts) (fs : List SavedFilter) (bs : List Board) (is : AreSave
   filter_saved f may = record {
     rising = rise_put filter_number 1 f fs may.positive is.rising;
     names = own_names_put 1 f fs is.rising (λ g found. subst (λ o. IfSome o (λ h. h.no.0 ≡ f.no.0)) found may.alone) is.names;
-    few = length_put_most filter_number 200 f fs is.rising is.few may.few;
+    few = length_put_most filter_number most_filters f fs is.rising is.few may.few;
     each = all_put filter_number (IsFilter setup) f fs may.filter is.each;
     rising_boards = is.rising_boards;
     few_boards = is.few_boards;

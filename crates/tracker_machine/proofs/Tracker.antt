@@ -20,6 +20,7 @@ use Rattle.change_history.specs.declared.entry.Group.{Group}
 use Rattle.change_history.specs.History.{History, MayAdd}
 use Rattle.fields.specs.SetupParts.{names_in}
 use Rattle.field_values.specs.declared.numbers.IssueNo.{IssueNo}
+use Rattle.tracker_limits.specs.Limits.{most_entries, most_text_bytes}
 use Rattle.rank_strings.specs.Rank.{RankParts}
 use Rattle.board.specs.Order.{Pair}
 use Rattle.board.specs.declared.board.Board.{Board}
@@ -184,7 +185,7 @@ tracker_push m h rank external is may next named = record {
 pub tracker_add : (m : Machine) (k : ℕ) (h : History) (author : UserNo) (es : List Entry) → IsTracker m → slice_get m.histories k ≡ Some h
     → MayAdd h (m.change + 1) m.moment author es → AllEntriesFit (names_in m.setup) es → AllSmall es
     → BringsSprints (length m.sprints) es → author.0 < length m.setup.users
-    → entries_kept m.histories + length es ≤ 2_000_000 → bytes_kept m.histories + sum_by entry_bytes es ≤ 500_000_000
+    → entries_kept m.histories + length es ≤ most_entries → bytes_kept m.histories + sum_by entry_bytes es ≤ most_text_bytes
     → IsTracker (record m { change = m.change + 1; histories = set m.histories k (record h { entries = h.entries ++ es }) })
 tracker_add m k h author es is at may fit small brings user few light =
     let new : History = record h { entries = h.entries ++ es } in

@@ -10,6 +10,7 @@ use Rattle.field_values.specs.declared.rules.Permission.TheVariants as permissio
 use Rattle.field_values.specs.declared.status.Status.{Status}
 use Rattle.field_values.specs.declared.value.Value.{Value}
 use Rattle.field_values.specs.declared.value.Value.TheVariants.{Choice}
+use Rattle.tracker_limits.specs.Limits.{most_boards}
 use Rattle.change_history.specs.History.{History, present}
 use Rattle.board.specs.Order.{Pair}
 use Rattle.board.specs.declared.board.Board.{Board}
@@ -43,9 +44,9 @@ unless_board m board_no =
 
 -- ---- make_board
 
--- fewer than 200 boards are kept
+-- there is room for one more board
 abbrev pub boards_refusal : Machine → Option Refusal
-boards_refusal m = only_if (nat_lt (length m.boards) 200) (refusal.Limit limit.Boards)
+boards_refusal m = only_if (nat_lt (length m.boards) most_boards) (refusal.Limit limit.Boards)
 
 abbrev pub make_board_refusal : Machine → ℕ → FilterNo → Option Refusal
 make_board_refusal m caller filter =

@@ -1,7 +1,7 @@
 -- Checks, the first of which that fails refuses a call.
 use Rattle.std.specs.Option.{is_some}
 use Rattle.std.specs.Str.{bytes_eq}
-use Rattle.std.specs.Prelude.{ℕ, ◌+◌, ◌*◌, ◌&&◌, ◌||◌, Bool, false, not, List, [], ◌∷◌, Option, Some, None, if◌then◌else◌, option_map, option_and_then, length, nat_lt, nat_le, sum_by, decimal, codes}
+use Rattle.std.specs.Prelude.{ℕ, ◌+◌, ◌*◌, ◌&&◌, ◌||◌, Bool, false, not, List, [], ◌∷◌, Option, Some, None, if◌then◌else◌, option_map, option_and_then, length, nat_lt, nat_le, sum_by, decimal, codes, ◌-◌}
 use Rattle.field_values.specs.declared.numbers.TheConstants.FieldNo as number
 use Rattle.field_values.specs.declared.field.Field.{Field}
 use Rattle.field_values.specs.declared.value.Value.{Value}
@@ -9,6 +9,7 @@ use Rattle.field_values.specs.declared.value.Value.TheVariants as value
 use Rattle.field_values.specs.declared.rules.Permission.{Permission}
 use Rattle.field_forms.specs.Values.{is_before}
 use Rattle.field_forms.specs.Names.{place_named, is_title}
+use Rattle.tracker_limits.specs.Limits.{entries_reserve, most_entries, most_issues, most_text_bytes, text_reserve}
 use Rattle.fields.specs.SetupParts.{names_in, may}
 use Rattle.change_history.specs.declared.entry.Entry.{Entry}
 use Rattle.change_history.specs.History.{History}
@@ -160,9 +161,9 @@ closed_refusal m set h =
 
 -- ---- limits
 
--- fewer than 50,000 issues are kept
+-- there is room for one more issue
 abbrev pub issues_refusal : Machine → Option Refusal
-issues_refusal m = only_if (nat_lt (length m.histories) 50_000) (refusal.Limit limit.Issues)
+issues_refusal m = only_if (nat_lt (length m.histories) most_issues) (refusal.Limit limit.Issues)
 
 -- how many entries are kept
 abbrev pub entries_kept : List History → ℕ
@@ -171,7 +172,7 @@ entries_kept histories = sum_by (λ h. length h.entries) histories
 -- a change finds room for an entry of each of the 43 fields that an issue can have
 abbrev pub entries_refusal : Machine → Option Refusal
 entries_refusal m =
-    only_if (nat_le (entries_kept m.histories) 1_999_957) (refusal.Limit limit.Entries)
+    only_if (nat_le (entries_kept m.histories) (most_entries - entries_reserve)) (refusal.Limit limit.Entries)
 
 -- the bytes of a text or of labels, and 62 for each version
 abbrev pub text_bytes : Value → ℕ
@@ -194,7 +195,7 @@ bytes_kept histories = sum_by history_bytes histories
 -- a change finds room for the text bytes that one call can add
 abbrev pub bytes_refusal : Machine → Option Refusal
 bytes_refusal m =
-    only_if (nat_le (bytes_kept m.histories) 499_800_000) (refusal.Limit limit.TextBytes)
+    only_if (nat_le (bytes_kept m.histories) (most_text_bytes - text_reserve)) (refusal.Limit limit.TextBytes)
 
 -- ---- values
 

@@ -5,6 +5,7 @@ use Rattle.std.specs.Str.{bytes_eq}
 use Rattle.rising_numbers.specs.ByNumber.{by_number, free_from}
 use Rattle.field_values.specs.declared.numbers.FilterNo.{FilterNo}
 use Rattle.field_values.specs.declared.rules.Permission.TheVariants as permission
+use Rattle.tracker_limits.specs.Limits.{most_filters}
 use Rattle.fields.specs.SetupParts.{may}
 use Rattle.change_history.specs.History.{History}
 use Rattle.workflow.specs.Conditions.{project_number}
@@ -40,7 +41,7 @@ unless_filter m filter_no =
 abbrev pub filters_refusal : Machine → ℕ → List ℕ → Option Refusal
 filters_refusal m caller name =
     only_if (is_some (filter_named (record { 0 = caller }) name m.filters)
-    || nat_lt (length m.filters) 200) (refusal.Limit limit.Filters)
+    || nat_lt (length m.filters) most_filters) (refusal.Limit limit.Filters)
 
 -- the number of the caller's filter of that name, or the least one that is free
 abbrev pub number_for : Machine → ℕ → List ℕ → FilterNo

@@ -3,6 +3,7 @@
 use Rattle.std.specs.Prelude.{ℕ, suc, Bool, true, false, not, ◌≡◌, ◌≢◌, ◌≤◌, ◌⊎◌, List, [], ◌∷◌, map, filter, length, Some, Result, Ok, Err, if◌then◌else◌}
 use Rattle.field_values.specs.declared.numbers.IssueNo.{IssueNo}
 use Rattle.field_values.specs.Parts.{Parts}
+use Rattle.tracker_limits.specs.Limits.{most_issues}
 use Rattle.change_history.specs.History.{History}
 use Rattle.rank_strings.specs.Rank.{RankParts}
 use Rattle.board.specs.declared.place.Place.{Place}
@@ -171,12 +172,12 @@ pub record HasComeSoFar (count steps issues bucket : ℕ) (m : Machine) : Type 0
   -- whoever asks for one step more, no reply says that no rank is left
   pub room : (user : List ℕ) → HasRoom (reply_of m user (call.RebalanceStep count))
 
--- from an idle balance with at most 50,000 issues, after an accepted start and so many accepted steps of one count, among lines
+-- from an idle balance with as many issues as a tracker may hold, after an accepted start and so many accepted steps of one count, among lines
 -- that leave the ranks, it is known how far the rebalancing has come
 abbrev pub RebalancingsEnd : Type 0
 RebalancingsEnd =
     (m : Machine) (start : List ℕ) (lines : List (List ℕ)) (count steps bucket : ℕ) → HasRanks m →
-    length m.histories ≤ 50_000 → m.balance ≡ balance.Idle bucket → 1 ≤ count →
+    length m.histories ≤ most_issues → m.balance ≡ balance.Idle bucket → 1 ≤ count →
     IsAcceptedCall call.RebalanceStart m start
     → StepsAmong count steps (asked_next m (line_of start)) lines →
     HasComeSoFar count steps (length m.histories) bucket (end_of_lines m (start ∷ lines))

@@ -7,6 +7,7 @@ use Rattle.field_values.specs.declared.numbers.FilterNo.{FilterNo}
 use Rattle.field_values.specs.declared.numbers.UserNo.{UserNo}
 use Rattle.field_values.specs.Parts.{Parts}
 use Rattle.field_forms.specs.Names.{is_title}
+use Rattle.tracker_limits.specs.Limits.{most_boards, most_filters}
 use Rattle.board.specs.declared.board.Board.{Board}
 use Rattle.tracker_calls.specs.declared.reply.Refusal.{Refusal}
 use Rattle.tracker_machine.specs.Query.{Query, asked}
@@ -83,10 +84,10 @@ pub record AreSaved (setup : Parts) (filters : List SavedFilter)
     (boards : List Board) : Type 0 where
   pub rising : RiseFrom filter_number 1 filters
   pub names : HaveOwnNames filters
-  pub few : length filters ≤ 200
+  pub few : length filters ≤ most_filters
   pub each : All (IsFilter setup) filters
   pub rising_boards : RiseFrom board_number 1 boards
-  pub few_boards : length boards ≤ 200
+  pub few_boards : length boards ≤ most_boards
   pub each_board : All (IsBoard filters) boards
 
 -- ---- what may come
@@ -97,11 +98,11 @@ pub record MaySave (setup : Parts) (filters : List SavedFilter) (f : SavedFilter
   pub positive : 1 ≤ f.no.0
   pub filter : IsFilter setup f
   pub alone : IfSome (filter_named f.owner f.name filters) (λ g. g.no.0 ≡ f.no.0)
-  pub few : by_number filter_number f.no.0 filters ≡ None → length filters < 200
+  pub few : by_number filter_number f.no.0 filters ≡ None → length filters < most_filters
 
 -- the board may come: its number is free, and there are not too many
 pub record MayMake (filters : List SavedFilter) (boards : List Board) (b : Board) : Type 0 where
   pub positive : 1 ≤ b.no.0
   pub board : IsBoard filters b
   pub free : by_number board_number b.no.0 boards ≡ None
-  pub few : length boards < 200
+  pub few : length boards < most_boards

@@ -8,6 +8,7 @@ use Rattle.field_values.specs.declared.numbers.TheConstants.FieldNo as number
 use Rattle.field_values.specs.declared.value.Value.{Value}
 use Rattle.field_values.specs.declared.value.Value.TheVariants as value
 use Rattle.field_forms.specs.Names.{is_title}
+use Rattle.tracker_limits.specs.Limits.{most_sprints}
 use Rattle.change_history.specs.declared.change.Change.{Change}
 use Rattle.change_history.specs.declared.entry.Entry.{Entry}
 use Rattle.change_history.specs.History.{History, present}
@@ -94,7 +95,7 @@ pub record IsSprint (moment change : ℕ) (s : Sprint) : Type 0 where
 -- the sprints of a tracker: each is one, there are not too many, and all that issues have been in are there
 pub record AreSprints (moment change : ℕ) (sprints : List Sprint)
     (histories : List History) : Type 0 where
-  pub few : length sprints ≤ 1_000
+  pub few : length sprints ≤ most_sprints
   pub each : All (IsSprint moment change) sprints
   pub issues : All (IsInSprints (length sprints)) histories
 
@@ -103,7 +104,7 @@ pub record AreSprints (moment change : ℕ) (sprints : List Sprint)
 -- a sprint of this name may come
 pub record MayMakeSprint (sprints : List Sprint) (name : List ℕ) : Type 0 where
   pub named : is_title name ≡ true
-  pub few : length sprints < 1_000
+  pub few : length sprints < most_sprints
 
 -- a sprint starts or is closed now, from the state that it is in
 abbrev pub IsNextState : ℕ → ℕ → SprintState → SprintState → Type 0

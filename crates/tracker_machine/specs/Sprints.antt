@@ -2,6 +2,7 @@
 use Rattle.std.specs.Prelude.{ℕ, ◌+◌, List, map, length, decimal, nat_lt, Option, Some, None}
 use Rattle.field_values.specs.declared.numbers.SprintNo.{SprintNo}
 use Rattle.field_values.specs.declared.rules.Permission.TheVariants as permission
+use Rattle.tracker_limits.specs.Limits.{most_sprints}
 use Rattle.change_history.specs.History.{History}
 use Rattle.sprints.specs.declared.state.SprintState.{SprintState}
 use Rattle.sprints.specs.declared.state.SprintState.TheVariants.{Future, Active, Closed}
@@ -47,7 +48,7 @@ plan_sprint_refusal m caller sprint =
 
 -- fewer than 1,000 sprints are kept
 abbrev pub sprints_refusal : Machine → Option Refusal
-sprints_refusal m = only_if (nat_lt (length m.sprints) 1_000) (refusal.Limit limit.Sprints)
+sprints_refusal m = only_if (nat_lt (length m.sprints) most_sprints) (refusal.Limit limit.Sprints)
 
 -- the caller may plan, and one more sprint finds room
 abbrev pub make_sprint_refusal : Machine → ℕ → Option Refusal

@@ -20,6 +20,7 @@ use Rattle.tracker_ranks.specs.Ranked.{IsRanked}
 use Rattle.rising_numbers.specs.ByNumber.{RiseFrom}
 use Rattle.field_values.specs.GroupMembers.{is_user_list}
 use Rattle.field_values.specs.declared.parts.Group.{Group as UserGroup}
+use Rattle.tracker_limits.specs.Limits.{most_entries, most_issues, most_text_bytes}
 use Rattle.external_ids.specs.declared.external_id.ExternalId.{ExternalId}
 use Rattle.external_ids.specs.Ids.{external_number, HaveOwnIds}
 use Rattle.tracker_calls.specs.Named.{is_external}
@@ -133,9 +134,9 @@ HaveUsers users groups = All (λ g. is_user_list users g.members ≡ true) group
 
 -- what holds of every tracker
 pub record IsTracker (m : Machine) : Type 0 where
-  pub few_issues : length m.histories ≤ 50_000
-  pub few_entries : entries_kept m.histories ≤ 2_000_000
-  pub few_bytes : bytes_kept m.histories ≤ 500_000_000
+  pub few_issues : length m.histories ≤ most_issues
+  pub few_entries : entries_kept m.histories ≤ most_entries
+  pub few_bytes : bytes_kept m.histories ≤ most_text_bytes
   -- now is in the year 2099 at the latest
   pub timely : m.moment ≤ last_second
   -- issues are numbered from 1, each has its rank, and their keys are counted for each project
@@ -156,7 +157,7 @@ pub record IsTracker (m : Machine) : Type 0 where
 
 -- an issue that may be the next one
 pub record MayOpen (m : Machine) (h : History) : Type 0 where
-  pub few : length m.histories < 50_000
+  pub few : length m.histories < most_issues
   pub no : h.no.0 ≡ length m.histories + 1
   pub key : IsNextKey m.setup m.histories h.key
   pub change : h.change ≡ m.change + 1
@@ -167,12 +168,12 @@ pub record MayOpen (m : Machine) (h : History) : Type 0 where
   pub listed : are_opening (names_in m.setup) h.opening ≡ true
   pub sprints : OpensInSprints (length m.sprints) h.opening
   pub entries : h.entries ≡ []
-  pub light : bytes_kept m.histories + history_bytes h ≤ 500_000_000
+  pub light : bytes_kept m.histories + history_bytes h ≤ most_text_bytes
 
 -- a group that may be added to the issue at a place
 pub record MayGroup (m : Machine) (place : ℕ) (g : Group) : Type 0 where
   pub there : place < length m.histories
-  pub few : entries_kept m.histories + length g.entries ≤ 2_000_000
+  pub few : entries_kept m.histories + length g.entries ≤ most_entries
   pub change : g.change ≡ m.change + 1
   pub at : g.at ≡ m.moment
   pub group : IfSome (slice_get m.histories place) (λ h. MayAdd h g.change g.at g.author g.entries)
@@ -180,4 +181,4 @@ pub record MayGroup (m : Machine) (place : ℕ) (g : Group) : Type 0 where
   pub small : AllSmall g.entries
   pub sprints : BringsSprints (length m.sprints) g.entries
   pub author : g.author.0 < length m.setup.users
-  pub light : bytes_kept m.histories + sum_by entry_bytes g.entries ≤ 500_000_000
+  pub light : bytes_kept m.histories + sum_by entry_bytes g.entries ≤ most_text_bytes

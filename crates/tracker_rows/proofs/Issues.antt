@@ -12,6 +12,7 @@ use Rattle.field_values.specs.declared.numbers.IssueNo.{IssueNo}
 use Rattle.field_values.specs.declared.numbers.UserNo.{UserNo}
 use Rattle.field_values.specs.Parts.{Parts}
 use Rattle.field_forms.specs.Known.{Names}
+use Rattle.tracker_limits.specs.Limits.{most_entries, most_issues, most_text_bytes}
 use Rattle.fields.specs.SetupParts.{names_in}
 use Rattle.fields.specs.Naming.{name_at, key_of}
 use Rattle.change_history.specs.declared.change.Change.{Change}
@@ -47,9 +48,9 @@ pub record HasItsSprints (rows : List Row) (h : History) : Type 0 where
 
 -- of the issues that have been read of these rows, and of so many changes
 pub record AreIssues (rows : List Row) (setup : Parts) (histories : List History) (moment change changes : ℕ) : Type 0 where
-  pub few : length histories ≤ 50_000
-  pub few_entries : entries_kept histories ≤ 2_000_000
-  pub few_bytes : bytes_kept histories ≤ 500_000_000
+  pub few : length histories ≤ most_issues
+  pub few_entries : entries_kept histories ≤ most_entries
+  pub few_bytes : bytes_kept histories ≤ most_text_bytes
   pub numbers : RunsFrom 1 (map (λ h. h.no.0) histories)
   pub keys : AreKeyed setup [] histories
   pub rising : RisesAbove 0 (map (λ h. h.change) histories)

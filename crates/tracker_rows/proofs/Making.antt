@@ -9,6 +9,7 @@ use Rattle.std.proofs.lemmas.Option.{none-some, same_Some}
 use Rattle.rising_numbers.specs.ByNumber.{by_number, put_by_number}
 use Rattle.rising_numbers.proofs.ByNumber.{by_put}
 use Rattle.field_values.specs.Years.{last_second}
+use Rattle.tracker_limits.specs.Limits.{most_sprints}
 use Rattle.change_history.specs.declared.entry.Entry.{Entry}
 use Rattle.change_history.specs.History.{History}
 use Rattle.board.specs.declared.board.Board.{Board}
@@ -64,7 +65,7 @@ pub record IsInMaking (rows : List Row) (format : Format) (told : ℕ) (m : Mach
   pub groups : (place : ℕ) (h : History) (n a : ℕ) → slice_get m.histories place ≡ Some h → HasEntry h.entries n a → IsUpTo 4 n kind number
   pub externals : AreExternals (length m.histories) m.externals
   pub last_external : All (λ e. IsUpTo 6 e.no.0 kind number) m.externals
-  pub few_sprints : length m.sprints ≤ 1_000
+  pub few_sprints : length m.sprints ≤ most_sprints
   pub sprints : All (IsSprint m.moment m.change) m.sprints
   pub saved : AreSaved m.setup m.filters m.boards
   pub boards : (n : ℕ) → by_number board_number n m.boards ≢ None → IsUpTo 9 n kind number

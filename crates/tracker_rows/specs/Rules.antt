@@ -7,6 +7,7 @@ use Rattle.rising_numbers.specs.ByNumber.{by_number}
 use Rattle.field_values.specs.declared.numbers.IssueNo.{IssueNo}
 use Rattle.field_values.specs.declared.value.Value.TheVariants.{Empty}
 use Rattle.field_forms.specs.Known.{may_be_empty}
+use Rattle.tracker_limits.specs.Limits.{most_boards, most_entries, most_filters, most_issues, most_sprints, most_text_bytes}
 use Rattle.change_history.specs.declared.entry.Entry.{Entry}
 use Rattle.change_history.specs.declared.entry.Group.{Group}
 use Rattle.change_history.specs.History.{History, opening_value, present, AreGroupEntries}
@@ -55,8 +56,8 @@ pub record IsInTurn (m : Machine) (change at : ℕ) : Type 0 where
   pub timely : at ≤ m.moment
 
 pub record MayBeIssue (m : Machine) (h : History) : Type 0 where
-  -- there are at most 50,000 issues
-  pub few : length m.histories < 50_000
+  -- there is room for one more issue
+  pub few : length m.histories < most_issues
   -- their numbers run from 1 without a gap
   pub no : h.no.0 ≡ length m.histories + 1
   -- their keys are counted for each project
@@ -67,7 +68,7 @@ pub record MayBeIssue (m : Machine) (h : History) : Type 0 where
   -- type, summary and status aren't empty
   pub named : AreNamed (opening_value h.opening)
   -- all issues together have at most 500,000,000 bytes of text
-  pub light : bytes_kept m.histories + history_bytes h ≤ 500_000_000
+  pub light : bytes_kept m.histories + history_bytes h ≤ most_text_bytes
 
 -- an entry that leaves its field empty is of one that may be
 abbrev pub MayEmptyFields : List Entry → Type 0
@@ -86,9 +87,9 @@ pub record MayBeGroup (m : Machine) (h : History) (g : Group) : Type 0 where
   -- type, summary and status don't become empty
   pub named : MayEmptyFields g.entries
   -- all issues together have at most 2,000,000 entries
-  pub few : entries_kept m.histories + length g.entries ≤ 2_000_000
+  pub few : entries_kept m.histories + length g.entries ≤ most_entries
   -- and at most 500,000,000 bytes of text
-  pub light : bytes_kept m.histories + sum_by entry_bytes g.entries ≤ 500_000_000
+  pub light : bytes_kept m.histories + sum_by entry_bytes g.entries ≤ most_text_bytes
 
 -- a group names an issue that is there
 pub record MayBeGroupOf (m : Machine) (issue : IssueNo) (g : Group) : Type 0 where
@@ -117,8 +118,8 @@ pub record MayBeExternal (m : Machine) (issue : IssueNo) (external : List ℕ) :
 -- ---- sprints
 
 pub record MayBeSprint (m : Machine) (sprint_no : ℕ) (s : Sprint) : Type 0 where
-  -- there are at most 1,000 sprints
-  pub few : length m.sprints < 1_000
+  -- there is room for one more sprint
+  pub few : length m.sprints < most_sprints
   -- their numbers run from 1 without a gap
   pub no : sprint_no ≡ length m.sprints + 1
   -- moment and change of its close aren't less than those of its start, and none of them is greater than present's
@@ -127,8 +128,8 @@ pub record MayBeSprint (m : Machine) (sprint_no : ℕ) (s : Sprint) : Type 0 whe
 -- ---- filters and boards
 
 pub record MayBeFilter (m : Machine) (f : SavedFilter) : Type 0 where
-  -- there are at most 200 filters
-  pub few : length m.filters < 200
+  -- there is room for one more filter
+  pub few : length m.filters < most_filters
   -- its text is read and bound for its owner
   pub query : Query
   pub asks : asked m.setup f.owner.0 f.text ≡ Ok query
@@ -136,8 +137,8 @@ pub record MayBeFilter (m : Machine) (f : SavedFilter) : Type 0 where
   pub alone : filter_named f.owner f.name m.filters ≡ None
 
 pub record MayBeBoard (m : Machine) (b : Board) : Type 0 where
-  -- there are at most 200 boards
-  pub few : length m.boards < 200
+  -- there is room for one more board
+  pub few : length m.boards < most_boards
   -- it is of a filter that is there
   pub there : by_number filter_number b.filter.0 m.filters ≢ None
 

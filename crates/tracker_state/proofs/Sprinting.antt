@@ -14,6 +14,7 @@ use Rattle.field_values.specs.declared.value.Value.TheVariants as value
 use Rattle.field_values.specs.Parts.{Parts}
 use Rattle.field_forms.specs.declared.form.Form.TheVariants.{Points}
 use Rattle.field_forms.specs.Known.{Names, form_of, choices_of, fits_form, fits}
+use Rattle.tracker_limits.specs.Limits.{most_issues}
 use Rattle.fields.specs.SetupParts.{names_in}
 use Rattle.change_history.specs.declared.entry.Entry.{Entry}
 use Rattle.change_history.specs.History.{History, MayAdd, present}
@@ -111,7 +112,7 @@ pub comes_last : (m : Machine) (work : TrackedWork) (h : History) (new : List Hi
 comes_last m work h new worked may room last = record {
   issue = h;
   may = record {
-    few = subst (λ (s : Seen). length s.histories < 50_000) (sym worked) may.few;
+    few = subst (λ (s : Seen). length s.histories < most_issues) (sym worked) may.few;
     number = subst (λ (s : Seen). h.change ≡ s.change + 1) (sym worked) may.change;
     bare = may.entries;
     points = points_held (names_in m.setup) (present h number.POINTS)

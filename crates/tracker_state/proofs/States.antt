@@ -6,6 +6,7 @@ use Rattle.field_values.specs.declared.numbers.GroupNo.{GroupNo}
 use Rattle.field_values.specs.declared.numbers.ProjectNo.{ProjectNo}
 use Rattle.field_values.specs.declared.numbers.UserNo.{UserNo}
 use Rattle.field_values.specs.Years.{last_second}
+use Rattle.tracker_limits.specs.Limits.{most_entries, most_text_bytes}
 use Rattle.change_history.specs.declared.entry.Entry.{Entry}
 use Rattle.change_history.specs.History.{RoomyHistory, History, MayAdd}
 use Rattle.fields.specs.Sound.{IsSound}
@@ -100,7 +101,7 @@ state_push m tally new w seen work told context h rank external project sound is
 
 pub state_add : (m : Machine) (tally : Tally) (w seen : WatchedFilters) (work told : TrackedWork) (context : Context) (k : ℕ) (h : History) (author : UserNo) (es : List Entry) → IsState m tally w work context
     → slice_get m.histories k ≡ Some h → MayAdd h (m.change + 1) m.moment author es → AllEntriesFit (names_in m.setup) es → AllSmall es → BringsSprints (length m.sprints) es → author.0 < length m.setup.users
-    → entries_kept m.histories + length es ≤ 2_000_000 → bytes_kept m.histories + sum_by entry_bytes es ≤ 500_000_000
+    → entries_kept m.histories + length es ≤ most_entries → bytes_kept m.histories + sum_by entry_bytes es ≤ most_text_bytes
     → See w (set w.histories k (longer h es)) w.moment seen → seen.filters ≡ w.filters → told.seen ≡ with_histories work.seen (set m.histories k (longer h es))
     → IsState (record m { change = m.change + 1; histories = set m.histories k (longer h es) }) tally seen told context
 state_add m tally w seen work told context k h author es is at may fit small brings user few light see same tells =

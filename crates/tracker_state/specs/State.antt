@@ -4,6 +4,7 @@ use Rattle.std.specs.List.{All}
 use Rattle.fields.specs.declared.setup.Setup.{Setup}
 use Rattle.fields.specs.SetupParts.{parts}
 use Rattle.field_values.specs.Parts.{Parts}
+use Rattle.tracker_limits.specs.Limits.{most_changes}
 use Rattle.jql_bound.specs.declared.context.Context.{Context}
 use Rattle.jql_meaning.specs.Surroundings.{surroundings_of}
 use Rattle.tracker_machine.specs.Machine.{Machine}
@@ -85,7 +86,7 @@ pub record HaveSeen (m : Machine) (w : WatchedFilters) : Type 0 where
 pub record IsState (m : Machine) (tally : Tally) (w : WatchedFilters) (work : TrackedWork)
     (context : Context) : Type 0 where
   pub counted : IsTally tally m.setup m.histories
-  pub few_changes : m.change ≤ 2_050_000
+  pub few_changes : m.change ≤ most_changes
   pub tracker : IsTracker m
   pub seen : HaveSeen m w
   pub bound : All (IsBound m.setup) w.filters

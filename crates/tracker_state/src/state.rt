@@ -2,6 +2,7 @@ ghost use Rattle.std.specs.Prelude.{◌≡◌, ◌≤◌, ◌<◌, ◌+◌, leng
 ghost use Rattle.std.specs.List.{All};
 ghost use Rattle.external_ids.specs.Ids.{external_named};
 ghost use Rattle.field_forms.specs.Names.{place_named};
+ghost use Rattle.tracker_limits.specs.Limits.{most_issues};
 ghost use Rattle.fields.specs.Naming.{name_at};
 ghost use Rattle.fields.specs.SetupParts.{parts, names_in, may};
 ghost use Rattle.jql_meaning.specs.Surroundings.{surroundings_of};
@@ -242,7 +243,7 @@ impl State {
     /// How many issues there are.
     pub fn issue_count(&self) -> usize
         ensures count { result ≡ length self.now.machine.histories }
-        ensures few { result ≤ 50_000 }
+        ensures few { result ≤ most_issues }
     {
         self.issues.len()
     }
@@ -377,7 +378,7 @@ impl State {
         ensures count { result
             ≡ issues_of (name_at (project_keys self.now.machine.setup) project.0)
             self.now.machine.histories }
-        ensures few { result ≤ 50_000 }
+        ensures few { result ≤ most_issues }
     {
         self.issues.count_in(project)
     }

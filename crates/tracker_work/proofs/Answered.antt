@@ -2,6 +2,7 @@
 use Rattle.std.proofs.Common.{◌≡◌, ℕ, zero, suc, ◌-◌, ◌<◌, ◌≤◌, ◌==◌, Bool, true, false, List, [], ◌∷◌, length, Option, Some, None, Result, Ok, Err, IsOk, IfErr, ◌↔◌, IfSome, option_map, slice_get, if◌then◌else◌, refl, sym, ap, subst, arith}
 use Rattle.std.proofs.lemmas.Bool.{eqb-true, false≢true}
 use Rattle.field_values.specs.declared.numbers.SprintNo.{SprintNo}
+use Rattle.tracker_limits.specs.Limits.{most_sprints}
 use Rattle.sprints.specs.declared.sprint.Sprint.{Sprint}
 use Rattle.sprints.specs.declared.state.SprintState.{SprintState}
 use Rattle.sprints.specs.declared.state.SprintState.TheVariants.{Future, Active, Closed}
@@ -15,13 +16,13 @@ ok_err : (fault : SprintFault) → ◌≡◌ {A = Result (Unit {0}) SprintFault}
 ok_err fault e = cc
 
 -- a new sprint for which there is room is refused only where there are 1,000
-pub only_full : (n : ℕ) (result : Result SprintNo SprintFault) (P : Type 0) → n ≤ 1000 → (result ≡ Err Full) ↔ (n ≡ 1000) → (n < 1000 → IsOk result) →
+pub only_full : (n : ℕ) (result : Result SprintNo SprintFault) (P : Type 0) → n ≤ most_sprints → (result ≡ Err Full) ↔ (n ≡ most_sprints) → (n < most_sprints → IsOk result) →
     IfErr result (λ fault. IsWantOfRoom fault × P) → IfErr result (λ fault. (fault ≡ Full) × P)
 only_full n (Ok sprint) P most full room refused = tt
 only_full n (Err Full) P most full room refused = (refl, refused.1)
 only_full n (Err (StateIs kept)) P most full room refused = absurd refused.0
 only_full n (Err Memory) P most full room refused =
-    let few : n < 1000 = omega (arith, most, λ (all : n ≡ 1000). not_full (full.1 all)) in
+    let few : n < most_sprints = omega (arith, most, λ (all : n ≡ most_sprints). not_full (full.1 all)) in
     absurd (false≢true (room few))
   where
     not_full : ◌≡◌ {A = Result SprintNo SprintFault} (Err Memory) (Err Full) → ⊥

@@ -2,6 +2,7 @@
 use Rattle.std.specs.Prelude.{◌≡◌, ◌≤◌, ◌<◌, ◌+◌, ℕ, List, [], ◌∷◌, ◌++◌, length, slice_get, slice_set, Option, Some, None, Result, Ok, Err, IfSome}
 use Rattle.field_values.specs.declared.numbers.SprintNo.{SprintNo}
 use Rattle.field_values.specs.declared.numbers.UserNo.{UserNo}
+use Rattle.tracker_limits.specs.Limits.{most_issues}
 use Rattle.change_history.specs.declared.entry.Entry.{Entry}
 use Rattle.change_history.specs.History.{History, MayAdd}
 use Rattle.sprints.specs.declared.state.SprintState.{SprintState}
@@ -77,7 +78,7 @@ pub record MayTell (w : TrackedWork) (group : Group) (new : List History) : Type
 
 -- an issue that may be the next one: the next change group makes it
 pub record MayCome (w : TrackedWork) (h : History) : Type 0 where
-  pub few : length w.seen.histories < 50_000
+  pub few : length w.seen.histories < most_issues
   pub number : h.change ≡ w.seen.change + 1
   pub bare : h.entries ≡ []
   pub points : ArePoints (share_now w.seen h).points

@@ -1,5 +1,6 @@
 //! Sprints that are made, start and close.
 ghost use Rattle.std.specs.Prelude.{◌≡◌, ◌+◌, ◌↔◌, length, IfOk, IfErr, OnErr, IfSome, Err};
+ghost use Rattle.tracker_limits.specs.Limits.{most_sprints};
 ghost use Rattle.sprints.specs.Sprint.{IsThere, state_of};
 ghost use Rattle.sprints.specs.State.{after_start, after_close};
 ghost use Rattle.tracker_work.specs.Seen.{with_sprint};
@@ -21,7 +22,7 @@ impl Work {
               seen = with_sprint self.old.seen name;
               room = self.new.room;
             }) }
-        ensures full { (result ≡ Err SprintFault.Full) ↔ (length self.old.seen.sprints ≡ 1000) }
+        ensures full { (result ≡ Err SprintFault.Full) ↔ (length self.old.seen.sprints ≡ most_sprints) }
         ensures refused { IfErr result (λ fault.
             (fault ≡ SprintFault.Full) × (self.new ≡ self.old)) }
     {

@@ -1,5 +1,6 @@
 //! The sprints, and what remains of each. `steps_of_histories` does nothing: it tells the proof the laws of burndowns.
 ghost use Rattle.std.specs.Prelude.{◌≡◌, ◌≤◌, ◌+◌, ◌↔◌, [], ℕ, length, IfOk, OnOk, IfSome, IsSome, option_copied};
+ghost use Rattle.tracker_limits.specs.Limits.{most_sprints};
 ghost use Rattle.sprints.specs.Sprint.{IsThere, state_of, name_of};
 ghost use Rattle.burndown.specs.Burndown.{IsRising, total_in};
 ghost use Rattle.burndown.specs.Chart.{IsPast};
@@ -134,7 +135,7 @@ impl Work {
     /// The number of sprints, at most 1,000.
     pub fn count(&self) -> u32
         ensures number { result ≡ length self.now.seen.sprints }
-        ensures most { result ≤ 1000 }
+        ensures most { result ≤ most_sprints }
     {
         self.sprints.count()
     }

@@ -19,6 +19,7 @@ use Rattle.field_forms.specs.Known.{Names, own_field, form_by, form_of, choices_
 use Rattle.field_forms.specs.Names.{is_from_to, has_controls}
 use Rattle.field_forms.specs.Values.{is_of_form, is_set, is_label, is_label_list, is_before}
 use Rattle.field_values.specs.declared.numbers.UserNo.{UserNo}
+use Rattle.tracker_limits.specs.Limits.{text_reserve}
 use Rattle.change_history.specs.declared.change.Change.{Change}
 use Rattle.fields.specs.Naming.{built_in_numbers, field_numbers}
 use Rattle.fields.specs.Sound.{has_own_number}
@@ -260,7 +261,7 @@ group_bytes names before change at author low (c ∷ cs) few holds news fit =
 
 -- the entries of a group of at most 43 fields are far from what one call may add
 pub light_group : (names : Names) (before : FieldNo → Value) (change at : ℕ) (author : UserNo) (cs : List Change) → length names.versions ≤ 500 → length names.fields ≤ 30
-    → ((f : FieldNo) → Holds names f (before f)) → AreNews before 0 cs → AllFit names cs → sum_by entry_bytes (entries_of before change at author cs) ≤ 200_000
+    → ((f : FieldNo) → Holds names f (before f)) → AreNews before 0 cs → AllFit names cs → sum_by entry_bytes (entries_of before change at author cs) ≤ text_reserve
 unfolding spread
 light_group names before change at author cs few few_fields holds news fit =
     omega (arith, group_bytes names before change at author 0 cs few holds news fit, few_changes names before cs news fit few_fields)
@@ -317,7 +318,7 @@ built_in_bytes = refl
 
 -- so are the opening values of an issue
 pub light_opening : (names : Names) (wants : ℕ → Wanted) → length names.versions ≤ 500 → length names.fields ≤ 30 → list_all has_own_number names.fields ≡ true
-    → AllFit names (changes_of names wants) → sum_by (λ c. text_bytes c.to) (filled (changes_of names wants)) ≤ 200_000
+    → AllFit names (changes_of names wants) → sum_by (λ c. text_bytes c.to) (filled (changes_of names wants)) ≤ text_reserve
 unfolding changes_of
 light_opening names wants few few_fields own fit =
     omega (

@@ -4,6 +4,7 @@ use Rattle.field_values.specs.declared.numbers.FieldNo.{FieldNo}
 use Rattle.field_values.specs.declared.numbers.UserNo.{UserNo}
 use Rattle.field_values.specs.declared.value.Value.{Value}
 use Rattle.field_forms.specs.Known.{Names}
+use Rattle.tracker_limits.specs.Limits.{text_reserve}
 use Rattle.change_history.specs.declared.change.Change.{Change}
 use Rattle.change_history.specs.declared.entry.Entry.{Entry}
 use Rattle.workflow.specs.Difference.{AreNews, entries_of}
@@ -16,11 +17,11 @@ use Rattle.tracker_machine.specs.Tracker.{Holds}
 
 -- these values have at most 200,000 text bytes
 abbrev pub AreLight : List Change → Type 0
-AreLight changes = sum_by (λ c. text_bytes c.to) changes ≤ 200_000
+AreLight changes = sum_by (λ c. text_bytes c.to) changes ≤ text_reserve
 
 -- so have both sides of these entries
 abbrev pub AllLight : List Entry → Type 0
-AllLight entries = sum_by entry_bytes entries ≤ 200_000
+AllLight entries = sum_by entry_bytes entries ≤ text_reserve
 
 -- so have opening values that fit
 abbrev pub OpeningsAreLight : Names → Type 0

@@ -1,5 +1,6 @@
 // The text bytes that the limit counts.
 ghost use Rattle.std.specs.Prelude.{◌≡◌, ◌≤◌, ◌+◌, ◌*◌, sum_by, length, true};
+ghost use Rattle.tracker_limits.specs.Limits.{text_reserve};
 ghost use Rattle.fields.specs.SetupParts.{names};
 ghost use Rattle.tracker_machine.specs.Checks.{text_bytes, entry_bytes};
 ghost use Rattle.tracker_machine.specs.Tracker.{AreSmall, AllSmall};
@@ -26,7 +27,7 @@ fn length_of(text: &Text) -> u64
 }
 
 fn label_bytes(labels: &[Text]) -> u64
-    requires { sum_by length labels.now ≤ 200_000 }
+    requires { sum_by length labels.now ≤ text_reserve }
     ensures { result ≡ sum_by length labels.now }
 {
     let mut total = 0;
@@ -37,7 +38,7 @@ fn label_bytes(labels: &[Text]) -> u64
 }
 
 fn version_bytes(count: usize) -> u64
-    requires { 62 * count ≤ 200_000 }
+    requires { 62 * count ≤ text_reserve }
     ensures { result ≡ 62 * count }
 {
     62 * count as u64
@@ -51,7 +52,7 @@ fn sprint_is_small(sprint: SprintNo)
 }
 
 fn text_bytes(value: &Value) -> u64
-    requires { text_bytes value.now ≤ 200_000 }
+    requires { text_bytes value.now ≤ text_reserve }
     ensures bytes { result ≡ text_bytes value.now }
     ensures small { is_small value.now ≡ true }
 {
@@ -72,7 +73,7 @@ fn text_bytes(value: &Value) -> u64
 }
 
 fn entry_bytes(entry: &Entry) -> u64
-    requires { entry_bytes entry.now ≤ 200_000 }
+    requires { entry_bytes entry.now ≤ text_reserve }
     ensures bytes { result ≡ entry_bytes entry.now }
     ensures small { is_small entry.now.to ≡ true }
 {

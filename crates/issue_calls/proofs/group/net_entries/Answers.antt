@@ -1,6 +1,7 @@
 use Rattle.std.proofs.Common.{◌≤◌, List, length, subst, sym, refl, arith}
 use Rattle.std.proofs.lemmas.List.{length-map}
 use Rattle.std.proofs.lemmas.Result.{IfOk-weaker}
+use Rattle.tracker_limits.specs.Limits.{entries_reserve}
 use Rattle.change_history.specs.declared.entry.Entry.{Entry}
 use Rattle.change_history.specs.History.{present, MayAdd}
 use Rattle.workflow.specs.Difference.{entry_of}
@@ -18,7 +19,7 @@ pub returns-clause-few : goal.returns-clause-few
 returns-clause-few c =
     let before = present c.args.issue.now.history in
     IfOk-weaker c.entries_of.result _ _ (λ es is names fit few.
-    subst (λ (xs : List Entry). length xs ≤ 43) (sym is)
+    subst (λ (xs : List Entry). length xs ≤ entries_reserve) (sym is)
     (omega (arith, length-map c.args.net.items (entry_of before c.args.change c.args.at c.args.author), few_changes names before c.args.net.items c.requires.news fit few))) c.entries_of.ensures
 
 pub returns-clause-fitting : goal.returns-clause-fitting

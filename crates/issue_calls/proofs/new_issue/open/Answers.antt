@@ -1,5 +1,6 @@
 use Rattle.std.proofs.Common.{◌≡◌, ◌≤◌, ◌<◌, ◌+◌, ℕ, List, Option, Some, None, IfSome, string_bytes, length, ◌∙◌, not, ◌∷◌, ap, sym, subst, refl, arith}
 use Rattle.field_values.specs.declared.numbers.ProjectNo.{ProjectNo}
+use Rattle.tracker_limits.specs.Limits.{most_text_bytes}
 use Rattle.change_history.specs.History.{History}
 use Rattle.workflow.specs.Same.{is_empty}
 use Rattle.fields.specs.SetupParts.{names_in}
@@ -40,7 +41,7 @@ returns-clause-prepared c =
     let h : History = opened m c.args.caller.0 project (filled changes) in
     let kept : c.take_row_room-room.new.self.machine ≡ m = ap (λ (h : Held). h.machine) c.take_row_room-room.ensures in
     let same : s.machine ≡ m = c.reserve.ensures.machine ∙ kept in
-    let light : bytes_kept m.histories + history_bytes new.issue.history ≤ 500_000_000 = omega (arith, is_new.light, is_new.bytes, c.requires.may.light) in
+    let light : bytes_kept m.histories + history_bytes new.issue.history ≤ most_text_bytes = omega (arith, is_new.light, is_new.bytes, c.requires.may.light) in
     let may : MayOpen m h = record {
       few = c.requires.may.few;
       no = refl;
@@ -53,7 +54,7 @@ returns-clause-prepared c =
       fitting = fits_filter (names_in m.setup) (λ d. not (is_empty d.to)) changes c.requires.may.fitting;
       sprints = filtered_of_sprints (length m.sprints) (λ d. not (is_empty d.to)) changes c.requires.may.sprints;
       entries = refl;
-      light = subst (λ (i : History). bytes_kept m.histories + history_bytes i ≤ 500_000_000) is_new.history light;
+      light = subst (λ (i : History). bytes_kept m.histories + history_bytes i ≤ most_text_bytes) is_new.history light;
     } in
     let key = ap (λ (i : History). i.key) is_new.history in
     let next : IsNext m.order m.balance h.no c.args.rank = record {

@@ -1,6 +1,7 @@
 use Rattle.std.proofs.Common.{◌≡◌, ◌<◌, None, length, subst, sym}
 use Rattle.rising_numbers.specs.ByNumber.{by_number}
-use Rattle.tracker_boards.specs.Boards.{BoardList, AreBoards, number, most_boards}
+use Rattle.tracker_limits.specs.Limits.{most_boards}
+use Rattle.tracker_boards.specs.Boards.{BoardList, AreBoards, number}
 use Rattle.tracker_boards.proofs.Kept.{boards_put}
 use Rattle.tracker_boards.proofs.boards.Boards.put.Goals as goal
 

@@ -4,6 +4,7 @@ use Rattle.std.specs.BTreeSet.{keys}
 use Rattle.std.proofs.lemmas.List.{length-map}
 use Rattle.jql_bound.specs.declared.cond.Bound.{Bound}
 use Rattle.rising_numbers.specs.ByNumber.{put_by_number}
+use Rattle.tracker_limits.specs.Limits.{most_filters}
 use Rattle.tracker_filters.specs.declared.filter.Filter.{Filter}
 use Rattle.tracker_filters.specs.Saved.{number, by_owner}
 use Rattle.tracker_machine.specs.Machine.{Machine}
@@ -62,7 +63,7 @@ returns-clause-good c =
     let none : is_some (by_owner f.owner f.name filters) ≡ false =
     ap (λ (fs : List Filter). is_some (by_owner f.owner f.name fs)) (sym c.deref.ensures.value)
     ∙ ap (λ (n : List ℕ). is_some (by_owner f.owner n c.deref.result.now)) (sym c.as_str.ensures) ∙ sym c.has_named.ensures ∙ c.if-has_named.false in
-    let few : length m.filters < 200 = omega (arith, c.len.ensures, length-map filters saved_as) in
+    let few : length m.filters < most_filters = omega (arith, c.len.ensures, length-map filters saved_as) in
     let may : MayBeFilter m (saved_as f) = record {
       few = few;
       query = query_of query;

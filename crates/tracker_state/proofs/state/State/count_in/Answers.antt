@@ -1,4 +1,5 @@
 use Rattle.std.proofs.Common.{◌≡◌, ◌≤◌, ◌<◌, ℕ, List, length, slice_get, subst, sym, ◌∙◌, ap, arith}
+use Rattle.tracker_limits.specs.Limits.{most_issues}
 use Rattle.fields.specs.Naming.{name_at}
 use Rattle.tracker_machine.specs.Known.{project_keys, issues_of}
 use Rattle.tracker_machine.proofs.Settled.{from_found}
@@ -24,6 +25,6 @@ returns-clause-count c =
 pub returns-clause-few : goal.returns-clause-few
 returns-clause-few c =
     let m = (the_view c.self.inside).machine in
-    from_found (slice_get (counts_of m.setup.project m.histories) c.args.project.0) c.count_in.result (λ n. n ≤ 50_000)
+    from_found (slice_get (counts_of m.setup.project m.histories) c.args.project.0) c.count_in.result (λ n. n ≤ most_issues)
     (sym (c.count_in.ensures ∙ ap (λ (ns : List ℕ). slice_get ns c.args.project.0) c.self.invariant.counted.counted))
-    (few_counted m.setup.project m.histories c.args.project.0 (λ n. n ≤ 50_000) (λ n le. omega (arith, le, c.self.invariant.tracker.few_issues)))
+    (few_counted m.setup.project m.histories c.args.project.0 (λ n. n ≤ most_issues) (λ n le. omega (arith, le, c.self.invariant.tracker.few_issues)))
