@@ -4,7 +4,7 @@ ghost use Rattle.std.specs.Prelude.{◌≡◌, ◌≤◌, ◌<◌, ◌+◌, ◌-
 ghost use Rattle.std.specs.Option.{option_or};
 ghost use Rattle.std.specs.Str.{bytes_eq};
 ghost use Rattle.std.specs.HashMap.{spare, get_by_text};
-ghost use Rattle.change_history.specs.History.{MayAdd};
+ghost use Rattle.change_history.specs.History.{MayAdd, histories_of};
 ghost use Rattle.tracker_machine.specs.Known.{place_of_issue};
 ghost use Rattle.tracker_machine.specs.Checks.{entries_kept, bytes_kept, entry_bytes, history_bytes};
 ghost use Rattle.tracker_issues.specs.Counts.{counts_of};
