@@ -10,3 +10,6 @@ pub mod Lasting
 pub mod Columns
 pub mod Schemas
 pub mod Finding
+pub mod Leaving
+pub mod Opened
+pub mod Ended

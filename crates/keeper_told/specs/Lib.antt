@@ -3,4 +3,4 @@ pub mod Content
 pub mod Keeping
 pub mod Crash
 pub mod Reading
-pub mod Counting
+pub mod Reopening

@@ -1,15 +1,14 @@
 // The keeper.
-ghost use Rattle.std.specs.Prelude.{◌≡◌, ◌<◌, ◌^◌, ℕ, false, length, IsTrue, OnOk, OnErr, IfOk};
+ghost use Rattle.std.specs.Prelude.{◌≡◌, ◌<◌, ◌^◌, ◌⊎◌, ℕ, false, length, IsTrue, OnOk, OnErr, IfOk};
 ghost use Rattle.std.specs.List.{All};
 ghost use Rattle.tracker_keeper.specs.Rows.{Rows, with_ops, number_of, IsListing};
-ghost use Rattle.tracker_keeper.specs.Causes.{HasKeepCause};
+ghost use Rattle.tracker_keeper.specs.Causes.{HasKeepCause, IsCounted};
 ghost use Rattle.sqlite.specs.Held.{state};
 ghost use Rattle.sqlite.specs.State.{HasCleanDisk};
 ghost use Rattle.keeper_told.specs.Keeping.{Rises, Keeps, IsKeeping};
 ghost use Rattle.keeper_told.specs.Reading.{KeepsListed};
 ghost use Rattle.keeper_told.specs.Table.{kept_schema};
-ghost use Rattle.keeper_told.specs.Crash.{LeavesJust, LeavesOr, LeavesOrMakes, LeavesAsBefore};
-ghost use Rattle.keeper_told.specs.Counting.{IsCounted};
+ghost use Rattle.keeper_told.specs.Crash.{LeavesJust, IsLeaving, LeavesOr, LeavesOrMakes, LeavesAsBefore};
 
 use crate::listing::{fault_of, read_all};
 use crate::schema::lacks_table;
@@ -36,7 +35,11 @@ impl<S: Alter> ToldKeeper<S> {
         ensures none { result.faults ≡ 0 }
         ensures kept { (rows : Rows) → Keeps (state S.Store connection) rows
             → IsKeeping (state S.Store result.conn) rows }
+        ensures left { IsTrue (state S.Store connection).is_open → (rows : Rows)
+            → Keeps (state S.Store connection) rows → LeavesJust (state S.Store result.conn) rows }
     {
+        // It is live.
+        let _ = connection.schema();
         ToldKeeper {
             conn: connection,
             alloc,
@@ -90,6 +93,13 @@ fn commit_all<S: Alter>(conn: &mut Connection<S>, ops: &[RowOp]) -> Result<(), K
     ensures shut { HasCleanDisk (state S.Store conn.new) → (state S.Store conn.old).is_open ≡ false
         → 0 < length ops.now
         → LeavesAsBefore (state S.Store conn.old) (state S.Store conn.new) }
+    ensures left_ok { (rows : Rows) → IsKeeping (state S.Store conn.old) rows
+        → OnOk result
+        (IsLeaving (state S.Store conn.new) (with_ops ops.now rows) (with_ops ops.now rows)) }
+    ensures left_err { 0 < length ops.now → (rows other : Rows)
+        → IsKeeping (state S.Store conn.old) rows → IsLeaving (state S.Store conn.old) rows other
+        → OnErr result (IsLeaving (state S.Store conn.new) rows other
+        ⊎ IsLeaving (state S.Store conn.new) rows (with_ops ops.now rows)) }
 {
     let Some(lacks) = lacks_table(conn) else {
         return Err(KeepFault::Failed);
@@ -107,6 +117,8 @@ impl<S: Alter> Keeper for ToldKeeper<S> {
 
     ghost keeps = { λ k. IsKeeping (state S.Store k.conn) };
 
+    ghost leaves = { λ k. IsLeaving (state S.Store k.conn) };
+
     fn commit(&mut self, ops: &[RowOp]) -> Result<(), KeepFault>
         requires numbers { All (λ op. number_of op < 2 ^ 63) ops.now }
         ensures cause { HasKeepCause self.old.faults self.new.faults result }
@@ -116,6 +128,14 @@ impl<S: Alter> Keeper for ToldKeeper<S> {
             → OnOk result (IsKeeping (state S.Store self.new.conn) (with_ops ops.now rows)) }
         ensures undone { (rows : Rows) → IsKeeping (state S.Store self.old.conn) rows
             → OnErr result (IsKeeping (state S.Store self.new.conn) rows) }
+        ensures left_ok { (rows : Rows) → IsKeeping (state S.Store self.old.conn) rows
+            → OnOk result (IsLeaving (state S.Store self.new.conn) (with_ops ops.now rows)
+            (with_ops ops.now rows)) }
+        ensures left_err { 0 < length ops.now → (rows other : Rows)
+            → IsKeeping (state S.Store self.old.conn) rows
+            → IsLeaving (state S.Store self.old.conn) rows other
+            → OnErr result (IsLeaving (state S.Store self.new.conn) rows other
+            ⊎ IsLeaving (state S.Store self.new.conn) rows (with_ops ops.now rows)) }
 
         // Nothing but a failure is counted.
         ensures counted { IsCounted self.old.faults self.new.faults result }
@@ -147,6 +167,9 @@ impl<S: Alter> Keeper for ToldKeeper<S> {
             → IfOk result (λ list. IsListing rows list.items) }
         ensures same { (rows : Rows) → IsKeeping (state S.Store self.old.conn) rows
             → IsKeeping (state S.Store self.new.conn) rows }
+        ensures left { (rows other : Rows) → IsKeeping (state S.Store self.old.conn) rows
+            → IsLeaving (state S.Store self.old.conn) rows other
+            → IsLeaving (state S.Store self.new.conn) rows other }
         ensures counted { IsCounted self.old.faults self.new.faults result }
 
         // Of a table that was there already, whatever its rows were: it keeps just the rows that it tells.

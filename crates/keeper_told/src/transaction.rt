@@ -1,12 +1,11 @@
 // A commit: one transaction, with the statements of each operation in order.
-ghost use Rattle.std.specs.Prelude.{◌≡◌, ◌<◌, ◌^◌, ℕ, false, length, IsTrue, OnOk, OnErr};
+ghost use Rattle.std.specs.Prelude.{◌≡◌, ◌<◌, ◌^◌, ℕ, false, true, length, IsTrue, OnOk, OnErr};
 ghost use Rattle.std.specs.List.{All};
 ghost use Rattle.tracker_keeper.specs.Rows.{Rows, with_ops, number_of};
 ghost use Rattle.sqlite.specs.Held.{state};
 ghost use Rattle.sqlite.specs.State.{HasCleanDisk, Survives};
 ghost use Rattle.keeper_told.specs.Table.{IsOurs, kept_schema};
-ghost use Rattle.keeper_told.specs.Content.{HasRows};
-ghost use Rattle.keeper_told.specs.Keeping.{IsTable, Stores, IsKeeping, IsUndone, StaysInside};
+ghost use Rattle.keeper_told.specs.Keeping.{IsTable, Stores, HoldsRows, IsKeeping, IsUndone, StaysInside};
 ghost use Rattle.keeper_told.specs.Crash.{LeavesJust, LeavesOr, LeavesOrMakes, LeavesAsBefore};
 
 use crate::statements::{carry, make};
@@ -24,6 +23,8 @@ fn make_first<S: Alter>(tx: &mut Transaction<'_, S>, lacks: bool) -> Result<(), 
         → OnOk result (IsTable (state S.Store tx.new.conn.now).now rows) }
     ensures inside { HasCleanDisk (state S.Store tx.new.conn.now)
         → StaysInside (state S.Store tx.old.conn.now) (state S.Store tx.new.conn.now) result }
+    ensures ran { HasCleanDisk (state S.Store tx.new.conn.now) → lacks ≡ true
+        → OnOk result (IsTrue (state S.Store tx.old.conn.now).is_open) }
     ensures survives { Survives (state S.Store tx.old.conn.now) (state S.Store tx.new.conn.now)
         (λ _. ⊥) }
 {
@@ -47,6 +48,8 @@ fn carry_all<S: Alter>(tx: &mut Transaction<'_, S>, lacks: bool, ops: &[RowOp]) 
     ensures inside { HasCleanDisk (state S.Store tx.new.conn.now)
         → StaysInside (state S.Store tx.old.conn.now) (state S.Store tx.new.conn.now) result }
     ensures ran { HasCleanDisk (state S.Store tx.new.conn.now) → 0 < length ops.now
+        → OnOk result (IsTrue (state S.Store tx.old.conn.now).is_open) }
+    ensures made { HasCleanDisk (state S.Store tx.new.conn.now) → lacks ≡ true
         → OnOk result (IsTrue (state S.Store tx.old.conn.now).is_open) }
     ensures survives { Survives (state S.Store tx.old.conn.now) (state S.Store tx.new.conn.now)
         (λ _. ⊥) }
@@ -79,9 +82,12 @@ fn carry_out<S: Alter>(conn: &mut Connection<S>, lacks: bool, ops: &[RowOp]) -> 
     ensures shut { HasCleanDisk (state S.Store conn.new) → (state S.Store conn.old).is_open ≡ false
         → 0 < length ops.now
         → LeavesAsBefore (state S.Store conn.old) (state S.Store conn.new) }
+    ensures unmade { HasCleanDisk (state S.Store conn.new)
+        → (state S.Store conn.old).is_open ≡ false → lacks ≡ true
+        → LeavesAsBefore (state S.Store conn.old) (state S.Store conn.new) }
     ensures crash { Survives (state S.Store conn.old) (state S.Store conn.new)
         (λ trees. (rows : Rows) → Stores (state S.Store conn.old).now rows
-        → HasRows (trees 0) (with_ops ops.now rows)) }
+        → HoldsRows trees (with_ops ops.now rows)) }
 {
     let mut tx = conn.transaction();
     carry_all(&mut tx, lacks, ops)?;
@@ -130,6 +136,8 @@ pub(crate) fn make_alone<S: Alter>(conn: &mut Connection<S>, lacks: bool) -> Res
         → IsKeeping (state S.Store conn.new) rows }
     ensures crash { HasCleanDisk (state S.Store conn.new)
         → LeavesOrMakes (state S.Store conn.old) (state S.Store conn.new) }
+    ensures shut { HasCleanDisk (state S.Store conn.new) → (state S.Store conn.old).is_open ≡ false
+        → LeavesAsBefore (state S.Store conn.old) (state S.Store conn.new) }
 {
     if lacks {
         return carry_out(conn, true, &[]);

@@ -1,4 +1,4 @@
--- One of two keepers: what it tells is what that one tells.
+-- One of two keepers: what it tells, and what a crash leaves of it, is what that one tells and what a crash leaves of that.
 use Rattle.std.specs.Prelude.{ℕ}
 use Rattle.tracker_keeper.specs.Rows.{Rows}
 use Rattle.tracker_cli.specs.declared.store.Store.{Store}
@@ -16,3 +16,8 @@ abbrev pub KeepsOf : {M F : Type 0} → (M → Rows → Type 0) → (F → Rows 
     → Type 0
 KeepsOf of_memory of_file (store.Memory keeper) rows = of_memory keeper rows
 KeepsOf of_memory of_file (store.File keeper) rows = of_file keeper rows
+
+abbrev pub LeavesOf : {M F : Type 0} → (M → Rows → Rows → Type 0) → (F → Rows → Rows → Type 0)
+    → Store M F → Rows → Rows → Type 0
+LeavesOf of_memory of_file (store.Memory keeper) rows other = of_memory keeper rows other
+LeavesOf of_memory of_file (store.File keeper) rows other = of_file keeper rows other

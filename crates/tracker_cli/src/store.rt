@@ -1,9 +1,9 @@
 //! One of two keepers.
-ghost use Rattle.std.specs.Prelude.{◌<◌, ◌^◌, ℕ, OnOk, OnErr, IfOk};
+ghost use Rattle.std.specs.Prelude.{◌<◌, ◌^◌, ◌⊎◌, ℕ, length, OnOk, OnErr, IfOk};
 ghost use Rattle.std.specs.List.{All};
 ghost use Rattle.tracker_keeper.specs.Rows.{Rows, with_ops, number_of, IsListing};
 ghost use Rattle.tracker_keeper.specs.Causes.{HasKeepCause};
-ghost use Rattle.tracker_cli.specs.Store.{faults_of, TellsOf, KeepsOf};
+ghost use Rattle.tracker_cli.specs.Store.{faults_of, TellsOf, KeepsOf, LeavesOf};
 
 use tracker_keeper::{KeepFault, Keeper, Row, RowOp};
 
@@ -20,6 +20,8 @@ impl<M: Keeper + Drop, F: Keeper + Drop> Keeper for Store<M, F> {
     ghost tells = { TellsOf M.tells F.tells };
 
     ghost keeps = { KeepsOf M.keeps F.keeps };
+
+    ghost leaves = { LeavesOf M.leaves F.leaves };
 
     fn commit(&mut self, ops: &[RowOp]) -> Result<(), KeepFault> {
         match self {

@@ -1,9 +1,9 @@
 // A keeper in memory, which fails at the calls that it is told.
-ghost use Rattle.std.specs.Prelude.{◌≡◌, ◌<◌, ◌≤◌, ◌^◌, ◌↔◌, Err, OnOk, OnErr, IfOk, IsTrue};
+ghost use Rattle.std.specs.Prelude.{◌≡◌, ◌<◌, ◌≤◌, ◌^◌, ◌↔◌, ◌⊎◌, ◌+◌, ◌-◌, min, length, false, Err, OnOk, OnErr, IfOk, IsTrue};
 ghost use Rattle.std.specs.List.{All};
-ghost use Rattle.request_lines.specs.Causes.{Rose, FailsAt, next_call};
+ghost use Rattle.request_lines.specs.Causes.{FailsAt, next_call};
 ghost use Rattle.tracker_keeper.specs.Rows.{Rows, no_rows, with_ops, number_of, IsListing};
-ghost use Rattle.tracker_keeper.specs.Causes.{HasKeepCause};
+ghost use Rattle.tracker_keeper.specs.Causes.{HasKeepCause, IsCounted};
 ghost use Rattle.tracker_keeper.specs.Places.{AreRowsOf};
 
 use crate::keeper::{KeepFault, Keeper};
@@ -43,7 +43,8 @@ impl MemoryKeeper {
     // Counts a call, and a fault where the call is one that fails.
     fn fails(&mut self) -> bool
         ensures fails { IsTrue result ↔ FailsAt self.old.failing.items (next_call self.old.calls) }
-        ensures rose { IsTrue result → Rose self.old.faults self.new.faults }
+        ensures rose { IsTrue result → self.new.faults ≡ min (self.old.faults + 1) (2 ^ 64 - 1) }
+        ensures same { result ≡ false → self.new.faults ≡ self.old.faults }
         ensures later { self.old.faults ≤ self.new.faults }
         ensures counted { self.new.calls ≡ next_call self.old.calls }
         ensures failing { self.new.failing.items ≡ self.old.failing.items }
@@ -65,6 +66,9 @@ impl Keeper for MemoryKeeper {
 
     ghost keeps = { λ k rows. AreRowsOf rows k.rows.places };
 
+    // A crash leaves nothing of it.
+    ghost leaves = { λ k rows other. Unit {0} };
+
     #[tactic(auto, using(crate::proofs::Placing::ops_kept, crate::proofs::Placing::rows_kept))]
     fn commit(&mut self, ops: &[RowOp]) -> Result<(), KeepFault>
         requires numbers { All (λ op. number_of op < 2 ^ 63) ops.now }
@@ -74,12 +78,19 @@ impl Keeper for MemoryKeeper {
             → OnOk result (AreRowsOf (with_ops ops.now rows) self.new.rows.places) }
         ensures undone { (rows : Rows) → AreRowsOf rows self.old.rows.places
             → OnErr result (AreRowsOf rows self.new.rows.places) }
+        ensures left_ok { (rows : Rows) → AreRowsOf rows self.old.rows.places → OnOk result (Unit {0}) }
+        ensures left_err { 0 < length ops.now → (rows other : Rows)
+            → AreRowsOf rows self.old.rows.places → Unit {0}
+            → OnErr result (Unit {0} ⊎ Unit {0}) }
 
         // It fails exactly at the calls that it was told.
         ensures fails { (result ≡ Err KeepFault.Failed)
             ↔ FailsAt self.old.failing.items (next_call self.old.calls) }
         ensures counted { self.new.calls ≡ next_call self.old.calls }
         ensures failing { self.new.failing.items ≡ self.old.failing.items }
+
+        // Nothing but a failure is counted.
+        ensures exact { IsCounted self.old.faults self.new.faults result }
     {
         if self.fails() {
             return Err(KeepFault::Failed);
@@ -98,10 +109,15 @@ impl Keeper for MemoryKeeper {
             → IfOk result (λ list. IsListing rows list.items) }
         ensures same { (rows : Rows) → AreRowsOf rows self.old.rows.places
             → AreRowsOf rows self.new.rows.places }
+        ensures left { (rows other : Rows) → AreRowsOf rows self.old.rows.places → Unit {0}
+            → Unit {0} }
         ensures fails { (result ≡ Err KeepFault.Failed)
             ↔ FailsAt self.old.failing.items (next_call self.old.calls) }
         ensures counted { self.new.calls ≡ next_call self.old.calls }
         ensures failing { self.new.failing.items ≡ self.old.failing.items }
+
+        // Nothing but a failure is counted.
+        ensures exact { IsCounted self.old.faults self.new.faults result }
     {
         if self.fails() {
             return Err(KeepFault::Failed);

@@ -1,5 +1,5 @@
 // A keeper in memory that never fails.
-ghost use Rattle.std.specs.Prelude.{◌≡◌, ◌<◌, ◌^◌, OnOk, OnErr, IfOk, IfErr};
+ghost use Rattle.std.specs.Prelude.{◌≡◌, ◌<◌, ◌^◌, ◌⊎◌, length, OnOk, OnErr, IfOk, IfErr};
 ghost use Rattle.std.specs.List.{All};
 ghost use Rattle.tracker_keeper.specs.Rows.{Rows, no_rows, with_ops, number_of, IsListing};
 ghost use Rattle.tracker_keeper.specs.Causes.{HasKeepCause};
@@ -35,6 +35,9 @@ impl Keeper for NeverFails {
 
     ghost keeps = { λ k rows. AreRowsOf rows k.rows.places };
 
+    // A crash leaves nothing of it.
+    ghost leaves = { λ k rows other. Unit {0} };
+
     #[tactic(auto, using(crate::proofs::Placing::ops_kept, crate::proofs::Placing::rows_kept))]
     fn commit(&mut self, ops: &[RowOp]) -> Result<(), KeepFault>
         requires numbers { All (λ op. number_of op < 2 ^ 63) ops.now }
@@ -44,6 +47,10 @@ impl Keeper for NeverFails {
             → OnOk result (AreRowsOf (with_ops ops.now rows) self.new.rows.places) }
         ensures undone { (rows : Rows) → AreRowsOf rows self.old.rows.places
             → OnErr result (AreRowsOf rows self.new.rows.places) }
+        ensures left_ok { (rows : Rows) → AreRowsOf rows self.old.rows.places → OnOk result (Unit {0}) }
+        ensures left_err { 0 < length ops.now → (rows other : Rows)
+            → AreRowsOf rows self.old.rows.places → Unit {0}
+            → OnErr result (Unit {0} ⊎ Unit {0}) }
         ensures never { IfErr result (λ fault. fault ≡ KeepFault.Memory) }
     {
         match self.rows.commit(ops) {
@@ -60,6 +67,8 @@ impl Keeper for NeverFails {
             → IfOk result (λ list. IsListing rows list.items) }
         ensures same { (rows : Rows) → AreRowsOf rows self.old.rows.places
             → AreRowsOf rows self.new.rows.places }
+        ensures left { (rows other : Rows) → AreRowsOf rows self.old.rows.places → Unit {0}
+            → Unit {0} }
         ensures never { IfErr result (λ fault. fault ≡ KeepFault.Memory) }
     {
         match self.rows.list() {
