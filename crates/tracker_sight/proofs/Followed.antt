@@ -7,8 +7,8 @@ use Rattle.fields.specs.Naming.{field_name}
 use Rattle.change_history.specs.declared.entry.Entry.{Entry}
 use Rattle.change_history.specs.History.{History, present}
 use Rattle.tracker_calls.specs.declared.call.Call.{Call}
-use Rattle.tracker_calls.specs.declared.reply.Refusal.{Refusal}
-use Rattle.tracker_calls.specs.Asked.{line_of}
+use Rattle.tracker_calls.specs.declared.cause.Cause.{Cause}
+use Rattle.call_lines.specs.Asked.{line_of}
 use Rattle.tracker_machine.specs.Machine.{Machine}
 use Rattle.tracker_machine.specs.Effect.{Effect, applied, longer}
 use Rattle.tracker_machine.specs.Effect.Effect.{NewMoment, NewIssue, NewGroup, NewRank, NewBalance, NewRanks, NewSprint, NewState, NewFilter, NoFilter, NewBoard, NoBoard, NewMembers}
@@ -17,7 +17,7 @@ use Rattle.tracker_machine.specs.Meaning.Meaning.{Refuses, Tells, Finds, Makes}
 use Rattle.tracker_machine.specs.Show.{shown_value}
 use Rattle.tracker_machine.specs.Entries.{told_entry}
 use Rattle.tracker_machine.specs.Step.{meaning, next_of}
-use Rattle.tracker_machine.specs.Run.{Mark, Marked, plain, memory, keeper, asked_next, marked_next, end_of_run}
+use Rattle.tracker_runs.specs.Run.{Mark, Marked, plain, memory, keeper, asked_next, marked_next, end_of_run}
 use Rattle.tracker_machine.proofs.Regrouped.{names_regrouped}
 use Rattle.tracker_sight.specs.Retold.{told_after, AreOfFields, shown_of, RunsFollowHistory}
 use Rattle.tracker_sight.proofs.Grown.{the_past_stays}
@@ -55,7 +55,7 @@ meant_names (Tells a) m = as_named m
 meant_names (Finds a) m = as_named m
 meant_names (Makes a effect) m = effect_names effect m
 
-asked_names : (m : Machine) (asked : Result (List ℕ × Call) Refusal) → HasNames m (asked_next m asked)
+asked_names : (m : Machine) (asked : Result (List ℕ × Call) Cause) → HasNames m (asked_next m asked)
 unfolding next_of
 asked_names m (Ok asked) = meant_names (meaning m asked.0 asked.1) m
 asked_names m (Err r) = as_named m

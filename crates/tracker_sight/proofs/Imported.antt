@@ -26,16 +26,16 @@ use Rattle.rank_strings.specs.Rank.{RankParts}
 use Rattle.board.specs.Moved.{Sides}
 use Rattle.change_history.specs.Key.{project_of}
 use Rattle.workflow.specs.Same.{same_value}
-use Rattle.tracker_calls.specs.Named.{is_external}
+use Rattle.external_ids.specs.Form.{is_external}
 use Rattle.tracker_calls.specs.declared.call.Call.{Call}
 use Rattle.tracker_calls.specs.declared.call.Call.TheVariants as call
 use Rattle.tracker_calls.specs.declared.given.GivenField.{GivenField}
 use Rattle.tracker_calls.specs.declared.reply.Answer.TheVariants as answer
-use Rattle.tracker_calls.specs.declared.reply.Refusal.{Refusal}
-use Rattle.tracker_calls.specs.declared.reply.Refusal.TheVariants as refusal
+use Rattle.tracker_calls.specs.declared.cause.Cause.{Cause}
+use Rattle.tracker_calls.specs.declared.cause.Cause.TheVariants as cause
 use Rattle.tracker_calls.specs.declared.reply.Reply.{Reply}
 use Rattle.tracker_calls.specs.declared.reply.Reply.TheVariants as reply
-use Rattle.tracker_calls.specs.declared.reply.Thing.TheVariants as thing
+use Rattle.tracker_calls.specs.declared.cause.Thing.TheVariants as thing
 use Rattle.tracker_machine.specs.Machine.{Machine}
 use Rattle.tracker_machine.specs.Known.{project_keys, issues_of}
 use Rattle.tracker_machine.specs.Checks.{or_then, unless_known, caller_refusal, external_refusal, twins_refusal, issues_refusal, bytes_refusal, values_refusal}
@@ -47,7 +47,7 @@ use Rattle.tracker_machine.specs.Rank.{with_given, last_rank}
 use Rattle.tracker_machine.specs.Create.{create_refusal, create_wants, issue_called, is_created_as, is_value_of, called_before, created, create_or_tell, filled, opened, spelled_key, new_issue_refusal}
 use Rattle.tracker_machine.specs.Wanted.{changes_of}
 use Rattle.tracker_machine.specs.Step.{meaning, meaning_for, form_refusal, user_of, reply_of, next_of}
-use Rattle.tracker_machine.specs.RankLaws.{IsAccepted}
+use Rattle.tracker_runs.specs.RankLaws.{IsAccepted}
 use Rattle.tracker_machine.proofs.Externals.{externals_more, named_is_there}
 use Rattle.tracker_machine.proofs.Saved.{all_then}
 use Rattle.tracker_machine.proofs.Settled as settled
@@ -191,7 +191,7 @@ module _ (m : Machine) (caller project issue_type summary : List ℕ) (given : L
   abbrev Goes : Meaning → Type 0
   Goes due = IsAccepted (reply_to due) → Step (next_after due m) (reply_to due)
 
-  unless_goes : (r : Option Refusal) (due : Meaning) → (r ≡ None → Goes due) → Goes (unless r due)
+  unless_goes : (r : Option Cause) (due : Meaning) → (r ≡ None → Goes due) → Goes (unless r due)
   unless_goes None due goes = goes refl
   unless_goes (Some r) due goes = λ accepted. absurd accepted
 
@@ -199,7 +199,7 @@ module _ (m : Machine) (caller project issue_type summary : List ℕ) (given : L
   key_letters : create_refusal m user project given ≡ None → list_all (λ b. is_in_range 65 90 b) key ≡ true
   key_letters passes =
       let named : Option ℕ = place_named project (project_keys m.setup) in
-      let place : (k : ℕ) × (named ≡ Some k) = known named (refusal.Unknown thing.Project project) (first_none (unless_known named (refusal.Unknown thing.Project project)) _ passes) in
+      let place : (k : ℕ) × (named ≡ Some k) = known named (cause.Unknown thing.Project project) (first_none (unless_known named (cause.Unknown thing.Project project)) _ passes) in
       let within = inside_mapped (λ (p : Project). p.key) m.setup.project place.0 (place_below project (project_keys m.setup) place.0 place.1) in
       let found = settled.at_place m.setup.project place.0 within in
       let at : slice_get (project_keys m.setup) place.0 ≡ Some found.0.key =

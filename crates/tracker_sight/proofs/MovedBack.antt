@@ -12,7 +12,7 @@ use Rattle.board.specs.Issues.{issues_in, issues_above, other_issues, issues_mov
 use Rattle.board.specs.Moved.{Sides}
 use Rattle.tracker_calls.specs.declared.call.Call.{Call}
 use Rattle.tracker_calls.specs.declared.call.Call.TheVariants as call
-use Rattle.tracker_calls.specs.declared.reply.Refusal.{Refusal}
+use Rattle.tracker_calls.specs.declared.cause.Cause.{Cause}
 use Rattle.tracker_machine.specs.Machine.{Machine}
 use Rattle.tracker_machine.specs.Known.{history_named}
 use Rattle.tracker_machine.specs.Tracker.{HasRanks}
@@ -21,10 +21,10 @@ use Rattle.tracker_machine.specs.Meaning.{Meaning, unless, reply_to, next_after}
 use Rattle.tracker_machine.specs.Rank.{with_given, moved_rank}
 use Rattle.tracker_machine.specs.Move.{move_refusal, move_meaning, moved_beside, newly_ranked}
 use Rattle.tracker_machine.specs.Step.{meaning, meaning_for, form_refusal, user_of, reply_of, next_of}
-use Rattle.tracker_machine.specs.RankLaws.{IsAccepted, MovesOneIssue}
+use Rattle.tracker_runs.specs.RankLaws.{IsAccepted, MovesOneIssue}
 use Rattle.tracker_machine.proofs.Placed.{apart, are_numbered}
-use Rattle.tracker_machine.proofs.MovedIssue.{moves_are_of_one_issue}
-use Rattle.tracker_machine.proofs.RunRanks.{next_keeps}
+use Rattle.tracker_runs.proofs.MovedIssue.{moves_are_of_one_issue}
+use Rattle.tracker_runs.proofs.RunRanks.{next_keeps}
 use Rattle.tracker_sight.specs.Moves.{AsksToMove, MovesBackLeaveTheOrder}
 
 -- ---- an accepted move
@@ -38,7 +38,7 @@ module _ (m : Machine) (caller issue other : List ℕ) (place : IssueNo → Plac
   abbrev Moves : Meaning → Type 0
   Moves due = IsAccepted (reply_to due) → MovesOneIssue m (next_after due m) h.no (place o.no)
 
-  unless_moves : (r : Option Refusal) (due : Meaning) → (r ≡ None → Moves due) → Moves (unless r due)
+  unless_moves : (r : Option Cause) (due : Meaning) → (r ≡ None → Moves due) → Moves (unless r due)
   unless_moves None due moves = moves refl
   unless_moves (Some r) due moves = λ accepted. absurd accepted
 

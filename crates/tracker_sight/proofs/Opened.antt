@@ -24,7 +24,7 @@ use Rattle.workflow.specs.Inputs.{least_with}
 use Rattle.workflow.proofs.Sameness.{same_value-Decides}
 use Rattle.change_history.specs.Key.{project_of}
 use Rattle.tracker_calls.specs.declared.given.GivenField.{GivenField}
-use Rattle.tracker_calls.specs.declared.reply.Refusal.{Refusal}
+use Rattle.tracker_calls.specs.declared.cause.Cause.{Cause}
 use Rattle.tracker_machine.specs.declared.wanted.Wanted.{Wanted}
 use Rattle.tracker_machine.specs.declared.wanted.Wanted.TheVariants as wanted
 use Rattle.tracker_machine.specs.Machine.{Machine}
@@ -126,7 +126,7 @@ module _ (m : Machine) (user : ℕ) (issue_type summary : List ℕ) (given : Lis
   abbrev wants : ℕ → Wanted
   wants = create_wants m.setup user issue_type summary given
 
-  fault_none : (o : Option ℕ) (f : ℕ → Refusal) → option_map f o ≡ None → o ≡ None
+  fault_none : (o : Option ℕ) (f : ℕ → Cause) → option_map f o ≡ None → o ≡ None
   fault_none None f is = refl
   fault_none (Some n) f is = absurd (none-some (f n) (sym is))
 

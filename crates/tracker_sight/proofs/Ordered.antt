@@ -19,7 +19,7 @@ use Rattle.tracker_calls.specs.declared.call.Call.{Call}
 use Rattle.tracker_calls.specs.declared.call.Call.TheVariants as call
 use Rattle.tracker_calls.specs.declared.given.GivenField.{GivenField}
 use Rattle.tracker_calls.specs.declared.reply.Answer.{Answer}
-use Rattle.tracker_calls.specs.declared.reply.Refusal.{Refusal}
+use Rattle.tracker_calls.specs.declared.cause.Cause.{Cause}
 use Rattle.tracker_machine.specs.Machine.{Machine}
 use Rattle.tracker_machine.specs.Known.{history_named}
 use Rattle.tracker_machine.specs.Tracker.{HasRanks}
@@ -34,7 +34,7 @@ use Rattle.tracker_machine.specs.Wanted.{changes_of}
 use Rattle.tracker_machine.specs.Move.{move_meaning, move_refusal, move_answer, moved_beside, newly_ranked}
 use Rattle.tracker_machine.specs.Rebalance.{started, stepped, with_planned}
 use Rattle.tracker_machine.specs.Step.{meaning, meaning_for, form_refusal, user_of}
-use Rattle.tracker_machine.proofs.Plain.{IsPlain, edit_plain, transition_plain, tick_plain, show_plain, history_plain, search_plain, ranks_plain, save_filter_plain, drop_filter_plain, filter_plain, make_board_plain, drop_board_plain, board_plain, make_sprint_plain, start_sprint_plain, close_sprint_plain, set_group_plain, burndown_plain}
+use Rattle.tracker_runs.proofs.Plain.{IsPlain, edit_plain, transition_plain, tick_plain, show_plain, history_plain, search_plain, ranks_plain, save_filter_plain, drop_filter_plain, filter_plain, make_board_plain, drop_board_plain, board_plain, make_sprint_plain, start_sprint_plain, close_sprint_plain, set_group_plain, burndown_plain}
 
 -- the moves of a step of a rebalancing leave the order of issues
 abbrev pub LeavesOrder : Machine → Effect → Type 0
@@ -46,7 +46,7 @@ MeansOrder m (Makes a effect) = LeavesOrder m effect
 MeansOrder m _ = Unit {0}
 
 module _ (m : Machine) where
-  unless_leaves : (r : Option Refusal) (due : Meaning) → MeansOrder m due → MeansOrder m (unless r due)
+  unless_leaves : (r : Option Cause) (due : Meaning) → MeansOrder m due → MeansOrder m (unless r due)
   unless_leaves None due leaves = leaves
   unless_leaves (Some r) due leaves = tt
 

@@ -29,11 +29,11 @@ use Rattle.tracker_calls.specs.declared.call.Call.{Call}
 use Rattle.tracker_calls.specs.declared.call.Call.TheVariants as call
 use Rattle.tracker_calls.specs.declared.given.GivenField.{GivenField}
 use Rattle.tracker_calls.specs.declared.reply.Answer.TheVariants as answer
-use Rattle.tracker_calls.specs.declared.reply.Refusal.{Refusal}
-use Rattle.tracker_calls.specs.declared.reply.Refusal.TheVariants as refusal
+use Rattle.tracker_calls.specs.declared.cause.Cause.{Cause}
+use Rattle.tracker_calls.specs.declared.cause.Cause.TheVariants as cause
 use Rattle.tracker_calls.specs.declared.reply.Reply.{Reply}
 use Rattle.tracker_calls.specs.declared.reply.Reply.TheVariants as reply
-use Rattle.tracker_calls.specs.declared.reply.Thing.TheVariants as thing
+use Rattle.tracker_calls.specs.declared.cause.Thing.TheVariants as thing
 use Rattle.tracker_machine.specs.declared.wanted.Wanted.{Wanted}
 use Rattle.tracker_machine.specs.Machine.{Machine}
 use Rattle.tracker_machine.specs.Known.{place_of_issue, history_named, project_keys, issues_of, next_key}
@@ -48,7 +48,7 @@ use Rattle.tracker_machine.specs.Create.{create_meaning, create_refusal, issue_c
 use Rattle.tracker_machine.specs.Wanted.{changes_of}
 use Rattle.tracker_machine.specs.Move.{move_meaning, move_refusal, move_answer, moved_beside, newly_ranked}
 use Rattle.tracker_machine.specs.Step.{meaning, meaning_for, form_refusal, user_of, reply_of}
-use Rattle.tracker_machine.specs.RankLaws.{HasRoom, without_ranks}
+use Rattle.tracker_runs.specs.RankLaws.{HasRoom, without_ranks}
 use Rattle.tracker_machine.proofs.Settled as settled
 use Rattle.tracker_sight.specs.Sight.{sees, SeemAlike}
 use Rattle.tracker_sight.specs.Confidentiality.{has_issue_named}
@@ -63,7 +63,7 @@ use Rattle.tracker_sight.proofs.Counted.{all_counted}
 -- ---- replies that are the same where there is room
 
 -- one and the same check comes first in both
-room_unless : (look : Reply → Reply) (r : Option Refusal) (one other : Meaning)
+room_unless : (look : Reply → Reply) (r : Option Cause) (one other : Meaning)
     → (r ≡ None → HasRoom (reply_to one) → HasRoom (reply_to other) → look (reply_to other) ≡ look (reply_to one))
     → HasRoom (reply_to (unless r one)) → HasRoom (reply_to (unless r other)) → look (reply_to (unless r other)) ≡ look (reply_to (unless r one))
 room_unless look None one other same = same refl
@@ -135,11 +135,11 @@ module _ (m : Machine) (text : List ℕ) (hs : List History) (externals : List E
         → next_key new (spelled_key m project) ≡ next_key m (spelled_key m project)
     spelled_same project given none =
         let named : Option ℕ = place_named project (project_keys m.setup) in
-        let unknown : Option Refusal = unless_known named (refusal.Unknown thing.Project project) in
-        let browse : Option Refusal = permission_refusal m user permission.Browse named in
-        let create : Option Refusal = permission_refusal m user permission.Create named in
-        let closed : Option Refusal = closed_refusal m given None in
-        let place : (k : ℕ) × (named ≡ Some k) = known named (refusal.Unknown thing.Project project) (first_none unknown (or_then (set_refusal m given) (or_then browse (or_then create closed))) none) in
+        let unknown : Option Cause = unless_known named (cause.Unknown thing.Project project) in
+        let browse : Option Cause = permission_refusal m user permission.Browse named in
+        let create : Option Cause = permission_refusal m user permission.Create named in
+        let closed : Option Cause = closed_refusal m given None in
+        let place : (k : ℕ) × (named ≡ Some k) = known named (cause.Unknown thing.Project project) (first_none unknown (or_then (set_refusal m given) (or_then browse (or_then create closed))) none) in
         let passes : permission_refusal m user permission.Browse (Some place.0) ≡ None =
         subst (λ o. permission_refusal m user permission.Browse o ≡ None) place.1 (third_none unknown (set_refusal m given) browse create closed none) in
         let p = project_at place.0 (place_below project (project_keys m.setup) place.0 place.1) in
@@ -222,12 +222,12 @@ module _ (m : Machine) (user : ℕ) where
   browse_alike o p (inr u) =
       ap (access_refusal m user permission.Browse) u.p_is ∙ ap (permission_refusal m user permission.Browse) u.project ∙ sym (ap (access_refusal m user permission.Browse) u.o_is)
 
-  then_refused : (rest other : Option Refusal) (b : Bool) (why : Refusal) → b ≡ false → or_then (only_if b why) rest ≡ or_then (only_if b why) other
+  then_refused : (rest other : Option Cause) (b : Bool) (why : Cause) → b ≡ false → or_then (only_if b why) rest ≡ or_then (only_if b why) other
   then_refused rest other true why fails = absurd (true≢false fails)
   then_refused rest other false why fails = refl
 
   -- and where it may, so is any check behind that
-  browse_then : (o p : Option History) → AreAlikeTo m user o p → (rest : Option History → Option Refusal)
+  browse_then : (o p : Option History) → AreAlikeTo m user o p → (rest : Option History → Option Cause)
       → or_then (access_refusal m user permission.Browse p) (rest p) ≡ or_then (access_refusal m user permission.Browse o) (rest o)
   browse_then o p (inl same) rest = ap (λ (q : Option History). or_then (access_refusal m user permission.Browse q) (rest q)) same
   browse_then o p (inr u) rest =
@@ -265,9 +265,9 @@ module _ (m : Machine) (text : List ℕ) (change : ℕ) (hs : List History) (ext
 
   module _ (user : ℕ) (alike : SeemAlike user m other) where
     known_in_both : (issue : List ℕ) → has_issue_named other issue ≡ has_issue_named m issue
-        → unless_known (place_of_issue issue hs) (refusal.Unknown thing.Issue issue) ≡ unless_known (place_of_issue issue m.histories) (refusal.Unknown thing.Issue issue)
+        → unless_known (place_of_issue issue hs) (cause.Unknown thing.Issue issue) ≡ unless_known (place_of_issue issue m.histories) (cause.Unknown thing.Issue issue)
     known_in_both issue both =
-        known_alike (place_of_issue issue hs) (place_of_issue issue m.histories) (refusal.Unknown thing.Issue issue)
+        known_alike (place_of_issue issue hs) (place_of_issue issue m.histories) (cause.Unknown thing.Issue issue)
         (place_is_there other issue ∙ both ∙ sym (place_is_there m issue))
 
     move_refusal_alike : (issue beside : List ℕ) → has_issue_named other issue ≡ has_issue_named m issue → has_issue_named other beside ≡ has_issue_named m beside
@@ -277,8 +277,8 @@ module _ (m : Machine) (text : List ℕ) (change : ℕ) (hs : List History) (ext
         let p : Option History = history_named other issue in
         let q : Option History = history_named m beside in
         let r : Option History = history_named other beside in
-        let rank : Option History → Option Refusal = access_refusal m user permission.Rank in
-        let browse : Option History → Option Refusal = access_refusal m user permission.Browse in
+        let rank : Option History → Option Cause = access_refusal m user permission.Rank in
+        let browse : Option History → Option Cause = access_refusal m user permission.Browse in
         ap₂ or_then (known_in_both issue both)
         (ap₂ or_then (known_in_both beside both_too)
         (ap₂ or_then (access_other user permission.Browse p) (ap₂ or_then (access_other user permission.Rank p) (access_other user permission.Browse r))

@@ -4,7 +4,7 @@ use Rattle.std.proofs.lemmas.Bool.{cases_Bool}
 use Rattle.change_history.specs.History.{History}
 use Rattle.tracker_calls.specs.Part.{part_of}
 use Rattle.tracker_calls.specs.declared.call.Part.{Part}
-use Rattle.tracker_calls.specs.declared.reply.Refusal.{Refusal}
+use Rattle.tracker_calls.specs.declared.cause.Cause.{Cause}
 use Rattle.tracker_calls.specs.declared.reply.Answer.TheVariants as answer
 use Rattle.tracker_machine.specs.Machine.{Machine}
 use Rattle.tracker_machine.specs.Checks.{caller_refusal, part_refusal}
@@ -59,7 +59,7 @@ module _ (m : Machine) (part : Part) (f : SavedFilter) where
       (ap (λ (hs : List History). reply.Ok (answer.Filter (map (λ h. h.key) (part_of part (listed m.setup (saved_query m.setup f).keys m.order hs))) (length hs)))
       (owner_finds m f)))
 
-unless_filtered : (r : Option Refusal) (one other : Meaning) → reply_to one ≡ as_filtered (reply_to other) → reply_to (unless r one) ≡ as_filtered (reply_to (unless r other))
+unless_filtered : (r : Option Cause) (one other : Meaning) → reply_to one ≡ as_filtered (reply_to other) → reply_to (unless r one) ≡ as_filtered (reply_to (unless r other))
 unless_filtered None one other same = same
 unless_filtered (Some r) one other same = refl
 

@@ -4,11 +4,11 @@ use Rattle.field_values.specs.Parts.{Parts}
 use Rattle.change_history.specs.declared.entry.Entry.{Entry}
 use Rattle.change_history.specs.History.{History}
 use Rattle.tracker_calls.specs.declared.call.Call.{Call}
-use Rattle.tracker_calls.specs.Asked.{line_of}
+use Rattle.call_lines.specs.Asked.{line_of}
 use Rattle.tracker_machine.specs.Machine.{Machine, opening}
 use Rattle.tracker_machine.specs.Effect.{longer}
 use Rattle.tracker_machine.specs.Step.{user_of}
-use Rattle.tracker_machine.specs.Run.{Marked, plain, marked_next, end_of_run}
+use Rattle.tracker_runs.specs.Run.{Marked, plain, marked_next, end_of_run}
 use Rattle.tracker_sight.specs.Integrity.{may_change, IsMadeNow, AllEntries, MayCreate}
 
 -- ---- entries

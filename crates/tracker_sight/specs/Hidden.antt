@@ -2,8 +2,8 @@
 use Rattle.std.specs.Prelude.{◌≡◌, ℕ, false, List, [], ◌∷◌, slice_get, Some, Result, Ok, Err}
 use Rattle.change_history.specs.History.{History}
 use Rattle.tracker_calls.specs.declared.call.Call.{Call}
-use Rattle.tracker_calls.specs.declared.reply.Refusal.{Refusal}
-use Rattle.tracker_calls.specs.Asked.{line_of}
+use Rattle.tracker_calls.specs.declared.cause.Cause.{Cause}
+use Rattle.call_lines.specs.Asked.{line_of}
 use Rattle.tracker_machine.specs.Machine.{Machine}
 use Rattle.tracker_machine.specs.Tracker.{HasRanks}
 use Rattle.tracker_machine.specs.Effect.{Effect}
@@ -11,7 +11,7 @@ use Rattle.tracker_machine.specs.Effect.Effect.{NewIssue, NewGroup, NewRank, New
 use Rattle.tracker_machine.specs.Meaning.{Meaning}
 use Rattle.tracker_machine.specs.Meaning.Meaning.{Makes}
 use Rattle.tracker_machine.specs.Step.{meaning}
-use Rattle.tracker_machine.specs.Run.{Mark, plain, memory, keeper, Marked, marked_next, end_of_run}
+use Rattle.tracker_runs.specs.Run.{Mark, plain, memory, keeper, Marked, marked_next, end_of_run}
 use Rattle.tracker_sight.specs.Sight.{SeemAlike, sees}
 
 -- the issue at a place is one that the user may not browse
@@ -43,7 +43,7 @@ DoesHidden m user (Makes a effect) = IsHidden m user effect
 DoesHidden m user _ = Unit {0}
 
 -- so does what a line asks for; one that can't be read does nothing
-abbrev pub AsksForHidden : Machine → ℕ → Result (List ℕ × Call) Refusal → Type 0
+abbrev pub AsksForHidden : Machine → ℕ → Result (List ℕ × Call) Cause → Type 0
 AsksForHidden m user (Ok asked) = DoesHidden m user (meaning m asked.0 asked.1)
 AsksForHidden m user (Err r) = Unit {0}
 

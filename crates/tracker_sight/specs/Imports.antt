@@ -10,7 +10,7 @@ use Rattle.tracker_calls.specs.declared.reply.Reply.TheVariants as reply
 use Rattle.tracker_machine.specs.Machine.{Machine}
 use Rattle.tracker_machine.specs.Tracker.{IsTracker}
 use Rattle.tracker_machine.specs.Step.{reply_of, next_of}
-use Rattle.tracker_machine.specs.RankLaws.{IsAccepted}
+use Rattle.tracker_runs.specs.RankLaws.{IsAccepted}
 
 -- the call is a create with an external id, as a record of an import that has one asks for
 abbrev pub is_import : Call → Bool

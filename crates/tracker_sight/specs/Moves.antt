@@ -12,7 +12,7 @@ use Rattle.tracker_machine.specs.Machine.{Machine}
 use Rattle.tracker_machine.specs.Known.{history_named}
 use Rattle.tracker_machine.specs.Tracker.{HasRanks}
 use Rattle.tracker_machine.specs.Step.{reply_of, next_of}
-use Rattle.tracker_machine.specs.RankLaws.{IsAccepted}
+use Rattle.tracker_runs.specs.RankLaws.{IsAccepted}
 
 -- the call is to move this issue to this place, beside an issue that is there
 abbrev pub AsksToMove : Machine → Call → History → Place → Type 0

@@ -8,7 +8,7 @@ use Rattle.tracker_machine.specs.Checks.{issues_refusal}
 use Rattle.tracker_machine.specs.Create.{issue_called}
 use Rattle.tracker_machine.specs.Tracker.{IsTracker}
 use Rattle.tracker_machine.specs.Step.{reply_of, user_of}
-use Rattle.tracker_machine.specs.RankLaws.{HasRoom, without_ranks}
+use Rattle.tracker_runs.specs.RankLaws.{HasRoom, without_ranks}
 use Rattle.tracker_sight.specs.Sight.{SeemAlike}
 use Rattle.tracker_sight.specs.Confidentiality.{CountAlike, has_issue_named}
 
