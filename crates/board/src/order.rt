@@ -114,10 +114,16 @@ impl Order {
         place: Place,
         empty_bucket: u8,
     ) -> Result<Rank, RankFault>
+        // The issues that are named stand in the order and differ, and the bucket is one of the
+        // three.
         requires named { AreNamed self.now.pairs issue place }
         requires bucket { empty_bucket < 3 }
+        // What it gives puts the issue just there. It refuses only where no rank lies between the
+        // neighbours, or for want of memory.
         ensures rank { IfOk result (IsRankFor self.now.pairs issue place empty_bucket) }
         ensures fault { IfErr result (ExplainsNoRank self.now.pairs issue place empty_bucket) }
+        // The order alone decides which rank that is, or that there is none: both can be computed
+        // from it.
         ensures computed { IfOk result (λ r. rank_given self.now.pairs issue place empty_bucket
             ≡ Ok r) }
         ensures refused { IfErr result (IsRefusalOf

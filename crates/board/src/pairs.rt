@@ -19,10 +19,14 @@ fn set_rank(
     issue: IssueNo,
     rank: Rank,
 )
+    // The issue's pair stands there.
     requires place { place < vec_len pairs.old }
     requires issue { number_at pairs.old.items place ≡ issue.0 }
+    // Ranks are counted by length, and each length that a rank may have has its count.
     requires counted { AreCountsOf pairs.old.items counts.old }
     requires lengths { 255 ≤ length counts.old }
+    // The pair stays where it is until it is moved by its new rank; the counts know that rank
+    // already.
     ensures pairs { pairs.new.items ≡ slice_set pairs.old.items place (rank, issue) }
     ensures capacity { vec_capacity pairs.new ≡ vec_capacity pairs.old }
     ensures counted { AreCountsOf pairs.new.items counts.new }
@@ -42,10 +46,13 @@ fn add_pair(
     issue: IssueNo,
     rank: Rank,
 )
+    // There is room for a pair, so that no memory is taken, and the table has the issue's number.
     requires room { vec_len pairs.old < vec_capacity pairs.old }
     requires number { issue.0 < length table.old }
+    // Ranks are counted by length, and each length that a rank may have has its count.
     requires counted { AreCountsOf pairs.old.items counts.old }
     requires lengths { 255 ≤ length counts.old }
+    // The pair stands last until it is moved by its rank; table and counts know it already.
     ensures pairs { pairs.new.items ≡ pairs.old.items ++ (rank, issue) ∷ [] }
     ensures capacity { vec_capacity pairs.new ≡ vec_capacity pairs.old }
     ensures table { table.new ≡ slice_set table.old issue.0 (Some (vec_len pairs.old)) }
@@ -100,11 +107,14 @@ pub(crate) fn put_pair(
     issue: IssueNo,
     rank: Rank,
 )
+    // Table and counts are those of the order, and no other issue has the rank.
     requires kept { IsKept pairs.old.items table.old counts.old (vec_capacity pairs.old) }
     requires free { IsFreeFor pairs.old.items issue.0 rank }
+    // Room was made: for the pair of a new issue, and in the table for its number.
     requires room { place_in pairs.old.items issue.0 ≡ None
         → vec_len pairs.old < vec_capacity pairs.old }
     requires number { issue.0 < length table.old }
+    // The issue stands once, where its rank belongs, and table and counts follow.
     ensures pairs { pairs.new.items ≡ put_in (rank, issue) (without issue.0 pairs.old.items) }
     ensures kept { IsKept pairs.new.items table.new counts.new (vec_capacity pairs.new) }
 {

@@ -39,10 +39,13 @@ pub(crate) fn shift(
     from: usize,
     to: usize,
 )
+    // Both are places of the list.
     requires from { from < length pairs.old }
     requires to { to < length pairs.old }
+    // Each issue stands once, and the table says where.
     requires once { AllPairs (λ p q. p.1.0 ≢ q.1.0) pairs.old }
     requires table { IsTableOf pairs.old table.old }
+    // The pair stands at its new place, the others keep their order, and the table follows.
     ensures pairs { pairs.new
         ≡ insert (remove pairs.old from) to (slice_index_or pairs.old from nothing) }
     ensures table { IsTableOf pairs.new table.new }

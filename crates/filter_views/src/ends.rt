@@ -25,11 +25,14 @@ fn replace_end(heap: &mut [Due], rows: &mut [FilterRow], due: Due)
 
 /// Adds the end of a cell that has none.
 fn add_end(heap: &mut Vec<Due>, rows: &mut [FilterRow], due: Due)
+    // The heap is in order, and each cell that has an end knows where it stands there.
     requires agree { Agree heap.old.items rows.old }
     requires heap { IsHeap heap.old.items }
+    // The cell is there and has no end yet, and there is room for one.
     requires there { IsCell rows.old due.filter.0 due.issue.0 }
     requires none { vec_len heap.old ≤ place_in rows.old due.filter.0 due.issue.0 }
     requires room { vec_len heap.old < vec_capacity heap.old }
+    // The cell has this end, the others have theirs, and no memory was taken.
     ensures put { PutsEnd heap.old.items rows.old heap.new.items rows.new due.filter.0 due.issue.0
         (Some due.end) }
     ensures capacity { vec_capacity heap.new ≡ vec_capacity heap.old }
@@ -91,11 +94,14 @@ pub(crate) fn take_end(
 
 /// Writes the end of a cell.
 fn give_end(heap: &mut Vec<Due>, rows: &mut [FilterRow], due: Due)
+    // The heap is in order, and each cell that has an end knows where it stands there.
     requires agree { Agree heap.old.items rows.old }
     requires heap { IsHeap heap.old.items }
+    // The cell is there, and where it has no end yet there is room for one.
     requires there { IsCell rows.old due.filter.0 due.issue.0 }
     requires room { vec_len heap.old ≤ place_in rows.old due.filter.0 due.issue.0
         → vec_len heap.old < vec_capacity heap.old }
+    // The cell has this end, the others have theirs, and no memory was taken.
     ensures put { PutsEnd heap.old.items rows.old heap.new.items rows.new due.filter.0 due.issue.0
         (Some due.end) }
     ensures capacity { vec_capacity heap.new ≡ vec_capacity heap.old }
@@ -115,11 +121,14 @@ fn put_end(
     issue: IssueNo,
     end: Option<Moment>,
 )
+    // The heap is in order, and each cell that has an end knows where it stands there.
     requires agree { Agree heap.old.items rows.old }
     requires heap { IsHeap heap.old.items }
+    // The cell is there, and where it has no end yet there is room for one.
     requires there { IsCell rows.old filter.0 issue.0 }
     requires room { vec_len heap.old ≤ place_in rows.old filter.0 issue.0
         → vec_len heap.old < vec_capacity heap.old }
+    // The cell has this end or none, the others have theirs, and no memory was taken.
     ensures put { PutsEnd heap.old.items rows.old heap.new.items rows.new filter.0 issue.0 end }
     ensures capacity { vec_capacity heap.new ≡ vec_capacity heap.old }
 {
@@ -138,12 +147,17 @@ pub(crate) fn write_cell(
     holds: bool,
     end: Option<Moment>,
 )
+    // The heap is in order, and each cell that has an end knows where it stands there.
     requires agree { Agree heap.old.items rows.old }
     requires heap { IsHeap heap.old.items }
+    // The cell is there, in both lists of its row, and where it has no end yet there is room for
+    // one.
     requires truth { HasNumber issue.0 (length (row_of rows.old filter.0).truths) }
     requires there { IsCell rows.old filter.0 issue.0 }
     requires room { vec_len heap.old ≤ place_in rows.old filter.0 issue.0
         → vec_len heap.old < vec_capacity heap.old }
+    // The cell says this and has this end or none, all others are as before, and no memory was
+    // taken.
     ensures written { WritesCell heap.old.items rows.old heap.new.items rows.new filter.0 issue.0
         holds end }
     ensures capacity { vec_capacity heap.new ≡ vec_capacity heap.old }

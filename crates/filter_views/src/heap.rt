@@ -10,10 +10,12 @@ use crate::rows::set_place;
 
 /// Swaps two entries, and has their cells know it.
 pub(crate) fn exchange(heap: &mut [Due], rows: &mut [FilterRow], first: usize, second: usize)
+    // Two places of a heap that the cells know.
     requires first { first < length heap.old }
     requires second { second < length heap.old }
     requires differ { first ≢ second }
     requires agree { Agree heap.old rows.old }
+    // Only the places have changed: cells know them, and each has the end that it had.
     ensures swapped { SwappedAt heap.old heap.new first second }
     ensures agree { Agree heap.new rows.new }
     ensures same { OnlyMoves heap.old rows.old heap.new rows.new }
@@ -76,13 +78,16 @@ fn child_to_pass(heap: &[Due], at: usize) -> Option<usize>
 
 /// Moves the entry up, and answers where it came to stand.
 fn rise(heap: &mut [Due], rows: &mut [FilterRow], from: usize) -> usize
+    // Of a heap that the cells know, this entry alone may be out of order.
     requires in_range { from < length heap.old }
     requires agree { Agree heap.old rows.old }
     requires but { IsHeapBut heap.old from }
+    // The one at the place that is answered alone may be then, and only with what stands below it.
     ensures in_range { result < length heap.new }
     ensures agree { Agree heap.new rows.new }
     ensures but { IsHeapBut heap.new result }
     ensures low { IsLow heap.new result }
+    // Only places have changed: each cell has the end that it had.
     ensures same { OnlyMoves heap.old rows.old heap.new rows.new }
 {
     let mut at = from;
@@ -95,10 +100,13 @@ fn rise(heap: &mut [Due], rows: &mut [FilterRow], from: usize) -> usize
 
 /// Moves the entry down.
 fn sink(heap: &mut [Due], rows: &mut [FilterRow], from: usize)
+    // Of a heap that the cells know, this entry alone may be out of order, and only with what
+    // stands below it.
     requires in_range { from < length heap.old }
     requires agree { Agree heap.old rows.old }
     requires but { IsHeapBut heap.old from }
     requires low { IsLow heap.old from }
+    // All is in order then. Only places have changed: each cell has the end that it had.
     ensures agree { Agree heap.new rows.new }
     ensures heap { IsHeap heap.new }
     ensures same { OnlyMoves heap.old rows.old heap.new rows.new }
@@ -112,9 +120,11 @@ fn sink(heap: &mut [Due], rows: &mut [FilterRow], from: usize)
 
 /// Makes it a heap again, where one entry may be out of order.
 pub(crate) fn mend(heap: &mut [Due], rows: &mut [FilterRow], from: usize)
+    // Of a heap that the cells know, this entry alone may be out of order, either way.
     requires in_range { from < length heap.old }
     requires agree { Agree heap.old rows.old }
     requires but { IsHeapBut heap.old from }
+    // All is in order then. Only places have changed: each cell has the end that it had.
     ensures agree { Agree heap.new rows.new }
     ensures heap { IsHeap heap.new }
     ensures same { OnlyMoves heap.old rows.old heap.new rows.new }

@@ -56,10 +56,14 @@ fn plan_up(
     border: usize,
     count: usize,
 ) -> Result<Vec<(IssueNo, Rank)>, RankFault>
+    // Ranks of the old bucket stand before the border, all others are in the bucket above, and
+    // there are so many to pick.
     requires from { from < 2 }
     requires order { IsOrder pairs.now }
     requires parted { IsParted pairs.now from (from + 1) border }
     requires count { count ≤ border }
+    // Each is the pick of the order that those before it leave. Where one has no room, the whole
+    // plan is refused.
     ensures picks { IfOk result (λ moves. ArePicks pairs.now from (from + 1) moves.items
         × (length moves.items ≡ count)) }
     ensures fault { IfErr result (ExplainsRefusal pairs.now from (from + 1) count) }

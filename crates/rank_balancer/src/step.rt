@@ -49,13 +49,16 @@ pub fn plan_step(
     balance: &Balance,
     at_most: u32,
 ) -> Result<StepPlan, RankFault>
+    // The order is on the way from one bucket to the next, and a step has up to 1,000 picks.
     requires moving { IsMoving balance.now }
     requires agrees { Agrees order.now.pairs balance.now }
     requires count { (1 ≤ at_most) × (at_most ≤ 1000) }
+    // A step has all its picks. Where it is refused, one of them has no room, or memory is wanting.
     ensures step { IfOk result (IsStep order.now.pairs (from_of balance.now)
         (to_of balance.now) at_most) }
     ensures fault { IfErr result (ExplainsRefusal order.now.pairs (from_of balance.now)
         (to_of balance.now) at_most) }
+    // Order and balance alone decide it: it can be computed from them, and there is no other step.
     ensures computed { IfOk result (λ moves. planned order.now.pairs (from_of balance.now)
         (to_of balance.now) at_most ≡ Ok moves) }
     ensures refused { IfErr result (IsRefusalOf

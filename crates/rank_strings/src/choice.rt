@@ -93,15 +93,20 @@ pub fn between(
     high: Option<&Rank>,
     bucket: u8,
 ) -> Result<Rank, RankFault>
+    // The neighbours are of the bucket, the lower one first.
     requires { AreNeighbours (option_copied low) (option_copied high) bucket }
+    // The rank lies strictly between, with no more digits than that needs. Where six are enough it
+    // never fails, since these take no memory.
     ensures chosen { IfOk result (IsChosen (option_copied low.entry)
         (option_copied high.entry) bucket) }
     ensures strictly { IfOk result (LiesBetween (option_copied low.entry)
         (option_copied high.entry) bucket) }
     ensures six_digits { least_above (option_copied low.entry)
         ≤ greatest_below (option_copied high.entry) → IsOk result }
+    // It refuses only where the bucket has no rank between, or for want of memory.
     ensures fault { IfErr result (ExplainsFault (option_copied low.entry)
         (option_copied high.entry) bucket) }
+    // The neighbours alone decide it: it can be computed from them.
     ensures computed { IfOk result (λ r. chosen_between (option_copied low.entry)
         (option_copied high.entry) bucket ≡ Some r) }
     ensures none { IfErr result (IsNoneFor

@@ -18,15 +18,19 @@ use std::sync::ledger::Ledger;
 
 /// Puts the filter into the list, with a row of cells where no filter had its number. It takes no memory.
 pub(crate) fn put_row(filters: &mut Vec<Filter>, views: &mut FilterViews, filter: Filter)
+    // Filters stand by their numbers, and each has its row of cells.
     requires rising { RiseFrom number 1 filters.old.items }
     requires rows { numbers_in views.old ≡ map number filters.old.items }
+    // Room was made for a filter whose number is new.
     requires room { by_number number filter.no.0 filters.old.items ≡ None →
         vec_len filters.old < vec_capacity filters.old }
     requires row { by_number number filter.no.0 filters.old.items ≡ None →
         length views.old.table < views.old.filter_room }
+    // The filter stands by its number, with a row of cells.
     ensures filters { filters.new.items ≡ put_by_number number filter filters.old.items }
     ensures rows { numbers_in views.new
         ≡ map number (put_by_number number filter filters.old.items) }
+    // No cell changes by that: what it says of each issue is settled afterwards.
     ensures issues { views.new.issues ≡ views.old.issues }
     ensures cells { (n j : ℕ) → cell_of views.new n j ≡ cell_of views.old n j }
 {

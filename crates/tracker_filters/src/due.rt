@@ -45,15 +45,19 @@ fn settle_due<L: Ledger>(
     to: Moment,
     steps: &mut Steps<L>,
 )
+    // Each filter has a cell for each issue. The end of this one has come, and those whose end
+    // hasn't come are right.
     requires rising { RiseFrom number 1 filters.now }
     requires due { IsDue views.old to cell.0.0 cell.1.0 }
     requires grid { IsGrid views.old }
     requires cells { AreCellsOf filters.now (histories_of issues.now) views.old }
     requires pending { ArePending (surroundings_of context.now) to
         (histories_of issues.now) filters.now views.old }
+    // These stay right, and no filter or issue comes or goes.
     ensures pending { ArePending (surroundings_of context.now) to
         (histories_of issues.now) filters.now views.new }
     ensures same { shape views.new ≡ shape views.old }
+    // Each question leaves one cell less that is due, so that asking comes to an end.
     ensures fewer { due views.old to ≡ due views.new to + 1 }
     ensures steps { steps.new ≡ steps.old + 1 }
 {
@@ -80,13 +84,16 @@ pub(crate) fn catch_up<L: Ledger>(
     to: Moment,
     steps: &mut Steps<L>,
 )
+    // Each filter has a cell for each issue, and those whose end hasn't come are right.
     requires rising { RiseFrom number 1 filters.now }
     requires cells { AreCellsOf filters.now (histories_of issues.now) views.old }
     requires pending { ArePending (surroundings_of context.now) to
         (histories_of issues.now) filters.now views.old }
+    // All of them are right then, and no filter or issue has come or gone.
     ensures right { AreRight (surroundings_of context.now) to
         (histories_of issues.now) filters.now views.new }
     ensures same { shape views.new ≡ shape views.old }
+    // It costs one question for each cell that was due.
     ensures steps { steps.new ≡ steps.old + due views.old to }
 {
     while let Some(cell) = next_due_by(views, to) {

@@ -177,12 +177,16 @@ impl Filters {
 
     /// Puts a filter in that is ready, or in the place of the one of its number. It takes no memory.
     pub fn put(&mut self, ready: ReadyFilter)
+        // It has a name that its owner gave to no other filter, there is room for it, and its
+        // verdicts are right.
         requires may { MayPut self.old.filters ready.filter }
         requires room { by_number number ready.filter.no.0 self.old.filters ≡ None →
             HasFilterRoom self.old }
         requires right { AreVerdicts self.old.around self.old.moment (condition_of ready.filter)
             self.old.histories ready.verdicts.items }
+        // It stands by its number.
         ensures filters { self.new.filters ≡ put_by_number number ready.filter self.old.filters }
+        // What the filters have seen stays, so all other cells are as right as before.
         ensures histories { self.new.histories ≡ self.old.histories }
         ensures around { self.new.around ≡ self.old.around }
         ensures moment { self.new.moment ≡ self.old.moment }
@@ -213,14 +217,18 @@ impl Filters {
         at: Moment,
         steps: &mut Steps<L>,
     )
+        // The issue has the next number, and room was made for it.
         requires next { issue.now.history.no.0 ≡ length self.old.histories + 1 }
         requires room { HasIssueRoom self.old }
+        // Nothing else has changed since the filters looked last.
         requires around { surroundings_of context.now ≡ self.old.around }
         requires moment { at ≡ self.old.moment }
+        // They have seen the issue now, and all else as before.
         ensures filters { self.new.filters ≡ self.old.filters }
         ensures histories { self.new.histories ≡ self.old.histories ++ issue.now.history ∷ [] }
         ensures around { self.new.around ≡ self.old.around }
         ensures moment { self.new.moment ≡ self.old.moment }
+        // It costs one question for each filter.
         ensures steps { steps.new ≡ steps.old + length self.old.filters }
     {
         self.seen.push_reserved(Snapshot::of(issue));
@@ -237,14 +245,18 @@ impl Filters {
         at: Moment,
         steps: &mut Steps<L>,
     )
+        // The issue is one that the filters have seen.
         requires there { HasNumber issue.now.history.no.0 (length self.old.histories) }
+        // Nothing else has changed since the filters looked last.
         requires around { surroundings_of context.now ≡ self.old.around }
         requires moment { at ≡ self.old.moment }
+        // They have seen the issue as it is now, and all else as before.
         ensures filters { self.new.filters ≡ self.old.filters }
         ensures histories { self.new.histories ≡
             slice_set self.old.histories (issue.now.history.no.0 - 1) issue.now.history }
         ensures around { self.new.around ≡ self.old.around }
         ensures moment { self.new.moment ≡ self.old.moment }
+        // It costs one question for each filter.
         ensures steps { steps.new ≡ steps.old + length self.old.filters }
     {
         self.seen[issue.no().0 as usize - 1] = Snapshot::of(issue);
@@ -259,13 +271,16 @@ impl Filters {
         to: Moment,
         steps: &mut Steps<L>,
     )
+        // Nothing but time has passed since the filters looked last.
         requires issues { histories_of issues.now ≡ self.old.histories }
         requires around { surroundings_of context.now ≡ self.old.around }
         requires later { self.old.moment ≤ to }
+        // They have seen the later moment now, and all else as before.
         ensures filters { self.new.filters ≡ self.old.filters }
         ensures histories { self.new.histories ≡ self.old.histories }
         ensures around { self.new.around ≡ self.old.around }
         ensures moment { self.new.moment ≡ to }
+        // It costs one question for each cell that was due then.
         ensures steps { steps.new ≡ steps.old + due self.old.views to }
     {
         catch_up(&mut self.views, &self.list, issues, context, to, steps);
@@ -291,15 +306,19 @@ impl Filters {
         at: Moment,
         steps: &mut Steps<L>,
     )
+        // Nothing but that sprint's phase has changed since the filters looked last, and only
+        // issues that hold the sprint in their field can tell.
         requires differ { DifferInOneSprint self.old.around (surroundings_of context.now) sprint }
         requires issues { histories_of issues.now ≡ self.old.histories }
         requires numbered { AreNumbered self.old.histories }
         requires hold { HoldOneSprint self.old.histories sprint }
         requires moment { at ≡ self.old.moment }
+        // They have seen the phase now, and all else as before.
         ensures filters { self.new.filters ≡ self.old.filters }
         ensures histories { self.new.histories ≡ self.old.histories }
         ensures around { self.new.around ≡ surroundings_of context.now }
         ensures moment { self.new.moment ≡ self.old.moment }
+        // It costs one question for each filter and each issue in the sprint.
         ensures steps { steps.new ≡ steps.old
             + sprint_cost (length self.old.filters) sprint.0 self.old.histories }
     {
@@ -324,13 +343,16 @@ impl Filters {
         at: Moment,
         steps: &mut Steps<L>,
     )
+        // Nothing but members of groups has changed since the filters looked last.
         requires differ { DifferInMembers self.old.around (surroundings_of context.now) }
         requires issues { histories_of issues.now ≡ self.old.histories }
         requires moment { at ≡ self.old.moment }
+        // They have seen the members now, and all else as before.
         ensures filters { self.new.filters ≡ self.old.filters }
         ensures histories { self.new.histories ≡ self.old.histories }
         ensures around { self.new.around ≡ surroundings_of context.now }
         ensures moment { self.new.moment ≡ self.old.moment }
+        // It costs one question for each issue and each filter that asks for members.
         ensures steps { steps.new ≡ steps.old
             + members_cost self.old.filters (length self.old.histories) }
     {

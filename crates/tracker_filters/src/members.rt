@@ -72,12 +72,15 @@ pub(crate) fn settle_members<L: Ledger>(
     at: Moment,
     steps: &mut Steps<L>,
 )
+    // Filters stand by their numbers, and each has a cell for each issue.
     requires rising { RiseFrom number 1 filters.now }
     requires rows { numbers_in views.old ≡ map number filters.now }
     requires many { views.old.issues ≡ length issues.now }
     requires few { length issues.now < 2 ^ 32 }
+    // Cells of the filters that ask for members are right, and all others as before.
     ensures settled { SettlesMembers (surroundings_of context.now) at filters.now
         (histories_of issues.now) views.old views.new }
+    // It costs one question for each of these cells.
     ensures steps { steps.new ≡ steps.old + members_cost filters.now (length issues.now) }
 {
     for filter in filters {

@@ -62,12 +62,15 @@ pub(crate) fn settle_sprint<L: Ledger>(
     at: Moment,
     steps: &mut Steps<L>,
 )
+    // Filters stand by their numbers, as issues do, and each has a cell for each issue.
     requires rising { RiseFrom number 1 filters.now }
     requires rows { numbers_in views.old ≡ map number filters.now }
     requires issues { views.old.issues ≡ length issues.now }
     requires numbered { AreNumbered (histories_of issues.now) }
+    // Cells of the issues in the sprint are right, and all others as before.
     ensures settled { SettlesSprint (surroundings_of context.now) at filters.now
         (histories_of issues.now) sprint.0 views.old views.new }
+    // It costs one question for each of these cells.
     ensures steps { steps.new ≡ steps.old
         + sprint_cost (length filters.now) sprint.0 (histories_of issues.now) }
 {
