@@ -19,13 +19,18 @@ pub fn charts_are_of_histories()
 
 /// The same a step at a time, as histories grow or as kept ones are told: from nothing on, group by group, start by start and close by close.
 pub fn steps_of_histories()
+    // Before any group it is that of the histories, and it stays so over numbers that no group has.
     ensures nothing { NothingTold }
     ensures numbers { NumbersPass }
+    // A group may be told where all before it were: the next one of kept histories, a new issue, or
+    // a change of an issue.
     ensures next { NextMayBeTold }
     ensures creation { CreationMayBeTold }
     ensures addition { AdditionMayBeTold }
+    // So may the begin and the end of a sprint, where all groups before it were.
     ensures start { StartMayBegin }
     ensures close { CloseMayEnd }
+    // Room that is made changes nothing of this.
     ensures room { RoomStaysApart }
 {}
 

@@ -55,9 +55,12 @@ impl Progress {
 
     /// Adds a row where the total changes.
     fn add_row(&mut self, total: i64, left: i64, group: &Group)
+        // There is room for a row, so that no memory is taken, and totals are so small that their
+        // difference fits.
         requires room { vec_len self.old.rows < vec_capacity self.old.rows }
         requires total { IsTotal total }
         requires left { IsTotal left }
+        // A row comes exactly where the group changes what remains, and nothing else changes.
         ensures rows { self.new.rows.items
             ≡ self.old.rows.items ++ row_where_changed group.now total left }
         ensures room { vec_capacity self.new.rows ≡ vec_capacity self.old.rows }

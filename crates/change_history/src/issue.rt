@@ -413,13 +413,18 @@ fn put_befores(
     first: u32,
     entries: &[Entry],
 )
+    // There is room for all that may come, so that no memory is taken, and numbers fit 32 bits.
     requires room { vec_len others.old + length entries.now ≤ vec_capacity others.old }
     requires befores { vec_len befores.old + length entries.now ≤ vec_capacity befores.old }
     requires few { first + length entries.now ≤ 2 ^ 32 }
+    // The fields' first and last entries are then those of all entries so far. Each entry takes one
+    // place at most, and no room is lost.
     ensures spots { (record { bounds = bounds.new; others = others.new.items }) ≡ spots_after
         (record { bounds = bounds.old; others = others.old.items }) first entries.now }
     ensures len { vec_len others.new ≤ vec_len others.old + length entries.now }
     ensures capacity { vec_capacity others.old ≤ vec_capacity others.new }
+    // Each entry has a note then: which one of its field came last before it. No room is lost here
+    // either.
     ensures befores_items { befores.new.items ≡ befores.old.items ++ befores_by
         (record { bounds = bounds.old; others = others.old.items }) first entries.now }
     ensures befores_len { vec_len befores.new ≡ vec_len befores.old + length entries.now }

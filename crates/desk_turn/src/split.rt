@@ -12,14 +12,18 @@ impl<V: Kept> Turn<V> {
     ///
     /// The answer leaves room for want of memory, but nothing is taken, and it always succeeds.
     pub fn split(&self, first: &mut Pass<V>, part: u32) -> Result<Pass<V>, Memory>
+        // The pass is the first one of this turn, and has so many calls to give.
         requires turn { IsPassOf self.now first.old }
         requires first { (caller_of first.old ≡ 0) × (1 ≤ part) × (part ≤ left_of first.old) }
+        // There is always a new pass. It has the next number and these calls, and has seen as much
+        // but made no call.
         ensures succeeds { IsOk result }
         ensures turn { IsPassOf self.now first.new × IfOk result (IsPassOf self.now) }
         ensures new { IfOk result (λ pass. (caller_of pass ≡ made_of first.old + 1)
             × (left_of pass ≡ part)) }
         ensures knows { IfOk result (λ pass. (seen pass ≡ seen first.old) × (own pass ≡ [])
             × (lists pass ≡ [])) }
+        // The first pass has given these calls away, counts one pass more, and is else as before.
         ensures gave { (left_of first.new ≡ left_of first.old - part)
             × (made_of first.new ≡ made_of first.old + 1)
             × (out_of first.new ≡ out_of first.old + 1) }

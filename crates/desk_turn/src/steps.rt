@@ -34,8 +34,11 @@ impl<V: Kept> Turn<V> {
     }
 
     fn look(&self, seat: &mut SeatOf<V>) -> u64
+        // The seat is at this turn's table, may make calls, and doesn't hold the value.
         requires table { seat.old.table_id ≡ self.now.table.shared.table_id }
         requires waits { (0 < seat.old.me.0.parts) × (seat.old.me.0.holds ≡ false) }
+        // It stays the same seat. Where the number is its ticket it holds the value, and else
+        // nothing happens to it.
         ensures same { (seat.new.table_id ≡ seat.old.table_id) × (seat.new.id ≡ seat.old.id) }
         ensures turn { seat.old.me.0.ticket ≡ Some result
             → Takes V.history V.origin seat.old.me seat.new.me }

@@ -19,13 +19,18 @@ impl<V: Kept> Turn<V> {
         caller: u32,
         ask: &V::Ask,
     ) -> Result<Option<V::Told>, Memory>
+        // The seat is at this turn's table, rests there, and may make one call more.
         requires table { seat.old.table_id ≡ self.now.table.shared.table_id }
         requires rests { Rests seat.old.me.0 × (seat.old.me.1 ≡ []) }
         requires may { (seat.old.me.0.caller ≡ caller) × (0 < seat.old.me.0.left) }
+        // It is the same seat, and carries nothing away.
         ensures same { (seat.new.table_id ≡ seat.old.table_id) × (seat.new.id ≡ seat.old.id)
             × (seat.new.me.1 ≡ []) }
+        // A call that is answered stands last in the history, as the seat sees it.
         ensures told { IfTold result (λ told. Told
             seat.old.me.0 (record { by = caller; ask = ask.now; told = told }) seat.new.me.0) }
+        // Where a look has nothing to tell, or memory is wanting, nothing is entered; the call is
+        // used up all the same.
         ensures look { IfNothing result (V.is_look ask.now ≡ true) }
         ensures nothing { IfNothing result (seat.new.me.0 ≡ passed seat.old.me.0) }
         ensures memory { OnErr result (seat.new.me.0 ≡ passed seat.old.me.0) }
@@ -67,18 +72,24 @@ impl<V: Kept> Turn<V> {
         pass: &mut Pass<V>,
         ask: &V::Ask,
     ) -> Result<Option<V::Told>, Memory>
+        // The pass is one of this turn, and may make one call more.
         requires turn { IsPassOf self.now pass.old }
         requires may { 0 < left_of pass.old }
+        // Whatever the answer is, that call is used up.
         ensures turn { IsPassOf self.now pass.new }
         ensures left { left_of pass.new ≡ left_of pass.old - 1 }
+        // A call that is answered stands last in the history, as the pass sees it, and last among
+        // its own.
         ensures told { IfTold result (λ told. IsEntered
             (record { by = caller_of pass.old; ask = ask.now; told = told })
             (seen pass.old) (own pass.old) (seen pass.new) (own pass.new)) }
+        // Where a look has nothing to tell, or memory is wanting, nothing is entered.
         ensures look { IfNothing result (V.is_look ask.now ≡ true) }
         ensures nothing { IfNothing result
             ((seen pass.new ≡ seen pass.old) × (own pass.new ≡ own pass.old)) }
         ensures memory { OnErr result ((seen pass.new ≡ seen pass.old)
             × (own pass.new ≡ own pass.old)) }
+        // Its number stays, and so does what it has of the passes that were split off.
         ensures stands { (caller_of pass.new ≡ caller_of pass.old)
             × (made_of pass.new ≡ made_of pass.old)
             × (out_of pass.new ≡ out_of pass.old) × (lists pass.new ≡ lists pass.old) }

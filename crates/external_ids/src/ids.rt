@@ -82,11 +82,14 @@ impl ExternalIds {
 
     /// Puts in the external id of an issue behind all that have one; its text is given too. It takes no memory and can't fail.
     pub fn add(&mut self, external: ExternalId, id: String)
+        // Room was made, and the text is that of the id.
         requires room { 1 ≤ self.old.room }
         requires same { string_bytes id ≡ external.id }
+        // No issue has the id yet, and the one that gets it comes behind all that have one.
         requires free { external_named external.id self.old.ids ≡ None }
         requires last { All (λ e. e.no.0 < external.no.0) self.old.ids }
         requires positive { 1 ≤ external.no.0 }
+        // The id is found from now on, and there is room for one less.
         ensures ids { self.new.ids ≡ put_by_number external_number external self.old.ids }
         ensures room { self.new.room ≡ self.old.room - 1 }
     {

@@ -185,7 +185,10 @@ impl Setup {
 
     #[tactic(auto, unfolding(setup_reading::specs::Reading::kept_in))]
     fn of(alloc: Global, text: &str, reading: Reading) -> Result<Setup, Memory>
+        // Draft and numbers are what the text says.
         requires reads { setup_in text.now ≡ Ok (parts_of reading.draft reading.numbers) }
+        // They are sound: there is not too much of anything, the calendar is the one that the
+        // offsets give, and no group or project is missing.
         requires small { IsSmall reading.draft }
         requires clock { reading.draft.steps ≡ steps_of reading.draft.head.utc_offset_minutes
             (day_number reading.draft.head.week_starts) reading.draft.steps.offsets }
@@ -193,6 +196,7 @@ impl Setup {
             ≡ length reading.draft.tables.groups }
         requires projects { length reading.numbers.tables.projects
             ≡ length reading.draft.tables.projects }
+        // The setup says the same, and keeps the text as it was.
         ensures parts { IfOk result (λ setup. setup_in text.now ≡ Ok (parts setup)) }
         ensures text { IfOk result (λ setup. setup.text ≡ text.now) }
     {

@@ -44,12 +44,15 @@ impl TableNames {
         fields: &[Field],
         tables: &ResolvedTables,
     ) -> Result<TableNames, Memory>
+        // Names stand as their tables do, so that the place of a name is that of what it names.
+        // Projects go by their keys.
         ensures statuses { IfOk result (λ names. names.statuses ≡ map (λ s. s.name) statuses.now) }
         ensures groups { IfOk result (λ names. names.groups ≡ map (λ g. g.name) tables.now.groups) }
         ensures projects { IfOk result
             (λ names. names.projects ≡ map (λ p. p.key) tables.now.projects) }
         ensures transitions { IfOk result
             (λ names. names.transitions ≡ map (λ t. t.name) tables.now.transitions) }
+        // Of fields there are two: their own names, and for each the names of its options.
         ensures fields { IfOk result (λ names. names.fields ≡ map (λ f. f.name) fields.now) }
         ensures options { IfOk result (λ names. names.options ≡ map (λ f. f.options) fields.now) }
     {

@@ -51,6 +51,7 @@ impl Sink for MemorySink {
     ghost faults = { λ s. s.faults };
 
     fn write(&mut self, piece: &[u8]) -> Result<usize, Failed>
+        // What each sink does.
         requires { 0 < length piece.now }
         ensures some { IfOk result (λ n. 0 < n) }
         ensures bound { WritesAtMost result piece.now }

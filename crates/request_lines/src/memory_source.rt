@@ -69,6 +69,7 @@ impl Source for MemorySource {
     ghost faults = { λ s. s.faults };
 
     fn read(&mut self, room: &mut [u8]) -> Result<usize, Failed>
+        // What each source does.
         requires { 0 < length room.old }
         ensures bound { ReadsAtMost result room.new }
         ensures bytes { ReadConsumes (Some (drop self.old.at self.old.bytes.items))

@@ -95,11 +95,15 @@ fn answer_each<R: Responder, S: Source, T: Sink>(
     input: &mut S,
     out: &mut T,
 ) -> End
+    // Nothing was read yet, and no answer waits.
     requires unread { reader.old ≡ [] }
     requires none { waiting.old.items ≡ [] }
+    // Where it is known what the source has left: lines were answered in order, and how it ended
+    // says up to which.
     ensures run { IfSome (S.left input.old)
         (λ bytes. Ends R.answers responder.old bytes (S.left input.new) (T.taken out.old)
         (T.taken out.new) result responder.new) }
+    // It ends with a failure only where source or sink had one.
     ensures read_cause { result ≡ End.ReadFault → Rose (S.faults input.old) (S.faults input.new) }
     ensures write_cause { result ≡ End.WriteFault → Rose (T.faults out.old) (T.faults out.new) }
     ensures read_later { S.faults input.old ≤ S.faults input.new }

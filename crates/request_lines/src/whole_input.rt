@@ -25,11 +25,15 @@ pub fn read_whole<S: Source>(
     source: &mut S,
     most: usize,
 ) -> Result<Vec<u8>, InputFault>
+    // The limit is one of 32 bits.
     requires { most < 2 ^ 32 }
+    // It has all bytes up to the end, and no more than the limit.
     ensures whole { IfOk result (λ bytes. Consumes (S.left source.old)
         (S.left source.new) bytes.items) }
     ensures end { IfOk result (λ bytes. IsAtEnd (S.left source.new)) }
     ensures within { IfOk result (λ bytes. length bytes.items ≤ most) }
+    // It refuses for its length only what is longer, and tells a failure only where the source had
+    // one.
     ensures long { result ≡ Err InputFault.TooLong
         → IfSome (S.left source.old) (λ bytes. most < length bytes) }
     ensures failed { result ≡ Err InputFault.Failed

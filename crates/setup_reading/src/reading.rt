@@ -132,10 +132,13 @@ fn read_table(alloc: Global, table: &Table) -> Result<Reading, SetupFault>
 /// What a setup's text says, or its first fault.
 #[tactic(auto, unfolding(crate::specs::Reading::setup_in, crate::specs::Reading::parts_or_fault, crate::specs::Reading::parts_in))]
 pub fn read_text(alloc: Global, text: &str) -> Result<Reading, SetupFault>
+    // But for want of memory, the text alone decides.
     ensures ok { IfOk result (λ reading. setup_in text.now
         ≡ Ok (parts_of reading.draft reading.numbers)) }
     ensures err { IfErr result (λ fault. fault ≢ SetupFault.Memory
         → setup_in text.now ≡ Err fault) }
+    // What was read is sound: there is not too much of anything, the calendar is the one that the
+    // offsets give, and no group or project of the draft is missing.
     ensures small { IfOk result (λ reading. IsSmall reading.draft) }
     ensures clock { IfOk result (λ reading. reading.draft.steps
         ≡ steps_of reading.draft.head.utc_offset_minutes

@@ -126,10 +126,15 @@ impl<T: Copy, const N: usize> Kept<T, N> {
     }
 
     fn insert(&mut self, alloc: Global, place: usize, item: T) -> Result<(), Memory>
+        // The place is in the list or at its end, and items are apart only if they are many.
         requires place { place ≤ length (kept_items self.old) }
         requires apart { AreApartIfMany N self.old }
+        // The item stands there then. As long as there are few it never fails, since they take no
+        // memory.
         ensures ok { OnOk result (kept_items self.new ≡ insert (kept_items self.old) place item) }
         ensures few { length (kept_items self.old) < N → IsOk result }
+        // Items stay apart only if they are many, and where memory is wanting the list is as it
+        // was.
         ensures apart { AreApartIfMany N self.new }
         ensures err { OnErr result (kept_items self.new ≡ kept_items self.old) }
     {

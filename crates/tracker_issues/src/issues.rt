@@ -151,15 +151,19 @@ impl Issues {
 
     /// Puts an issue of a project at the end, whose key's text and text bytes are given too. It takes no memory.
     pub fn push(&mut self, project: ProjectNo, key: String, issue: Issue, bytes: u64)
+        // Room was made, and the project is there and can count one issue more.
         requires room { 1 ≤ self.old.room }
         requires there { project.0 < length self.old.tally.counts }
         requires countable { IfSome (slice_get self.old.tally.counts project.0)
             (λ n. n + 1 < 2 ^ 32) }
+        // The key's text and the bytes are those of the issue.
         requires key { string_bytes key ≡ issue.history.key }
         requires bytes { bytes ≡ history_bytes issue.history }
+        // Entries and bytes of all issues can still be counted.
         requires few { entries_kept (histories_of self.old.kept) + length issue.history.entries
             < 2 ^ 64 }
         requires light { bytes_kept (histories_of self.old.kept) + bytes < 2 ^ 64 }
+        // The issue stands last, its project counts one more, and there is room for one less.
         ensures kept { self.new.kept ≡ self.old.kept ++ issue ∷ [] }
         ensures counts { IfSome (slice_get self.old.tally.counts project.0) (λ n.
             self.new.tally.counts ≡ slice_set self.old.tally.counts project.0 (n + 1)) }
@@ -194,13 +198,17 @@ impl Issues {
 
     /// Adds a group, whose text bytes are given too, to the issue at a place. It takes no memory.
     pub fn add(&mut self, place: usize, group: Group, bytes: u64)
+        // The issue is there. The bytes are those of the group, and with it all entries and bytes
+        // can still be counted.
         requires there { place < length self.old.kept }
         requires few { entries_kept (histories_of self.old.kept) + length group.entries < 2 ^ 64 }
         requires bytes { bytes ≡ sum_by entry_bytes group.entries }
         requires light { bytes_kept (histories_of self.old.kept) + bytes < 2 ^ 64 }
+        // Room was made for the group, and it may follow on what the issue has.
         requires group { IfSome (slice_get self.old.kept place) (λ i.
             (length group.entries ≤ i.room)
             × MayAdd i.history group.change group.at group.author group.entries) }
+        // The issue has it at its end, and nothing else changes.
         ensures kept { IfSome (slice_get self.old.kept place) (λ i.
             self.new.kept ≡ slice_set self.old.kept place (with_entries i group.entries)) }
         ensures room { self.new.room ≡ self.old.room }

@@ -28,12 +28,16 @@ pub const MOST_SPRINTS: u32 = 1_000;
 
 /// Each limit is the number that its definition says.
 pub fn limits_are_told()
+    // What histories may have, and how many entries one change may bring. Each change group makes
+    // an issue or has an entry of its own, so that there are no more groups than both together.
     ensures issues { MOST_ISSUES ≡ most_issues }
     ensures entries { MOST_ENTRIES ≡ most_entries }
     ensures entries_reserve { ENTRIES_RESERVE ≡ entries_reserve }
     ensures changes { MOST_ISSUES + MOST_ENTRIES ≡ most_changes }
+    // What text they may have, and how much of it a call may bring.
     ensures text_bytes { MOST_TEXT_BYTES ≡ most_text_bytes }
     ensures text_reserve { TEXT_RESERVE ≡ text_reserve }
+    // What stands beside the issues.
     ensures filters { MOST_FILTERS ≡ most_filters }
     ensures boards { MOST_BOARDS ≡ most_boards }
     ensures sprints { MOST_SPRINTS ≡ most_sprints }

@@ -74,12 +74,17 @@ impl Setting {
         members: Sequence<UserNo>,
         asked: Sequence<UserNo>,
     )
+        // The group is there; groups are numbered from 1.
         requires from_one { 1 ≤ group.0 }
         requires there { group.0 ≤ length self.old.setup.group }
+        // Members stand in the setup's order of users, each once, and the same ones are given both
+        // times.
         requires in_order { is_user_list (length self.old.setup.users) members ≡ true }
         requires same { asked ≡ members }
+        // The setup has them, and its text stays as it was read.
         ensures parts { parts self.new.setup ≡ regrouped (parts self.old.setup) group members }
         ensures text { self.new.setup.text ≡ self.old.setup.text }
+        // Queries ask of what the setup has now, and sprints are in the phases that they were in.
         ensures context { surroundings_of self.new.context
             ≡ record (surroundings_in (parts self.new.setup) []) {
               sprints = self.old.context.sprints.items;

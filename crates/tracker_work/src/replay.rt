@@ -40,10 +40,13 @@ pub struct Replay {
 impl Replay {
     /// Goes on to this number, up to which there is no further group.
     pub fn pass(&mut self, origin: &Origin, to: u64)
+        // All up to the number that was reached has been told.
         requires origin { MayBeLoaded (seen_in origin.now) }
         requires replayed { IsReplayed (seen_in origin.now) self.old }
+        // From there up to this number there is no group.
         requires later { self.old.reached ≤ to }
         requires none { HaveNoneBetween (seen_in origin.now).histories self.old.reached to }
+        // All up to this number has been told then, with the starts and closes on the way.
         ensures replayed { IsReplayed (seen_in origin.now) self.new }
         ensures reached { self.new.reached ≡ to }
     {
@@ -66,12 +69,15 @@ impl Replay {
 
     /// Takes in the next group.
     pub fn tell(&mut self, origin: &Origin, told: &Told) -> Result<(), Memory>
+        // All up to the number that was reached has been told.
         requires origin { MayBeLoaded (seen_in origin.now) }
         requires replayed { IsReplayed (seen_in origin.now) self.old }
+        // The group is the next one of the histories.
         requires later { self.old.reached < told.now.change }
         requires none { HaveNoneBetween (seen_in origin.now).histories
             self.old.reached (told.now.change - 1) }
         requires told { IsTold (seen_in origin.now) told.now }
+        // All up to this group has been told then, with the starts and closes before and after it.
         ensures replayed { OnOk result (IsReplayed (seen_in origin.now) self.new) }
         ensures reached { OnOk result (self.new.reached ≡ told.now.change) }
     {
@@ -157,11 +163,14 @@ fn begin_all(burndown: &mut Burndown, origin: &Origin, number: u64)
 
 /// Begins the sprint, where it started after this group.
 fn begin_one(burndown: &mut Burndown, origin: &Origin, sprint: SprintNo, number: u64)
+    // The sprint is there, and each one has room.
     requires origin { MayBeLoaded (seen_in origin.now) }
     requires there { IsThere (seen_in origin.now).sprints sprint.0 }
     requires reserved { AreReserved (seen_in origin.now) burndown.old }
+    // Of the sprints that started after this group, those of smaller numbers have begun already.
     requires charts { IsChartedWithin (seen_in origin.now) number burndown.old
         (state_before number) (state_begun number) sprint.0 }
+    // Now this one has too, and there is as much room as before.
     ensures charts { IsChartedWithin (seen_in origin.now) number burndown.new
         (state_before number) (state_begun number) (sprint.0 + 1) }
     ensures room { HasSameSlots burndown.old burndown.new }
