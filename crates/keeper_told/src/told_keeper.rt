@@ -75,14 +75,19 @@ fn counted<X>(done: Result<X, KeepFault>, faults: &mut u64) -> Result<X, KeepFau
 
 // All operations, or none.
 fn commit_all<S: Alter>(conn: &mut Connection<S>, ops: &[RowOp]) -> Result<(), KeepFault>
+    // Numbers fit the table's column, and no transaction is open.
     requires numbers { All (λ op. number_of op < 2 ^ 63) ops.now }
     requires idle { conn.old.in_transaction ≡ false }
+    // No transaction stays open, and no doubt about the disk is forgotten.
     ensures idle { conn.new.in_transaction ≡ false }
     ensures clean { HasCleanDisk (state S.Store conn.new) → HasCleanDisk (state S.Store conn.old) }
+    // Where it succeeds all operations are carried out, and else none is.
     ensures done { (rows : Rows) → IsKeeping (state S.Store conn.old) rows
         → OnOk result (IsKeeping (state S.Store conn.new) (with_ops ops.now rows)) }
     ensures undone { (rows : Rows) → IsKeeping (state S.Store conn.old) rows
         → OnErr result (IsKeeping (state S.Store conn.new) rows) }
+    // Once it has succeeded a crash leaves just the rows after it, and else these or what it could
+    // leave before. Where a fault had shut the connection already, it leaves nothing new.
     ensures left { HasCleanDisk (state S.Store conn.new) → (rows : Rows)
         → IsKeeping (state S.Store conn.old) rows
         → OnOk result (LeavesJust (state S.Store conn.new) (with_ops ops.now rows)) }
@@ -93,6 +98,7 @@ fn commit_all<S: Alter>(conn: &mut Connection<S>, ops: &[RowOp]) -> Result<(), K
     ensures shut { HasCleanDisk (state S.Store conn.new) → (state S.Store conn.old).is_open ≡ false
         → 0 < length ops.now
         → LeavesAsBefore (state S.Store conn.old) (state S.Store conn.new) }
+    // The same, in the words of each keeper.
     ensures left_ok { (rows : Rows) → IsKeeping (state S.Store conn.old) rows
         → OnOk result
         (IsLeaving (state S.Store conn.new) (with_ops ops.now rows) (with_ops ops.now rows)) }
@@ -120,6 +126,7 @@ impl<S: Alter> Keeper for ToldKeeper<S> {
     ghost leaves = { λ k. IsLeaving (state S.Store k.conn) };
 
     fn commit(&mut self, ops: &[RowOp]) -> Result<(), KeepFault>
+        // What each keeper does.
         requires numbers { All (λ op. number_of op < 2 ^ 63) ops.now }
         ensures cause { HasKeepCause self.old.faults self.new.faults result }
         ensures told { HasCleanDisk (state S.Store self.new.conn)
@@ -159,6 +166,7 @@ impl<S: Alter> Keeper for ToldKeeper<S> {
     }
 
     fn rows(&mut self) -> Result<Vec<Row>, KeepFault>
+        // What each keeper does.
         ensures cause { HasKeepCause self.old.faults self.new.faults result }
         ensures told { HasCleanDisk (state S.Store self.new.conn)
             → HasCleanDisk (state S.Store self.old.conn) }

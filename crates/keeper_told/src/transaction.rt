@@ -14,13 +14,18 @@ use tracker_keeper::RowOp;
 
 // Makes the table where it is lacking.
 fn make_first<S: Alter>(tx: &mut Transaction<'_, S>, lacks: bool) -> Result<(), Error>
+    // The database is empty or has just our table. A transaction is open, and the connection stays
+    // the same one.
     requires ours { IsOurs (state S.Store tx.old.conn.now).now.schema lacks }
     requires open { HasCleanDisk (state S.Store tx.old.conn.now)
         → IsTrue tx.old.conn.now.in_transaction }
     ensures same_reference { tx.new.conn.ghost_name ≡ tx.old.conn.ghost_name }
+    // The table is there then, with the rows that there were.
     ensures made { HasCleanDisk (state S.Store tx.new.conn.now) → (rows : Rows)
         → Stores (state S.Store tx.old.conn.now).now rows
         → OnOk result (IsTable (state S.Store tx.new.conn.now).now rows) }
+    // It commits nothing, and where it succeeds the transaction stays open. On a connection that a
+    // fault has shut it makes no table. A crash leaves what it could leave before.
     ensures inside { HasCleanDisk (state S.Store tx.new.conn.now)
         → StaysInside (state S.Store tx.old.conn.now) (state S.Store tx.new.conn.now) result }
     ensures ran { HasCleanDisk (state S.Store tx.new.conn.now) → lacks ≡ true
@@ -37,14 +42,20 @@ fn make_first<S: Alter>(tx: &mut Transaction<'_, S>, lacks: bool) -> Result<(), 
 
 // Makes the table where it is lacking, and carries out all operations.
 fn carry_all<S: Alter>(tx: &mut Transaction<'_, S>, lacks: bool, ops: &[RowOp]) -> Result<(), Error>
+    // The database is empty or has just our table, and numbers fit its column. A transaction is
+    // open, and the connection stays the same one.
     requires ours { IsOurs (state S.Store tx.old.conn.now).now.schema lacks }
     requires numbers { All (λ op. number_of op < 2 ^ 63) ops.now }
     requires open { HasCleanDisk (state S.Store tx.old.conn.now)
         → IsTrue tx.old.conn.now.in_transaction }
     ensures same_reference { tx.new.conn.ghost_name ≡ tx.old.conn.ghost_name }
+    // The table has the rows that all operations leave.
     ensures done { HasCleanDisk (state S.Store tx.new.conn.now) → (rows : Rows)
         → Stores (state S.Store tx.old.conn.now).now rows
         → OnOk result (IsTable (state S.Store tx.new.conn.now).now (with_ops ops.now rows)) }
+    // It commits nothing, and where it succeeds the transaction stays open. On a connection that a
+    // fault has shut it fails, unless there is nothing to run. A crash leaves what it could leave
+    // before.
     ensures inside { HasCleanDisk (state S.Store tx.new.conn.now)
         → StaysInside (state S.Store tx.old.conn.now) (state S.Store tx.new.conn.now) result }
     ensures ran { HasCleanDisk (state S.Store tx.new.conn.now) → 0 < length ops.now
@@ -63,9 +74,13 @@ fn carry_all<S: Alter>(tx: &mut Transaction<'_, S>, lacks: bool, ops: &[RowOp]) 
 
 // Carries out all operations in one transaction, or none.
 fn carry_out<S: Alter>(conn: &mut Connection<S>, lacks: bool, ops: &[RowOp]) -> Result<(), Error>
+    // The database is empty or has just our table, numbers fit its column, and no transaction is
+    // open.
     requires ours { IsOurs (state S.Store conn.old).now.schema lacks }
     requires numbers { All (λ op. number_of op < 2 ^ 63) ops.now }
     requires idle { conn.old.in_transaction ≡ false }
+    // No transaction stays open. Where it succeeds, all operations are carried out and committed,
+    // on a connection that no fault had shut.
     ensures idle { conn.new.in_transaction ≡ false }
     ensures done { HasCleanDisk (state S.Store conn.new) → (rows : Rows)
         → Stores (state S.Store conn.old).now rows
@@ -74,8 +89,11 @@ fn carry_out<S: Alter>(conn: &mut Connection<S>, lacks: bool, ops: &[RowOp]) -> 
         → OnOk result ((state S.Store conn.new).committed ≡ (state S.Store conn.new).now) }
     ensures open { HasCleanDisk (state S.Store conn.new)
         → OnOk result (IsTrue (state S.Store conn.old).is_open) }
+    // Where it fails, the connection is back at its last commit.
     ensures undone { HasCleanDisk (state S.Store conn.new)
         → OnErr result (IsUndone (state S.Store conn.old) (state S.Store conn.new)) }
+    // Once it has succeeded a crash leaves just the rows after it, and else these or what it could
+    // leave before. Where a fault had shut the connection already, it leaves nothing new.
     ensures left { HasCleanDisk (state S.Store conn.new) → (rows : Rows)
         → Stores (state S.Store conn.old).now rows
         → OnOk result (LeavesJust (state S.Store conn.new) (with_ops ops.now rows)) }
@@ -100,15 +118,21 @@ pub(crate) fn commit<S: Alter>(
     lacks: bool,
     ops: &[RowOp],
 ) -> Result<(), Error>
+    // The database is empty or has just our table, numbers fit its column, and no transaction is
+    // open.
     requires ours { IsOurs (state S.Store conn.old).now.schema lacks }
     requires numbers { All (λ op. number_of op < 2 ^ 63) ops.now }
     requires idle { conn.old.in_transaction ≡ false }
+    // No transaction stays open, and no doubt about the disk is forgotten.
     ensures idle { conn.new.in_transaction ≡ false }
     ensures clean { HasCleanDisk (state S.Store conn.new) → HasCleanDisk (state S.Store conn.old) }
+    // Where it succeeds all operations are carried out, and else none is.
     ensures done { (rows : Rows) → IsKeeping (state S.Store conn.old) rows
         → OnOk result (IsKeeping (state S.Store conn.new) (with_ops ops.now rows)) }
     ensures undone { (rows : Rows) → IsKeeping (state S.Store conn.old) rows
         → OnErr result (IsKeeping (state S.Store conn.new) rows) }
+    // Once it has succeeded a crash leaves just the rows after it, and else these or what it could
+    // leave before. Where a fault had shut the connection already, it leaves nothing new.
     ensures left { HasCleanDisk (state S.Store conn.new) → (rows : Rows)
         → IsKeeping (state S.Store conn.old) rows
         → OnOk result (LeavesJust (state S.Store conn.new) (with_ops ops.now rows)) }
@@ -125,15 +149,21 @@ pub(crate) fn commit<S: Alter>(
 
 /// Makes the table where it is lacking, in a transaction of its own.
 pub(crate) fn make_alone<S: Alter>(conn: &mut Connection<S>, lacks: bool) -> Result<(), Error>
+    // The database is empty or has just our table, and no transaction is open.
     requires ours { IsOurs (state S.Store conn.old).now.schema lacks }
     requires idle { conn.old.in_transaction ≡ false }
+    // No transaction stays open, and no doubt about the disk is forgotten.
     ensures idle { conn.new.in_transaction ≡ false }
     ensures clean { HasCleanDisk (state S.Store conn.new) → HasCleanDisk (state S.Store conn.old) }
+    // The table is there then. Where it was there already nothing is done, and rows stay either
+    // way.
     ensures made { HasCleanDisk (state S.Store conn.new)
         → OnOk result ((state S.Store conn.new).now.schema ≡ kept_schema) }
     ensures there { lacks ≡ false → conn.new ≡ conn.old }
     ensures same { (rows : Rows) → IsKeeping (state S.Store conn.old) rows
         → IsKeeping (state S.Store conn.new) rows }
+    // A crash may leave nothing new but the table without a row, and not even that where a fault
+    // has shut the connection.
     ensures crash { HasCleanDisk (state S.Store conn.new)
         → LeavesOrMakes (state S.Store conn.old) (state S.Store conn.new) }
     ensures shut { HasCleanDisk (state S.Store conn.new) → (state S.Store conn.old).is_open ≡ false

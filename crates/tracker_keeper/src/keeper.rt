@@ -32,12 +32,18 @@ pub trait Keeper {
     /// Carries out all operations in order, as one, or none. Once that is acknowledged a crash leaves just the rows after it. Where it
     /// is refused, a crash leaves what it could leave before, or the rows after it: never a part of them.
     fn commit(&mut self, ops: &[RowOp]) -> Result<(), KeepFault>
+        // Numbers fit a signed column of 64 bits.
         requires numbers { All (λ op. number_of op < 2 ^ 63) ops.now }
+        // It tells a failure only where it had one, and a keeper that can't tell what it keeps
+        // can't later.
         ensures cause { HasKeepCause (faults self.old) (faults self.new) result }
         ensures told { tells self.new → tells self.old }
+        // The rows are those after all operations, or those before.
         ensures done { (rows : Rows) → keeps self.old rows
             → OnOk result (keeps self.new (with_ops ops.now rows)) }
         ensures undone { (rows : Rows) → keeps self.old rows → OnErr result (keeps self.new rows) }
+        // A crash leaves what it could leave before, or the rows after it; once it is acknowledged,
+        // just these.
         ensures left_ok { (rows : Rows) → keeps self.old rows
             → OnOk result (leaves self.new (with_ops ops.now rows) (with_ops ops.now rows)) }
         ensures left_err { 0 < length ops.now → (rows other : Rows) → keeps self.old rows

@@ -42,10 +42,13 @@ impl MemoryKeeper {
 
     // Counts a call, and a fault where the call is one that fails.
     fn fails(&mut self) -> bool
+        // It fails exactly at the calls that it was told.
         ensures fails { IsTrue result ↔ FailsAt self.old.failing.items (next_call self.old.calls) }
+        // Only such a call counts as a fault, and the count never falls.
         ensures rose { IsTrue result → self.new.faults ≡ min (self.old.faults + 1) (2 ^ 64 - 1) }
         ensures same { result ≡ false → self.new.faults ≡ self.old.faults }
         ensures later { self.old.faults ≤ self.new.faults }
+        // Each call is counted, and all else stays.
         ensures counted { self.new.calls ≡ next_call self.old.calls }
         ensures failing { self.new.failing.items ≡ self.old.failing.items }
         ensures rows { self.new.rows ≡ self.old.rows }
@@ -71,6 +74,7 @@ impl Keeper for MemoryKeeper {
 
     #[tactic(auto, using(crate::proofs::Placing::ops_kept, crate::proofs::Placing::rows_kept))]
     fn commit(&mut self, ops: &[RowOp]) -> Result<(), KeepFault>
+        // What each keeper does.
         requires numbers { All (λ op. number_of op < 2 ^ 63) ops.now }
         ensures cause { HasKeepCause self.old.faults self.new.faults result }
         ensures told { Unit {0} → Unit {0} }
@@ -103,6 +107,7 @@ impl Keeper for MemoryKeeper {
 
     #[tactic(auto, using(crate::proofs::Placing::same_listing))]
     fn rows(&mut self) -> Result<Vec<Row>, KeepFault>
+        // What each keeper does.
         ensures cause { HasKeepCause self.old.faults self.new.faults result }
         ensures told { Unit {0} → Unit {0} }
         ensures rows { Unit {0} → (rows : Rows) → AreRowsOf rows self.old.rows.places
@@ -111,6 +116,7 @@ impl Keeper for MemoryKeeper {
             → AreRowsOf rows self.new.rows.places }
         ensures left { (rows other : Rows) → AreRowsOf rows self.old.rows.places → Unit {0}
             → Unit {0} }
+        // It fails exactly at the calls that it was told.
         ensures fails { (result ≡ Err KeepFault.Failed)
             ↔ FailsAt self.old.failing.items (next_call self.old.calls) }
         ensures counted { self.new.calls ≡ next_call self.old.calls }

@@ -40,6 +40,7 @@ impl Keeper for NeverFails {
 
     #[tactic(auto, using(crate::proofs::Placing::ops_kept, crate::proofs::Placing::rows_kept))]
     fn commit(&mut self, ops: &[RowOp]) -> Result<(), KeepFault>
+        // What each keeper does. There is nothing to say of a crash, which leaves nothing of it.
         requires numbers { All (λ op. number_of op < 2 ^ 63) ops.now }
         ensures cause { HasKeepCause 0 0 result }
         ensures told { Unit {0} → Unit {0} }
@@ -51,6 +52,7 @@ impl Keeper for NeverFails {
         ensures left_err { 0 < length ops.now → (rows other : Rows)
             → AreRowsOf rows self.old.rows.places → Unit {0}
             → OnErr result (Unit {0} ⊎ Unit {0}) }
+        // Only memory may be wanting.
         ensures never { IfErr result (λ fault. fault ≡ KeepFault.Memory) }
     {
         match self.rows.commit(ops) {
@@ -61,6 +63,7 @@ impl Keeper for NeverFails {
 
     #[tactic(auto, using(crate::proofs::Placing::same_listing))]
     fn rows(&mut self) -> Result<Vec<Row>, KeepFault>
+        // What each keeper does. There is nothing to say of a crash, which leaves nothing of it.
         ensures cause { HasKeepCause 0 0 result }
         ensures told { Unit {0} → Unit {0} }
         ensures rows { Unit {0} → (rows : Rows) → AreRowsOf rows self.old.rows.places
@@ -69,6 +72,7 @@ impl Keeper for NeverFails {
             → AreRowsOf rows self.new.rows.places }
         ensures left { (rows other : Rows) → AreRowsOf rows self.old.rows.places → Unit {0}
             → Unit {0} }
+        // Only memory may be wanting.
         ensures never { IfErr result (λ fault. fault ≡ KeepFault.Memory) }
     {
         match self.rows.list() {
