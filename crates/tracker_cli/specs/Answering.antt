@@ -1,12 +1,13 @@
 -- A line that a desk answers, and what it has kept then.
-use Rattle.std.specs.Prelude.{◌≡◌, ℕ, List, false, Result, Ok, OnOk}
+use Rattle.std.specs.Prelude.{◌≡◌, ℕ, List, [], ◌∷◌, false, Result, Ok, OnOk, Contains}
 use Rattle.call_lines.specs.Asked.{line_of}
 use Rattle.tracker_core.specs.Desk.{DeskParts}
+use Rattle.tracker_core.specs.Left.{LeavesOn}
 use Rattle.tracker_keeper.specs.Rows.{Rows}
 use Rattle.tracker_machine.specs.Kept.{rows_of}
 use Rattle.tracker_calls.specs.declared.reply.Reply.{Reply}
 use Rattle.tracker_machine.specs.Machine.{Machine}
-use Rattle.tracker_runs.specs.Run.{AnswersLine, RepliesTo, failures_at, is_blank, reply_line}
+use Rattle.tracker_runs.specs.Run.{AnswersLine, RepliesTo, asked_next, failures_at, is_blank, reply_line}
 use Rattle.tracker_cli.specs.declared.exec.Asked.{Asked}
 pub use Rattle.tracker_import.specs.Calls.{RoseBy}
 
@@ -23,15 +24,24 @@ pub record HasLine {T E : Type 0} (Is : Reply → Type 0) (result : Result T E)
   pub is : Is reply
   pub line_is : OnOk result (text ≡ reply_line reply)
 
--- the line is answered as the abstract tracker answers it; the keeper has the tracker's rows then, if it had them before; and
--- where the line is answered that the keeper failed, its count rose
+-- the tracker with one line more, which is one of these
+abbrev pub IsWithLine : List (List ℕ) → Machine → Machine → Type 0
+IsWithLine lines m later =
+    (line : List ℕ) × Contains lines line × (later ≡ asked_next m (line_of line))
+
+-- the line is answered as the abstract tracker answers it; the keeper has the tracker's rows then, if it had them before; what a
+-- crash leaves has them too, or those of the tracker with this line, or it is what might be left before; and where the line is
+-- answered that the keeper failed, its count rose
 pub record AnswersKept {P : Type 0} (keeps : P → Rows → Type 0) (tells : P → Type 0)
-    (faults : P → ℕ) (old : DeskParts P) (line text : List ℕ) (new : DeskParts P) : Type 0 where
+    (faults : P → ℕ) (leaves : P → Rows → Rows → Type 0) (old : DeskParts P) (line text : List ℕ)
+    (new : DeskParts P) : Type 0 where
   pub failures : ℕ
   pub answered : AnswersLine old.machine line text new.machine failures
   pub rows : keeps old.keeper (rows_of old.machine) → keeps new.keeper (rows_of new.machine)
   pub told : tells new.keeper → tells old.keeper
   pub counted : RoseBy (faults old.keeper) (faults new.keeper) failures
+  pub left : keeps old.keeper (rows_of old.machine)
+      → LeavesOn leaves (IsWithLine (line ∷ [])) old.keeper old.machine new.keeper new.machine
 
 -- the text is the line of a reply to the line, under some mark, and nothing is changed, no keeper's count among it
 pub record IsReadReply (m : Machine) (line text : List ℕ) (faults : ℕ) : Type 0 where

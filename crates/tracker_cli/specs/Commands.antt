@@ -125,6 +125,8 @@ pub record ImportedEnd
   pub unopened : status ≡ 4 → (new ≡ old) × Same
   -- a row is bad, which is told
   pub bad : status ≡ 5 → GrewBy old new (IsKeptText Bad) × Same
+  -- at either nothing was read
+  pub unread : (status ≡ 4) ⊎ (status ≡ 5) → after ≡ left
   -- want of memory: a front of the replies was written; or no call was made and nothing was written, with a desk or without one
   pub memory : status ≡ 6 →
       IfSome left (λ bytes. GrewBy old new (Cut (batch_in bytes).calls)) ⊎ ((new ≡ old) × Unmade)

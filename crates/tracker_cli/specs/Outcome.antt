@@ -13,9 +13,11 @@ use Rattle.jql_print.specs.Check.{IsReply}
 use Rattle.tracker_keeper.specs.Rows.{Rows, no_rows}
 use Rattle.tracker_machine.specs.Machine.{Machine, opening}
 use Rattle.tracker_machine.specs.Kept.{rows_of}
+use Rattle.tracker_machine.specs.Tracker.{IsTracker}
 use Rattle.tracker_runs.specs.Run.{IsRun, IsCutRun, requests}
 use Rattle.tracker_core.specs.Desk.{HasNoRow, HasRow, IsOpened}
-use Rattle.tracker_cli.specs.Answering.{RoseBy}
+use Rattle.tracker_core.specs.Left.{LeavesOpened, LeavesWithOne}
+use Rattle.tracker_cli.specs.Answering.{IsWithLine, RoseBy}
 use Rattle.tracker_cli.specs.Numerals.{IsNumberOf}
 use Rattle.tracker_cli.specs.Texts.{kept_line, setup_line}
 
@@ -87,22 +89,24 @@ abbrev pub BeginsIn : {P : Type 0} → (P → Rows → Type 0) → (P → Type 0
 BeginsIn keeps tells setup_text old new m =
     (rows : Rows) → keeps old rows → tells new → IsOpened setup_text rows m
 
+-- of lines, which state is kept behind them, where so many of them were answered that the keeper failed
+abbrev pub IsKeptBehind : Type 1
+IsKeptBehind = List (List ℕ) → Machine → ℕ → Type 0
+
 -- this text is the replies to these lines, from where a run begins, under some marks, and the last state is kept, where so many
 -- lines were answered that the keeper failed
-abbrev pub AreReplies : (Machine → Type 0) → (Machine → ℕ → Type 0) → List (List ℕ) → List ℕ
-    → Type 0
+abbrev pub AreReplies : (Machine → Type 0) → IsKeptBehind → List (List ℕ) → List ℕ → Type 0
 AreReplies Begins Kept all text =
     (start : Machine) × (last : Machine) × (failures : ℕ) × Begins start
-    × IsRun start (requests all) text last failures × Kept last failures
+    × IsRun start (requests all) text last failures × Kept all last failures
 
 -- this text is the replies to the first lines of an input, and then at most a front of the next one's reply; no other call was
 -- made, so that `last` is the state after them, and it is kept; or no desk was opened, and there is no text
-abbrev pub AreCutReplies : (Machine → Type 0) → (Machine → ℕ → Type 0) → Type 0 → List ℕ → List ℕ
-    → Type 0
+abbrev pub AreCutReplies : (Machine → Type 0) → IsKeptBehind → Type 0 → List ℕ → List ℕ → Type 0
 AreCutReplies Begins Kept Unopened bytes text =
     ((text ≡ []) × Unopened)
     ⊎ ((start : Machine) × (last : Machine) × (failures : ℕ) × Begins start
-    × IsCutRun start (lines bytes) text last failures × Kept last failures)
+    × IsCutRun start (lines bytes) text last failures × Kept (lines bytes) last failures)
 
 -- each line, taken as a query, has its reply, one behind another
 abbrev pub AreChecked : List (List ℕ) → List ℕ → Type 0
@@ -132,14 +136,14 @@ pub record AreCutChecks (bytes text : List ℕ) : Type 0 where
   pub text_is : text ≡ whole ++ front
 
 -- this text is what the words' command replies to these lines
-abbrev pub AreRepliesOf : (Machine → Type 0) → (Machine → ℕ → Type 0) → List (List ℕ)
-    → List (List ℕ) → List ℕ → Type 0
+abbrev pub AreRepliesOf : (Machine → Type 0) → IsKeptBehind → List (List ℕ) → List (List ℕ)
+    → List ℕ → Type 0
 AreRepliesOf Begins Kept words all text =
     (IsExec words × AreReplies Begins Kept all text) ⊎ (IsCheck words × AreChecked all text)
 
 -- this text is what it has replied to an input when it is cut short
-abbrev pub AreCutRepliesOf : (Machine → Type 0) → (Machine → ℕ → Type 0) → Type 0 → List (List ℕ)
-    → List ℕ → List ℕ → Type 0
+abbrev pub AreCutRepliesOf : (Machine → Type 0) → IsKeptBehind → Type 0 → List (List ℕ) → List ℕ
+    → List ℕ → Type 0
 AreCutRepliesOf Begins Kept Unopened words bytes text =
     (IsExec words × AreCutReplies Begins Kept Unopened bytes text)
     ⊎ (IsCheck words × AreCutChecks bytes text)
@@ -151,9 +155,26 @@ pub record HasRowsOf {P : Type 0} (keeps : P → Rows → Type 0) (tells : P →
   pub rows : (rows : Rows) → keeps old rows → tells new → keeps new (rows_of m)
   pub counted : RoseBy (faults old) (faults new) failures
 
+-- it has the rows of the state behind these lines, and a crash leaves them, or those of the state with one of the lines more, so far
+-- as it tells its rows, and if a crash left just its rows before
+pub record HasRowsBehind {P : Type 0} (keeps : P → Rows → Type 0) (tells : P → Type 0)
+    (faults : P → ℕ) (leaves : P → Rows → Rows → Type 0) (old new : P) (all : List (List ℕ))
+    (m : Machine) (failures : ℕ) : Type 0 where
+  pub tracker : IsTracker m
+  pub kept : HasRowsOf keeps tells faults old new m failures
+  pub left : (rows : Rows) → keeps old rows → leaves old rows rows → tells new
+      → LeavesWithOne leaves (IsWithLine all) new m
+
 -- it has the rows that it had
 abbrev pub HasItsRows : {P : Type 0} → (P → Rows → Type 0) → P → P → Type 0
 HasItsRows keeps old new = (rows : Rows) → keeps old rows → keeps new rows
+
+-- the same, where no desk was opened; and a crash leaves them, or those of the tracker that they make
+pub record StaysUnopened {P : Type 0} (keeps : P → Rows → Type 0) (tells : P → Type 0)
+    (leaves : P → Rows → Rows → Type 0) (setup_text : List ℕ) (old new : P) : Type 0 where
+  pub rows : HasItsRows keeps old new
+  pub left : (rows : Rows) → keeps old rows → leaves old rows rows → tells new
+      → LeavesOpened leaves setup_text new rows
 
 -- it has a row, so far as it tells its rows
 abbrev pub HasSomeRow : {P : Type 0} → (P → Rows → Type 0) → (P → Type 0) → P → P → Type 0
@@ -244,8 +265,9 @@ pub record LinesEnd
   pub unopened : status ≡ 4 → (new ≡ old) × Same
   -- a row is bad, which is told
   pub bad : status ≡ 5 → GrewBy old new (IsKeptText Bad) × Same
-  -- neither comes of a command that opens no desk
+  -- neither comes of a command that opens no desk, and nothing was read
   pub opens : (status ≡ 4) ⊎ (status ≡ 5) → Opens
+  pub unread : (status ≡ 4) ⊎ (status ≡ 5) → after ≡ left
   -- want of memory: the first lines have their replies, and at most the next one a front of its reply
   pub memory : status ≡ 6 → IfSome left (λ bytes. GrewBy old new (Cut bytes))
   -- a limit is passed: the lines before have their replies, and the limit's text follows

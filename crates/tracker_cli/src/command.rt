@@ -2,7 +2,7 @@
 ghost use Rattle.std.specs.Prelude.{◌≡◌, ◌≤◌, List, ℕ, map, string_bytes};
 ghost use Rattle.request_lines.specs.Causes.{Rose};
 ghost use Rattle.tracker_core.specs.Desk.{HasBadRow};
-ghost use Rattle.tracker_cli.specs.Outcome.{IsExec, IsCheck, IsInit, IsExport, IsImport, IsGenerate, IsGenerateOfSome, IsImportOfSome, IsOfLines, IsCommand, AreRepliesOf, AreCutRepliesOf, BeginsIn, HasRowsOf, HasItsRows, HasSomeRow, IsCreated, UsageEnd, LinesEnd, InitEnd};
+ghost use Rattle.tracker_cli.specs.Outcome.{IsExec, IsCheck, IsInit, IsExport, IsImport, IsGenerate, IsGenerateOfSome, IsImportOfSome, IsOfLines, IsCommand, AreRepliesOf, AreCutRepliesOf, BeginsIn, HasRowsBehind, HasItsRows, StaysUnopened, HasSomeRow, IsCreated, UsageEnd, LinesEnd, InitEnd};
 ghost use Rattle.tracker_cli.specs.Commands.{Stands, IsExported, AreImported, AreCutImported, IsGenerated, IsBegun, ExportedEnd, ImportedEnd, GeneratedEnd};
 
 use crate::export::export;
@@ -38,11 +38,14 @@ pub fn run<S: Source, T: Sink, P: Keeper + Drop>(
     // the rows of the last state.
     ensures lines { IsOfLines (map string_bytes words.now) → LinesEnd
         (AreRepliesOf (BeginsIn P.keeps P.tells BUILT_IN.now keeper result.1)
-        (HasRowsOf P.keeps P.tells P.faults keeper result.1) (map string_bytes words.now))
+        (HasRowsBehind P.keeps P.tells P.faults P.leaves keeper result.1)
+        (map string_bytes words.now))
         (AreCutRepliesOf (BeginsIn P.keeps P.tells BUILT_IN.now keeper result.1)
-        (HasRowsOf P.keeps P.tells P.faults keeper result.1)
-        (HasItsRows P.keeps keeper result.1) (map string_bytes words.now))
-        (IsExec (map string_bytes words.now)) (HasItsRows P.keeps keeper result.1)
+        (HasRowsBehind P.keeps P.tells P.faults P.leaves keeper result.1)
+        (StaysUnopened P.keeps P.tells P.leaves BUILT_IN.now keeper result.1)
+        (map string_bytes words.now))
+        (IsExec (map string_bytes words.now))
+        (StaysUnopened P.keeps P.tells P.leaves BUILT_IN.now keeper result.1)
         (HasBadRow P.keeps P.tells keeper result.1)
         result.0 (S.left input.old) (S.left input.new) (T.taken out.old) (T.taken out.new) }
 
@@ -73,12 +76,13 @@ pub fn run<S: Source, T: Sink, P: Keeper + Drop>(
         (HasItsRows P.keeps keeper result.1) (HasSomeRow P.keeps P.tells keeper result.1)
         result.0 (S.left input.old) (S.left input.new) (T.taken out.old) (T.taken out.new) }
 
-    // Where no desk is opened or made, the keeper has the rows that it had.
+    // Where no desk is opened or made, the keeper has the rows that it had, and a crash leaves what it might leave before.
     ensures untouched { ¬ (IsExec (map string_bytes words.now))
         → ¬ (IsInit (map string_bytes words.now)) →
         ¬ (IsExport (map string_bytes words.now))
         → ¬ (IsImportOfSome (map string_bytes words.now)) →
-        ¬ (IsGenerateOfSome (map string_bytes words.now)) → HasItsRows P.keeps keeper result.1 }
+        ¬ (IsGenerateOfSome (map string_bytes words.now))
+        → StaysUnopened P.keeps P.tells P.leaves BUILT_IN.now keeper result.1 }
 
     // A fault of the outside is told only where the outside counted one.
     ensures read_cause { result.0 ≡ 2 → Rose (S.faults input.old) (S.faults input.new) }

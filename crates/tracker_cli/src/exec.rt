@@ -1,6 +1,7 @@
 // Request lines that a desk answers.
 ghost use Rattle.std.specs.Prelude.{◌≡◌, ◌++◌, ◌∷◌, [], List, ℕ, Ok, IfOk, OnOk};
 ghost use Rattle.tracker_runs.specs.Run.{is_blank, is_blank_byte};
+ghost use Rattle.tracker_machine.specs.Tracker.{IsTracker};
 ghost use Rattle.request_lines.specs.Run.{IsLooked};
 ghost use Rattle.call_lines.specs.Asked.{line_of};
 ghost use Rattle.tracker_cli.specs.Answering.{AnswersKept, AsksFor, HasLine, IsAsked, IsReadReply};
@@ -56,6 +57,13 @@ impl<L: Ledger, P: Keeper + Drop> RequestLines<L, P> {
         }
     }
 
+    /// Its state is a tracker's: contracts may cite what holds of each.
+    pub fn is_tracker(&self)
+        ensures { IsTracker self.now.machine }
+    {
+        self.desk.is_tracker();
+    }
+
     /// Ends it and hands the keeper back, with its rows as they are.
     pub fn close(self) -> P
         ensures { result ≡ self.keeper }
@@ -109,7 +117,7 @@ impl<L: Ledger, P: Keeper + Drop> RequestLines<L, P> {
         call: &Call,
         answer: &mut Vec<u8>,
     ) -> Result<(), AllocError>
-        ensures { HasLine (λ reply. MakesCall P.keeps P.tells P.faults self.old
+        ensures { HasLine (λ reply. MakesCall P.keeps P.tells P.faults P.leaves self.old
             caller.now call.now reply self.new) result answer.new.items }
     {
         let reply = self.desk.call(caller, call, &mut self.steps);
@@ -125,7 +133,7 @@ fn put_show<P: Keeper + Drop>(
     issue: &str,
     answer: &mut Vec<u8>,
 ) -> Result<(), AllocError>
-    ensures { HasLine (λ reply. MakesCall P.keeps P.tells P.faults desk.now
+    ensures { HasLine (λ reply. MakesCall P.keeps P.tells P.faults P.leaves desk.now
         caller.now (Call.Show issue.now) reply desk.now) result answer.new.items }
 {
     match write_show(alloc, desk, caller, issue, answer) {
@@ -137,7 +145,7 @@ fn put_show<P: Keeper + Drop>(
 impl<L: Ledger, P: Keeper + Drop> Responder for RequestLines<L, P> {
     type Change = Asked;
 
-    ghost answers = { AnswersKept P.keeps P.tells P.faults };
+    ghost answers = { AnswersKept P.keeps P.tells P.faults P.leaves };
 
     ghost asks = { AsksFor };
 
@@ -162,7 +170,7 @@ impl<L: Ledger, P: Keeper + Drop> Maker for RequestLines<L, P> {
 
     ghost tells = { tells_parts };
 
-    ghost makes = { MakesCall P.keeps P.tells P.faults };
+    ghost makes = { MakesCall P.keeps P.tells P.faults P.leaves };
 
     fn call(&mut self, caller: &UserName, call: &Call) -> Reply {
         self.desk.call(caller, call, &mut self.steps)

@@ -53,6 +53,7 @@ pub(crate) fn import<S: Source, T: Sink, P: Keeper + Drop>(
     ensures bad { result.0 ≡ 5 → GrewBy (T.taken out.old) (T.taken out.new)
         (IsKeptText (HasBadRow P.keeps P.tells keeper result.1))
         × HasItsRows P.keeps keeper result.1 }
+    ensures unread { (result.0 ≡ 4) ⊎ (result.0 ≡ 5) → S.left input.new ≡ S.left input.old }
     ensures memory { result.0 ≡ 6 →
         IfSome (S.left input.old) (λ bytes. GrewBy (T.taken out.old) (T.taken out.new)
         (AreCutImported P.keeps P.tells P.faults BUILT_IN.now keeper result.1 user.now

@@ -4,7 +4,7 @@ ghost use Rattle.std.specs.Io.KnownBytes.{Appends, Consumes, IsAtEnd};
 ghost use Rattle.request_lines.specs.Causes.{Rose};
 ghost use Rattle.request_lines.specs.Lines.{lines, whole_lines, AreWithinLimits};
 ghost use Rattle.tracker_core.specs.Desk.{HasBadRow, IsOpenFault};
-ghost use Rattle.tracker_cli.specs.Outcome.{IsExec, IsCheck, IsOfLines, AreReplies, AreCutReplies, AreChecked, AreCutChecks, AreRepliesOf, AreCutRepliesOf, BeginsIn, HasRowsOf, HasItsRows, GrewBy, GrewByFront, IsKeptText, IsLimitText, IsCutLimitText, EndsRun};
+ghost use Rattle.tracker_cli.specs.Outcome.{IsExec, IsCheck, IsOfLines, AreReplies, AreCutReplies, AreChecked, AreCutChecks, AreRepliesOf, AreCutRepliesOf, BeginsIn, HasRowsBehind, StaysUnopened, GrewBy, GrewByFront, IsKeptText, IsLimitText, IsCutLimitText, EndsRun};
 
 use crate::bad_row::tell_row;
 use crate::check::Checks;
@@ -33,7 +33,8 @@ pub(crate) fn run_lines<S: Source, T: Sink, P: Keeper + Drop>(
         × AreWithinLimits (lines bytes)
         × GrewBy (T.taken out.old) (T.taken out.new)
         (AreRepliesOf (BeginsIn P.keeps P.tells BUILT_IN.now keeper result.1)
-        (HasRowsOf P.keeps P.tells P.faults keeper result.1) (map string_bytes words.now)
+        (HasRowsBehind P.keeps P.tells P.faults P.leaves keeper result.1)
+        (map string_bytes words.now)
         (lines bytes))) }
     ensures read { result.0 ≡ 2
         → IfSome (S.left input.old) (λ bytes. (read : List ℕ)
@@ -41,36 +42,44 @@ pub(crate) fn run_lines<S: Source, T: Sink, P: Keeper + Drop>(
         × AreWithinLimits (whole_lines read)
         × GrewBy (T.taken out.old) (T.taken out.new)
         (AreRepliesOf (BeginsIn P.keeps P.tells BUILT_IN.now keeper result.1)
-        (HasRowsOf P.keeps P.tells P.faults keeper result.1) (map string_bytes words.now)
+        (HasRowsBehind P.keeps P.tells P.faults P.leaves keeper result.1)
+        (map string_bytes words.now)
         (whole_lines read))) }
     ensures written { result.0 ≡ 3 → IfSome (S.left input.old) (λ bytes.
         GrewBy (T.taken out.old) (T.taken out.new)
         (AreCutRepliesOf (BeginsIn P.keeps P.tells BUILT_IN.now keeper result.1)
-        (HasRowsOf P.keeps P.tells P.faults keeper result.1) (HasItsRows P.keeps keeper result.1)
+        (HasRowsBehind P.keeps P.tells P.faults P.leaves keeper result.1)
+        (StaysUnopened P.keeps P.tells P.leaves BUILT_IN.now keeper result.1)
         (map string_bytes words.now) bytes)
         ⊎ GrewBy (T.taken out.old) (T.taken out.new)
         (IsCutLimitText (AreRepliesOf (BeginsIn P.keeps P.tells BUILT_IN.now keeper result.1)
-        (HasRowsOf P.keeps P.tells P.faults keeper result.1) (map string_bytes words.now)) bytes))
+        (HasRowsBehind P.keeps P.tells P.faults P.leaves keeper result.1)
+        (map string_bytes words.now)) bytes))
         ⊎ (GrewByFront (T.taken out.old) (T.taken out.new)
         (IsKeptText (HasBadRow P.keeps P.tells keeper result.1))
-        × HasItsRows P.keeps keeper result.1) }
+        × StaysUnopened P.keeps P.tells P.leaves BUILT_IN.now keeper result.1) }
     ensures unopened { result.0 ≡ 4
-        → (T.taken out.new ≡ T.taken out.old) × HasItsRows P.keeps keeper result.1 }
+        → (T.taken out.new ≡ T.taken out.old)
+        × StaysUnopened P.keeps P.tells P.leaves BUILT_IN.now keeper result.1 }
     ensures bad { result.0 ≡ 5
         → GrewBy (T.taken out.old) (T.taken out.new)
         (IsKeptText (HasBadRow P.keeps P.tells keeper result.1))
-        × HasItsRows P.keeps keeper result.1 }
+        × StaysUnopened P.keeps P.tells P.leaves BUILT_IN.now keeper result.1 }
     ensures opens { (result.0 ≡ 4) ⊎ (result.0 ≡ 5) → IsExec (map string_bytes words.now) }
+    ensures unread { (result.0 ≡ 4) ⊎ (result.0 ≡ 5) → S.left input.new ≡ S.left input.old }
     ensures memory { result.0 ≡ 6
         → IfSome (S.left input.old) (λ bytes. GrewBy (T.taken out.old) (T.taken out.new)
         (AreCutRepliesOf (BeginsIn P.keeps P.tells BUILT_IN.now keeper result.1)
-        (HasRowsOf P.keeps P.tells P.faults keeper result.1)
-        (HasItsRows P.keeps keeper result.1) (map string_bytes words.now) bytes)) }
+        (HasRowsBehind P.keeps P.tells P.faults P.leaves keeper result.1)
+        (StaysUnopened P.keeps P.tells P.leaves BUILT_IN.now keeper result.1)
+        (map string_bytes words.now) bytes)) }
     ensures limit { result.0 ≡ 7
         → IfSome (S.left input.old) (λ bytes. GrewBy (T.taken out.old) (T.taken out.new)
         (IsLimitText (AreRepliesOf (BeginsIn P.keeps P.tells BUILT_IN.now keeper result.1)
-        (HasRowsOf P.keeps P.tells P.faults keeper result.1) (map string_bytes words.now)) bytes)) }
-    ensures no_desk { ¬ (IsExec (map string_bytes words.now)) → HasItsRows P.keeps keeper result.1 }
+        (HasRowsBehind P.keeps P.tells P.faults P.leaves keeper result.1)
+        (map string_bytes words.now)) bytes)) }
+    ensures no_desk { ¬ (IsExec (map string_bytes words.now))
+        → StaysUnopened P.keeps P.tells P.leaves BUILT_IN.now keeper result.1 }
     ensures read_cause { result.0 ≡ 2 → Rose (S.faults input.old) (S.faults input.new) }
     ensures write_cause { result.0 ≡ 3 → Rose (T.faults out.old) (T.faults out.new) }
     ensures keeper_cause { result.0 ≡ 4 → Rose (P.faults keeper) (P.faults result.1) }
@@ -115,17 +124,20 @@ fn carry_out<L: Ledger, S: Source, T: Sink, P: Keeper + Drop>(
     requires some { 0 < L.parts }
     ensures run { IfOk result (λ r. IfSome (S.left input.old) (λ bytes. EndsRun
         (AreRepliesOf (BeginsIn P.keeps P.tells BUILT_IN.now keeper r.1)
-        (HasRowsOf P.keeps P.tells P.faults keeper r.1) (map string_bytes words.now))
+        (HasRowsBehind P.keeps P.tells P.faults P.leaves keeper r.1) (map string_bytes words.now))
         (AreCutRepliesOf (BeginsIn P.keeps P.tells BUILT_IN.now keeper r.1)
-        (HasRowsOf P.keeps P.tells P.faults keeper r.1)
-        (HasItsRows P.keeps keeper r.1) (map string_bytes words.now))
+        (HasRowsBehind P.keeps P.tells P.faults P.leaves keeper r.1)
+        (StaysUnopened P.keeps P.tells P.leaves BUILT_IN.now keeper r.1)
+        (map string_bytes words.now))
         bytes (S.left input.new) (T.taken out.old) (T.taken out.new) r.0)) }
     ensures unwritten { IfErr result (λ e. T.taken out.new ≡ T.taken out.old) }
+    ensures unread { IfErr result (λ e. S.left input.new ≡ S.left input.old) }
     ensures exec { IfErr result (λ e. IsExec (map string_bytes words.now)) }
-    ensures same { IfErr result (λ e. HasItsRows P.keeps keeper e.1) }
+    ensures same { IfErr result
+        (λ e. StaysUnopened P.keeps P.tells P.leaves BUILT_IN.now keeper e.1) }
     ensures fault { IfErr result (λ e. IsOpenFault (HasBadRow P.keeps P.tells keeper e.1) e.0) }
     ensures no_desk { ¬ (IsExec (map string_bytes words.now))
-        → IfOk result (λ r. HasItsRows P.keeps keeper r.1) }
+        → IfOk result (λ r. StaysUnopened P.keeps P.tells P.leaves BUILT_IN.now keeper r.1) }
     ensures keeper_cause { IfErr result
         (λ e. e.0 ≡ OpenFault.Keeper → Rose (P.faults keeper) (P.faults e.1)) }
     ensures read_cause { IfOk result
@@ -156,13 +168,15 @@ fn exec<L: Ledger, S: Source, T: Sink, P: Keeper + Drop>(
     requires some { 0 < L.parts }
     ensures run { IfOk result (λ r. IfSome (S.left input.old) (λ bytes. EndsRun
         (AreReplies (BeginsIn P.keeps P.tells BUILT_IN.now keeper r.1)
-        (HasRowsOf P.keeps P.tells P.faults keeper r.1))
+        (HasRowsBehind P.keeps P.tells P.faults P.leaves keeper r.1))
         (AreCutReplies (BeginsIn P.keeps P.tells BUILT_IN.now keeper r.1)
-        (HasRowsOf P.keeps P.tells P.faults keeper r.1)
-        (HasItsRows P.keeps keeper r.1))
+        (HasRowsBehind P.keeps P.tells P.faults P.leaves keeper r.1)
+        (StaysUnopened P.keeps P.tells P.leaves BUILT_IN.now keeper r.1))
         bytes (S.left input.new) (T.taken out.old) (T.taken out.new) r.0)) }
     ensures unwritten { IfErr result (λ e. T.taken out.new ≡ T.taken out.old) }
-    ensures same { IfErr result (λ e. HasItsRows P.keeps keeper e.1) }
+    ensures unread { IfErr result (λ e. S.left input.new ≡ S.left input.old) }
+    ensures same { IfErr result
+        (λ e. StaysUnopened P.keeps P.tells P.leaves BUILT_IN.now keeper e.1) }
     ensures fault { IfErr result (λ e. IsOpenFault (HasBadRow P.keeps P.tells keeper e.1) e.0) }
     ensures keeper_cause { IfErr result
         (λ e. e.0 ≡ OpenFault.Keeper → Rose (P.faults keeper) (P.faults e.1)) }
@@ -178,7 +192,9 @@ fn exec<L: Ledger, S: Source, T: Sink, P: Keeper + Drop>(
         Err((fault, keeper)) => return Err((fault, keeper)),
     };
     let mut requests = RequestLines::new(alloc, desk, Steps::<L>::new(blank));
+    requests.is_tracker();
     let end = answer_lines(alloc, &mut requests, input, out);
+    requests.is_tracker();
     Ok((end, requests.leave()))
 }
 

@@ -2,7 +2,7 @@
 ghost use Rattle.std.specs.Prelude.{◌≡◌, ◌≢◌, ◌<◌, ◌≤◌, ◌⊎◌, ℕ, List, [], Some, map, string_bytes, IfSome, IfNone, IsSome};
 ghost use Rattle.request_lines.specs.Causes.{Rose};
 ghost use Rattle.tracker_core.specs.Desk.{HasBadRow};
-ghost use Rattle.tracker_cli.specs.Outcome.{HasItsRows};
+ghost use Rattle.tracker_cli.specs.Outcome.{StaysUnopened};
 ghost use Rattle.tracker_cli.specs.Serving.{IsServe, HasServed};
 
 use crate::exec::RequestLines;
@@ -51,13 +51,14 @@ pub fn serve<R: Wait, K: Links, P: Keeper + Drop>(
     ensures ended { result.0 ≡ 0 → IsSome (K.ahead links) → K.ahead result.1 ≡ Some [] }
     ensures link_cause { result.0 ≡ 2 → Rose (K.faults links) (K.faults result.1) }
     ensures served { (result.0 ≡ 0) ⊎ (result.0 ≡ 2)
-        → HasServed P.keeps P.tells P.faults BUILT_IN.now keeper result.2 }
+        → HasServed P.keeps P.tells P.faults P.leaves BUILT_IN.now keeper result.2 }
 
     // No desk was opened, and the keeper has the rows that it had.
     ensures keeper_cause { result.0 ≡ 4 → Rose (P.faults keeper) (P.faults result.2) }
     ensures bad { result.0 ≡ 5 →
         (kind : ℕ) × (number : ℕ) × HasBadRow P.keeps P.tells keeper result.2 kind number }
-    ensures same { (result.0 ≢ 0) → (result.0 ≢ 2) → HasItsRows P.keeps keeper result.2 }
+    ensures same { (result.0 ≢ 0) → (result.0 ≢ 2)
+        → StaysUnopened P.keeps P.tells P.leaves BUILT_IN.now keeper result.2 }
     ensures later { K.faults links ≤ K.faults result.1 }
     ensures statuses { (result.0 ≤ 6) × (result.0 ≢ 3) }
 {
@@ -82,11 +83,12 @@ fn serve_desk<L: Ledger, R: Wait, K: Links, P: Keeper + Drop>(
     ensures ended { result.0 ≡ 0 → IsSome (K.ahead links) → K.ahead result.1 ≡ Some [] }
     ensures link_cause { result.0 ≡ 2 → Rose (K.faults links) (K.faults result.1) }
     ensures served { (result.0 ≡ 0) ⊎ (result.0 ≡ 2)
-        → HasServed P.keeps P.tells P.faults BUILT_IN.now keeper result.2 }
+        → HasServed P.keeps P.tells P.faults P.leaves BUILT_IN.now keeper result.2 }
     ensures keeper_cause { result.0 ≡ 4 → Rose (P.faults keeper) (P.faults result.2) }
     ensures bad { result.0 ≡ 5 →
         (kind : ℕ) × (number : ℕ) × HasBadRow P.keeps P.tells keeper result.2 kind number }
-    ensures same { (result.0 ≢ 0) → (result.0 ≢ 2) → HasItsRows P.keeps keeper result.2 }
+    ensures same { (result.0 ≢ 0) → (result.0 ≢ 2)
+        → StaysUnopened P.keeps P.tells P.leaves BUILT_IN.now keeper result.2 }
     ensures later { K.faults links ≤ K.faults result.1 }
     ensures statuses { (result.0 ≤ 6) × (result.0 ≢ 3) }
 {
@@ -98,7 +100,9 @@ fn serve_desk<L: Ledger, R: Wait, K: Links, P: Keeper + Drop>(
         Err((OpenFault::Held, _keeper)) => unreachable!(),
     };
     let requests = RequestLines::new(alloc, desk, Steps::<L>::new(blank));
+    requests.is_tracker();
     let (end, links, requests) = serve_links(alloc, rt, links, requests);
+    requests.is_tracker();
     match end {
         LinksEnd::Ended => (0, links, requests.close()),
         LinksEnd::Failed => (2, links, requests.close()),

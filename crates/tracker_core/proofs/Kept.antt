@@ -1,5 +1,5 @@
 -- What a desk finds kept when it opens.
-use Rattle.std.proofs.Common.{◌≡◌, ℕ, inl, inr, Result, Ok, Err, IfOk, IfErr, OnOk, List, [], sym, ap, subst, ◌∙◌, arith}
+use Rattle.std.proofs.Common.{◌≡◌, ◌≢◌, ℕ, inl, inr, Result, Ok, Err, IfOk, IfErr, OnOk, List, [], sym, ap, subst, ◌∙◌, arith}
 use Rattle.std.specs.Prelude.{slice_index_or}
 use Rattle.tracker_keeper.specs.declared.row.Row.{Row}
 use Rattle.tracker_keeper.specs.Rows.{Rows, no_rows, with_ops, IsBelow, IsListing}
@@ -11,6 +11,7 @@ use Rattle.tracker_rows.proofs.Loaded.{loaded_rows_are_theirs, migrated_rows_are
 use Rattle.tracker_keeper.specs.declared.part.Format.TheVariants.{First, Second}
 use Rattle.tracker_core.specs.Desk.{HasBadRow, HasNoRow, IsKeepersOwn, IsMadeOf, IsNew, IsOpened, IsOpenFault}
 use Rattle.tracker_core.specs.declared.desk.OpenFault.{OpenFault}
+use Rattle.tracker_core.proofs.Desks.{listed_row}
 use Rattle.tracker_core.specs.declared.desk.OpenFault.TheVariants.{Keeper, Held, BadRow, Memory}
 use mathlib.Core.Path.{fun_ext}
 
@@ -80,9 +81,9 @@ bad_told (BadRow kind number) Bad Worse f is = f kind number is
 bad_told Memory Bad Worse f is = tt
 
 pub bad_opens : {S P : Type 0} (r : Result S OpenFault) (keeps : P → Rows → Type 0) (tells : P → Type 0) (old new : P) (list : List Row)
-    → (tells new → (rows : Rows) → keeps old rows → IsListing rows list) → IfErr r (IsOpenFault (λ kind number. InOrder list → IsFirstBad list kind number))
+    → list ≢ [] → (tells new → (rows : Rows) → keeps old rows → IsListing rows list) → IfErr r (IsOpenFault (λ kind number. InOrder list → IsFirstBad list kind number))
     → IfErr r (IsOpenFault (HasBadRow keeps tells old new))
-bad_opens (Ok s) keeps tells old new list is bad = tt
-bad_opens (Err fault) keeps tells old new list is bad =
+bad_opens (Ok s) keeps tells old new list some is bad = tt
+bad_opens (Err fault) keeps tells old new list some is bad =
     bad_told fault (λ kind number. InOrder list → IsFirstBad list kind number) (HasBadRow keeps tells old new)
-    (λ kind number first rows kept told. (list, is told rows kept, first (in_order rows list (is told rows kept)))) bad
+    (λ kind number first rows kept told. (listed_row rows list some (is told rows kept), (list, is told rows kept, first (in_order rows list (is told rows kept))))) bad

@@ -58,9 +58,10 @@ IsLoaded rows m = (list : List Row) × IsListing rows list × IsMadeOf list m
 abbrev pub IsOpened : List ℕ → Rows → Machine → Type 0
 IsOpened setup_text rows m = IsLoaded rows m ⊎ (HasNoRow rows × IsNew setup_text m)
 
--- the row of that kind and number is the first bad one of these, or has to be among them and isn't
+-- there is a row, and that of this kind and number is the first bad one, or has to be among them and isn't
 abbrev pub IsBadIn : Rows → ℕ → ℕ → Type 0
-IsBadIn rows kind number = (list : List Row) × IsListing rows list × IsFirstBad list kind number
+IsBadIn rows kind number =
+    HasRow rows × ((list : List Row) × IsListing rows list × IsFirstBad list kind number)
 
 -- a keeper that told its rows has that bad row among them
 abbrev pub HasBadRow : {P : Type 0} → (P → Rows → Type 0) → (P → Type 0) → P → P → ℕ → ℕ → Type 0

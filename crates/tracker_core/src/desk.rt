@@ -1,15 +1,17 @@
 // What makes the calls, one at a time, and has kept what they leave.
-ghost use Rattle.std.specs.Prelude.{◌≡◌, ◌≢◌, ◌≤◌, ◌+◌, [], true, false, IfOk, IfErr, OnOk, OnErr};
+ghost use Rattle.std.specs.Prelude.{◌≡◌, ◌≢◌, ◌≤◌, ◌+◌, ◌⊎◌, [], true, false, IfOk, IfErr, OnOk, OnErr};
 ghost use Rattle.fields.specs.SetupParts.{parts};
 ghost use Rattle.request_lines.specs.Causes.{Rose};
 ghost use Rattle.tracker_keeper.specs.Rows.{Rows, no_rows};
 ghost use Rattle.tracker_machine.specs.Machine.{opening};
-ghost use Rattle.tracker_machine.specs.Effect.{IsAllowed};
+ghost use Rattle.tracker_machine.specs.Tracker.{IsTracker};
+ghost use Rattle.tracker_machine.specs.Effect.{IsAllowed, applied};
 ghost use Rattle.tracker_machine.specs.Meaning.{Performs, HasEffect};
 ghost use Rattle.tracker_machine.specs.Meaning.Meaning.{Makes};
 ghost use Rattle.tracker_machine.specs.Kept.{rows_of, ops_of};
 ghost use Rattle.tracker_machine.specs.Step.{IsStep, evaluations, meaning};
 ghost use Rattle.tracker_core.specs.Desk.{IsOwed, IsKeepersOwn, IsCreateFault, HasRow, HasNoRow, due_in};
+ghost use Rattle.tracker_core.specs.Left.{IsWithCall, LeavesOn, LeavesJustIts, LeavesCreated};
 ghost use Rattle.tracker_state.specs.Plan.{effect_of, cost_of, Fits};
 
 use crate::preparing::prepare;
@@ -83,6 +85,11 @@ impl<P: Keeper + Drop> Desk<P> {
             (λ e. e.0 ≡ OpenFault.Keeper → Rose (P.faults keeper) (P.faults e.1)) }
         ensures later_ok { IfOk result (λ desk. P.faults keeper ≤ P.faults desk.keeper) }
         ensures later_err { IfErr result (λ e. P.faults keeper ≤ P.faults e.1) }
+        ensures left_ok { P.keeps keeper no_rows → IfOk result
+            (λ desk. LeavesJustIts P.leaves desk.keeper (opening setup.text (parts setup))) }
+        ensures left_err { (rows : Rows) → P.keeps keeper rows → P.leaves keeper rows rows →
+            IfErr result (λ e. P.tells e.1
+            → LeavesCreated P.leaves (opening setup.text (parts setup)) e.1 rows) }
     {
         let mut keeper = keeper;
         if let Err(fault) = look(&mut keeper) {
@@ -110,7 +117,8 @@ impl<P: Keeper + Drop> Desk<P> {
     /// Makes one call by that user, as the abstract tracker makes it: either the call is carried out and answered, or it is
     /// refused for the first cause that there is, or there was not enough memory, or the keeper failed where something was to be
     /// kept. After a refusal all is as before, and the rows that are kept are always the tracker's. The keeper isn't asked where
-    /// there is nothing to keep.
+    /// there is nothing to keep. A crash leaves the rows of the tracker, or of what might be left before, or of the tracker with this
+    /// call; once the call is carried out, just those of the tracker.
     #[tactic(auto, unfolding(tracker_machine::specs::Step::IsStep, tracker_machine::specs::Step::evaluations), using(crate::proofs::Steps::told_step, crate::proofs::Steps::refused_step))]
     pub fn call<L: Ledger>(&mut self, caller: &UserName, call: &Call, steps: &mut Steps<L>) -> Reply
         ensures step { IsStep self.old.machine caller.now call.now result self.new.machine }
@@ -120,6 +128,9 @@ impl<P: Keeper + Drop> Desk<P> {
         ensures cause { IsOwed result (P.faults self.old.keeper) (P.faults self.new.keeper) }
         ensures unasked { ¬ (HasEffect (meaning self.old.machine caller.now call.now)) →
             self.new.keeper ≡ self.old.keeper }
+        ensures left { P.keeps self.old.keeper (rows_of self.old.machine) →
+            LeavesOn P.leaves (IsWithCall caller.now call.now)
+            self.old.keeper self.old.machine self.new.keeper self.new.machine }
         ensures steps { steps.new
             ≤ steps.old + evaluations (due_in self.old.cells) self.old.machine caller.now call.now }
     {
@@ -131,6 +142,13 @@ impl<P: Keeper + Drop> Desk<P> {
                 make(&mut self.state, &mut self.keeper, plan, answer, rows, steps)
             }
         }
+    }
+
+    /// Its state is a tracker's: contracts may cite what holds of each.
+    pub fn is_tracker(&self)
+        ensures { IsTracker self.now.machine }
+    {
+        self.state.is_tracker();
     }
 
     /// The state, lent.
@@ -175,6 +193,8 @@ fn look<P: Keeper>(keeper: &mut P) -> Result<(), OpenFault>
         result ≡ Err OpenFault.Held → P.tells keeper.new → HasRow rows }
     ensures told { P.tells keeper.new → P.tells keeper.old }
     ensures same { (rows : Rows) → P.keeps keeper.old rows → P.keeps keeper.new rows }
+    ensures left { (rows : Rows) → P.keeps keeper.old rows → P.leaves keeper.old rows rows →
+        P.leaves keeper.new rows rows }
     ensures fault { IfErr result IsCreateFault }
     ensures cause { result ≡ Err OpenFault.Keeper →
         Rose (P.faults keeper.old) (P.faults keeper.new) }
@@ -211,6 +231,11 @@ pub(crate) fn begun<P: Keeper>(
     ensures told { P.tells keeper.new → P.tells keeper.old }
     ensures same { (rows : Rows) → P.keeps keeper.old rows →
         OnErr result (P.keeps keeper.new rows) }
+    ensures left_ok { P.keeps keeper.old no_rows →
+        OnOk result (LeavesJustIts P.leaves keeper.new (opening setup.text (parts setup))) }
+    ensures left_err { P.keeps keeper.old no_rows → P.leaves keeper.old no_rows no_rows →
+        OnErr result (P.leaves keeper.new no_rows no_rows
+        ⊎ P.leaves keeper.new no_rows (rows_of (opening setup.text (parts setup)))) }
     ensures own { IfErr result IsKeepersOwn }
     ensures cause { result ≡ Err OpenFault.Keeper →
         Rose (P.faults keeper.old) (P.faults keeper.new) }
@@ -247,6 +272,9 @@ fn make<P: Keeper, L: Ledger>(
         P.keeps keeper.new (rows_of state.new.machine) }
     ensures told { P.tells keeper.new → P.tells keeper.old }
     ensures cause { IsOwed result (P.faults keeper.old) (P.faults keeper.new) }
+    ensures left { P.keeps keeper.old (rows_of state.old.machine) → LeavesOn P.leaves
+        (λ m later. (m ≡ state.old.machine) × (later ≡ applied (effect_of plan) state.old.machine))
+        keeper.old state.old.machine keeper.new state.new.machine }
     ensures steps { steps.new ≤ steps.old + cost_of plan state.old }
 {
     state.is_tracker();

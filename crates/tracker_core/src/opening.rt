@@ -1,11 +1,12 @@
 // How a desk begins that opens what is kept.
-ghost use Rattle.std.specs.Prelude.{◌≡◌, ◌≤◌, IfOk, IfErr, OnOk, OnErr, MatchOption, IsTrue, ◌↔◌};
+ghost use Rattle.std.specs.Prelude.{◌≡◌, ◌≤◌, ◌⊎◌, IfOk, IfErr, OnOk, OnErr, MatchOption, IsTrue, ◌↔◌};
 ghost use Rattle.request_lines.specs.Causes.{Rose};
 ghost use Rattle.tracker_keeper.specs.Rows.{Rows, no_rows, with_ops, IsBelow, IsListing};
 ghost use Rattle.tracker_machine.specs.Kept.{rows_of, migrating_ops};
 ghost use Rattle.tracker_rows.specs.Listed.{InOrder};
 ghost use Rattle.tracker_rows.specs.Loading.{Loads, IsFirstBad};
-ghost use Rattle.tracker_core.specs.Desk.{HasBadRow, IsKeepersOwn, IsMadeOf, IsNew, IsOpened, IsOpenFault};
+ghost use Rattle.tracker_core.specs.Desk.{HasBadRow, IsKeepersOwn, IsLoaded, IsMadeOf, IsNew, IsOpened, IsOpenFault};
+ghost use Rattle.tracker_core.specs.Left.{LeavesBegun, LeavesJustIts, LeavesOpened};
 
 use crate::desk::{Desk, OpenFault, begun, has_none};
 use fields::{BUILT_IN, Setup};
@@ -29,6 +30,11 @@ impl<P: Keeper + Drop> Desk<P> {
             (λ e. e.0 ≡ OpenFault.Keeper → Rose (P.faults keeper) (P.faults e.1)) }
         ensures later_ok { IfOk result (λ desk. P.faults keeper ≤ P.faults desk.keeper) }
         ensures later_err { IfErr result (λ e. P.faults keeper ≤ P.faults e.1) }
+        ensures left_ok { (rows : Rows) → P.keeps keeper rows → P.leaves keeper rows rows →
+            IfOk result (λ desk. P.tells desk.keeper
+            → LeavesJustIts P.leaves desk.keeper desk.machine) }
+        ensures left_err { (rows : Rows) → P.keeps keeper rows → P.leaves keeper rows rows →
+            IfErr result (λ e. P.tells e.1 → LeavesOpened P.leaves BUILT_IN.now e.1 rows) }
     {
         let mut keeper = keeper;
         let opened = opened(alloc, &mut keeper);
@@ -47,6 +53,12 @@ fn opened<P: Keeper>(alloc: Global, keeper: &mut P) -> Result<State, OpenFault>
         P.tells keeper.new → P.keeps keeper.new (rows_of state.machine)) }
     ensures same { (rows : Rows) → P.keeps keeper.old rows →
         OnErr result (P.keeps keeper.new rows) }
+    ensures left_ok { (rows : Rows) → P.keeps keeper.old rows → P.leaves keeper.old rows rows →
+        IfOk result (λ state. P.tells keeper.new
+        → LeavesJustIts P.leaves keeper.new state.machine) }
+    ensures left_err { (rows : Rows) → P.keeps keeper.old rows → P.leaves keeper.old rows rows →
+        OnErr result (P.tells keeper.new
+        → LeavesOpened P.leaves BUILT_IN.now keeper.new rows) }
     ensures fault { IfErr result (IsOpenFault (HasBadRow P.keeps P.tells keeper.old keeper.new)) }
     ensures cause { result ≡ Err OpenFault.Keeper →
         Rose (P.faults keeper.old) (P.faults keeper.new) }
@@ -72,6 +84,10 @@ fn new_tracker<P: Keeper>(alloc: Global, keeper: &mut P) -> Result<State, OpenFa
     ensures told { P.tells keeper.new → P.tells keeper.old }
     ensures same { (rows : Rows) → P.keeps keeper.old rows →
         OnErr result (P.keeps keeper.new rows) }
+    ensures left_ok { P.keeps keeper.old no_rows →
+        IfOk result (λ state. LeavesJustIts P.leaves keeper.new state.machine) }
+    ensures left_err { P.keeps keeper.old no_rows → P.leaves keeper.old no_rows no_rows →
+        OnErr result (LeavesBegun P.leaves (IsNew BUILT_IN.now) keeper.new no_rows) }
     ensures own { IfErr result IsKeepersOwn }
     ensures cause { result ≡ Err OpenFault.Keeper →
         Rose (P.faults keeper.old) (P.faults keeper.new) }
@@ -91,6 +107,12 @@ fn resumed<P: Keeper>(alloc: Global, keeper: &mut P, rows: &[Row]) -> Result<Sta
     ensures told { P.tells keeper.new → P.tells keeper.old }
     ensures same { (kept : Rows) → P.keeps keeper.old kept →
         OnErr result (P.keeps keeper.new kept) }
+    ensures left_ok { (kept : Rows) → P.keeps keeper.old kept → P.leaves keeper.old kept kept →
+        IsListing kept rows.now →
+        IfOk result (λ state. LeavesJustIts P.leaves keeper.new state.machine) }
+    ensures left_err { (kept : Rows) → P.keeps keeper.old kept → P.leaves keeper.old kept kept →
+        IsListing kept rows.now →
+        OnErr result (LeavesBegun P.leaves (IsLoaded kept) keeper.new kept) }
     ensures fault { IfErr result
         (IsOpenFault (λ kind number. InOrder rows.now → IsFirstBad rows.now kind number)) }
     ensures cause { result ≡ Err OpenFault.Keeper →
@@ -112,6 +134,12 @@ fn migrated<P: Keeper>(alloc: Global, keeper: &mut P, state: State) -> Result<St
     ensures told { P.tells keeper.new → P.tells keeper.old }
     ensures same { (kept : Rows) → P.keeps keeper.old kept →
         OnErr result (P.keeps keeper.new kept) }
+    ensures left_ok { (kept : Rows) → P.keeps keeper.old kept →
+        OnOk result (P.leaves keeper.new (with_ops (migrating_ops state.machine) kept)
+        (with_ops (migrating_ops state.machine) kept)) }
+    ensures left_err { (kept : Rows) → P.keeps keeper.old kept → P.leaves keeper.old kept kept →
+        OnErr result (P.leaves keeper.new kept kept
+        ⊎ P.leaves keeper.new kept (with_ops (migrating_ops state.machine) kept)) }
     ensures own { IfErr result IsKeepersOwn }
     ensures cause { result ≡ Err OpenFault.Keeper →
         Rose (P.faults keeper.old) (P.faults keeper.new) }
