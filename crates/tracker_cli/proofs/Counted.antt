@@ -45,11 +45,11 @@ replied_call old new line user c r a b asked step owed =
 -- a line that can't be read asks no keeper
 form_replied : (old : Machine) (line : List ℕ) (c : Cause) (a : ℕ) → Err c ≡ line_of line → IsReplied old line (reply.Refused (refusal.Cause c)) old a a
 form_replied old line c a e = record {
-  replies = record { mark = plain; reply_is = ap (asked_reply old) e; new_is = ap (asked_next old) e };
+  replies = record { mark = plain; may = tt; reply_is = ap (asked_reply old) e; new_is = ap (asked_next old) e };
   counted = rose_none a a refl;
 }
 
 pub replied_fault : (old : Machine) (line : List ℕ) (r : Refusal) (a : ℕ) → ErrUnlessMemory r (line_of line) → IsReplied old line (reply.Refused r) old a a
-replied_fault old line refusal.Memory a e = record { replies = record { mark = memory; reply_is = refl; new_is = refl }; counted = rose_none a a refl }
+replied_fault old line refusal.Memory a e = record { replies = record { mark = memory; may = tt; reply_is = refl; new_is = refl }; counted = rose_none a a refl }
 replied_fault old line refusal.Keeper a e = absurd e
 replied_fault old line (refusal.Cause c) a e = form_replied old line c a e

@@ -50,7 +50,7 @@ module _ {P : Type 0} (keeps : P → Rows → Type 0) (tells : P → Type 0) (fa
     plainly : (r : Reply) → r ≡ reply_to (meaning old.machine caller c) → new.machine ≡ next_after (meaning old.machine caller c) old.machine
         → faults old.keeper ≤ faults new.keeper → IsMadeCall keeps tells faults caller old c r new
     unfolding reply_of next_of
-    plainly r is next later = record { mark = plain; reply_is = is; new_is = next; kept = kept_by 0 (later_none later) }
+    plainly r is next later = record { mark = plain; may = tt; reply_is = is; new_is = next; kept = kept_by 0 (later_none later) }
 
     refused : (r : Cause) → meaning old.machine caller c ≡ Refuses r → new.machine ≡ old.machine → faults old.keeper ≤ faults new.keeper
         → IsMadeCall keeps tells faults caller old c (reply.Refused (refusal.Cause r)) new
@@ -59,8 +59,8 @@ module _ {P : Type 0} (keeps : P → Rows → Type 0) (tells : P → Type 0) (fa
 
     unmarked : (r : Refusal) → IsDue (meaning old.machine caller c) r → new.machine ≡ old.machine → IsOwed (reply.Refused r) (faults old.keeper) (faults new.keeper)
         → IsMadeCall keeps tells faults caller old c (reply.Refused r) new
-    unmarked refusal.Memory due same owed = record { mark = memory; reply_is = refl; new_is = same; kept = kept_by 0 (later_none owed) }
-    unmarked refusal.Keeper due same owed = record { mark = keeper; reply_is = refl; new_is = same; kept = kept_by 1 owed }
+    unmarked refusal.Memory due same owed = record { mark = memory; may = tt; reply_is = refl; new_is = same; kept = kept_by 0 (later_none owed) }
+    unmarked refusal.Keeper due same owed = record { mark = keeper; may = due; reply_is = refl; new_is = same; kept = kept_by 1 owed }
     unmarked (refusal.Cause r) due same owed = refused r due same owed
 
     performed : (r : Reply) → Performs (meaning old.machine caller c) old.machine r new.machine → IsOwed r (faults old.keeper) (faults new.keeper)
@@ -99,7 +99,7 @@ module _ {P : Type 0} (keeps : P → Rows → Type 0) (tells : P → Type 0) (fa
       record {
         text = so_far.text ++ line;
         failures = _;
-        made = made_more caller old.machine middle.machine new.machine done so_far.text so_far.failures c made.mark so_far.made made.new_is;
+        made = made_more caller old.machine middle.machine new.machine done so_far.text so_far.failures c made.mark so_far.made made.may made.new_is;
         kept = kept_on keeps tells faults old middle new _ _ so_far.kept made.kept;
         written = Appends-trans t u v so_far.text line so_far.written (subst (λ r. Appends u v (reply_line r)) made.reply_is one.written);
       }
@@ -124,7 +124,7 @@ module _ {P : Type 0} (keeps : P → Rows → Type 0) (tells : P → Type 0) (fa
       record {
         text = so_far.text ++ cut.0;
         failures = _;
-        made = cut_within caller old.machine middle.machine new.machine done rest all so_far.text cut.0 cut.1 so_far.failures c made.mark is so_far.made parts made.new_is;
+        made = cut_within caller old.machine middle.machine new.machine done rest all so_far.text cut.0 cut.1 so_far.failures c made.mark is so_far.made made.may parts made.new_is;
         kept = kept_on keeps tells faults old middle new _ _ so_far.kept made.kept;
         written = Appends-trans t u v so_far.text cut.0 so_far.written cut.3;
       }

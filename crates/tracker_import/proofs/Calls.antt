@@ -1,12 +1,12 @@
 -- Runs of calls, one call longer, and a keeper's count over them.
-use Rattle.std.proofs.Common.{◌≡◌, ◌+◌, ℕ, List, [], ◌∷◌, ◌++◌, refl, sym, ap, ap₂, ◌∙◌, append_assoc, append-nil, arith, inl, inr}
+use Rattle.std.proofs.Common.{◌≡◌, ◌+◌, ℕ, List, [], ◌∷◌, ◌++◌, refl, sym, ap, ap₂, ◌∙◌, subst, append_assoc, append-nil, arith, inl, inr}
 use Rattle.std.proofs.lemmas.List.{map-append}
 use Rattle.tracker_calls.specs.declared.call.Call.{Call}
 use Rattle.tracker_keeper.specs.Rows.{Rows}
 use Rattle.tracker_machine.specs.Machine.{Machine}
 use Rattle.tracker_runs.specs.Run.{Mark, failures_at, reply_line}
 use Rattle.tracker_core.specs.Desk.{DeskParts}
-use Rattle.tracker_import.specs.Calls.{MarkedCall, reply_under, next_under, text_of_calls, end_of_calls, failures_of, AreMade, AreCutCalls, RoseBy, HasKept}
+use Rattle.tracker_import.specs.Calls.{MarkedCall, reply_under, next_under, MayBeUnder, MayAllBeUnder, text_of_calls, end_of_calls, failures_of, AreMade, AreCutCalls, RoseBy, HasKept}
 
 -- ---- one call more
 
@@ -28,17 +28,23 @@ failures_push : (xs : List MarkedCall) (x : MarkedCall) → failures_of (xs ++ x
 failures_push [] x = omega arith
 failures_push (y ∷ ys) x = omega (arith, failures_push ys x)
 
+may_push : (m : Machine) (caller : List ℕ) (xs : List MarkedCall) (x : MarkedCall) → MayAllBeUnder m caller xs → MayBeUnder x.mark (end_of_calls m caller xs) caller x.call
+    → MayAllBeUnder m caller (xs ++ x ∷ [])
+may_push m caller [] x all may = (may, tt)
+may_push m caller (y ∷ ys) x all may = (all.0, may_push (next_under y.mark m caller y.call) caller ys x all.1 may)
+
 pub made_none : (caller : List ℕ) (m : Machine) → AreMade caller m [] [] m 0
-made_none caller m = record { marked = []; calls_are = refl; text_is = refl; new_is = refl; failures_are = refl }
+made_none caller m = record { marked = []; calls_are = refl; may = tt; text_is = refl; new_is = refl; failures_are = refl }
 
 pub made_more : (caller : List ℕ) (old middle new : Machine) (calls : List Call) (text : List ℕ) (failures : ℕ) (c : Call) (mark : Mark) → AreMade caller old calls text middle failures
-    → new ≡ next_under mark middle caller c
+    → MayBeUnder mark middle caller c → new ≡ next_under mark middle caller c
     → AreMade caller old (calls ++ c ∷ []) (text ++ reply_line (reply_under mark middle caller c)) new (failures + failures_at mark)
-made_more caller old middle new calls text failures c mark made next =
+made_more caller old middle new calls text failures c mark made may next =
     let x : MarkedCall = record { call = c; mark = mark } in
     record {
       marked = made.marked ++ x ∷ [];
       calls_are = map-append (λ (x : MarkedCall). x.call) made.marked (x ∷ []) ∙ ap (λ l. l ++ c ∷ []) made.calls_are;
+      may = may_push old caller made.marked x made.may (subst (λ m. MayBeUnder mark m caller c) made.new_is may);
       text_is = ap₂ (λ l m. l ++ reply_line (reply_under mark m caller c)) made.text_is made.new_is ∙ sym (text_push old caller made.marked x);
       new_is = next ∙ ap (λ m. next_under mark m caller c) made.new_is ∙ sym (end_push old caller made.marked x);
       failures_are = ap (λ n. n + failures_at mark) made.failures_are ∙ sym (failures_push made.marked x);
@@ -64,9 +70,9 @@ cut_after caller old new done rest all text failures is made = record {
 
 -- the next call was made, and its reply is cut
 pub cut_within : (caller : List ℕ) (old middle new : Machine) (done rest all : List Call) (text front back : List ℕ) (failures : ℕ) (c : Call) (mark : Mark) → all ≡ done ++ c ∷ rest
-    → AreMade caller old done text middle failures → reply_line (reply_under mark middle caller c) ≡ front ++ back → new ≡ next_under mark middle caller c
+    → AreMade caller old done text middle failures → MayBeUnder mark middle caller c → reply_line (reply_under mark middle caller c) ≡ front ++ back → new ≡ next_under mark middle caller c
     → AreCutCalls caller old all (text ++ front) new (failures + failures_at mark)
-cut_within caller old middle new done rest all text front back failures c mark is made parts next = record {
+cut_within caller old middle new done rest all text front back failures c mark is made may parts next = record {
   done = done;
   rest = c ∷ rest;
   all_is = is;
@@ -76,7 +82,7 @@ cut_within caller old middle new done rest all text front back failures c mark i
   made = made;
   front = front;
   last = failures_at mark;
-  next = inr (c, rest, mark, back, refl, parts, next, refl);
+  next = inr (c, rest, mark, back, refl, may, parts, next, refl);
   text_is = refl;
   failures_are = refl;
 }

@@ -8,7 +8,8 @@ use Rattle.tracker_keeper.specs.Rows.{Rows}
 use Rattle.tracker_machine.specs.Machine.{Machine}
 use Rattle.tracker_machine.specs.Kept.{rows_of}
 use Rattle.tracker_runs.specs.Run.{Mark, plain, memory, keeper, failures_at, reply_line}
-use Rattle.tracker_machine.specs.Step.{reply_of, next_of}
+use Rattle.tracker_machine.specs.Meaning.{HasEffect}
+use Rattle.tracker_machine.specs.Step.{meaning, reply_of, next_of}
 use Rattle.tracker_core.specs.Desk.{DeskParts}
 
 -- a marked call was answered want of memory, or a fault of the keeper
@@ -27,6 +28,11 @@ next_under plain m caller c = next_of m caller c
 next_under memory m caller c = m
 next_under keeper m caller c = m
 
+-- a keeper fails at a call only where it has an effect; memory may lack at any
+abbrev pub MayBeUnder : Mark → Machine → List ℕ → Call → Type 0
+MayBeUnder keeper m caller c = HasEffect (meaning m caller c)
+MayBeUnder _ m caller c = Unit {0}
+
 -- the lines of the replies to calls, the state after them, and how often the keeper failed
 abbrev pub text_of_calls : Machine → List ℕ → List MarkedCall → List ℕ
 text_of_calls m caller [] = []
@@ -42,11 +48,20 @@ abbrev pub failures_of : List MarkedCall → ℕ
 failures_of [] = 0
 failures_of (x ∷ xs) = failures_at x.mark + failures_of xs
 
--- these calls are answered by this text, and lead to this state, under some marks, so many of which are of a keeper that failed
+-- each of the calls may have its mark
+abbrev pub MayAllBeUnder : Machine → List ℕ → List MarkedCall → Type 0
+MayAllBeUnder m caller [] = Unit {0}
+MayAllBeUnder m caller (x ∷ xs) =
+    MayBeUnder x.mark m caller x.call
+    × MayAllBeUnder (next_under x.mark m caller x.call) caller xs
+
+-- these calls are answered by this text, and lead to this state, under marks that they may have, so many of which are of a keeper
+-- that failed
 pub record AreMade (caller : List ℕ) (old : Machine) (calls : List Call) (text : List ℕ)
     (new : Machine) (failures : ℕ) : Type 0 where
   pub marked : List MarkedCall
   pub calls_are : map (λ x. x.call) marked ≡ calls
+  pub may : MayAllBeUnder old caller marked
   pub text_is : text ≡ text_of_calls old caller marked
   pub new_is : new ≡ end_of_calls old caller marked
   pub failures_are : failures ≡ failures_of marked
@@ -56,6 +71,7 @@ abbrev pub IsFrontOfCall : List ℕ → Machine → List Call → List ℕ → M
 IsFrontOfCall caller m rest front new failures =
     ((front ≡ []) × (new ≡ m) × (failures ≡ 0))
     ⊎ ((c : Call) × (more : List Call) × (mark : Mark) × (back : List ℕ) × (rest ≡ c ∷ more)
+    × MayBeUnder mark m caller c
     × (reply_line (reply_under mark m caller c) ≡ front ++ back)
     × (new ≡ next_under mark m caller c) × (failures ≡ failures_at mark))
 

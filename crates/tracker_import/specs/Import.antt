@@ -9,7 +9,7 @@ use Rattle.tracker_keeper.specs.Rows.{Rows}
 use Rattle.tracker_runs.specs.Run.{Mark, failures_at, reply_line}
 use Rattle.tracker_core.specs.Desk.{DeskParts}
 use Rattle.issue_csv.specs.Reading.{Batch, batch_in}
-use Rattle.tracker_import.specs.Calls.{reply_under, next_under, AreMade, AreCutCalls, HasKept}
+use Rattle.tracker_import.specs.Calls.{reply_under, next_under, MayBeUnder, AreMade, AreCutCalls, HasKept}
 use Rattle.tracker_import.specs.declared.halt.Halt.{Halt}
 use Rattle.tracker_import.specs.declared.halt.Halt.TheVariants as halt
 use Rattle.tracker_import.specs.declared.import.ImportEnd.{ImportEnd}
@@ -17,10 +17,11 @@ use Rattle.tracker_import.specs.declared.import.ImportEnd.TheVariants.{Done, Bad
 
 -- ---- one call
 
--- a call is made under some mark, this is its reply, and the keeper has what it leaves
+-- a call is made under a mark that it may have, this is its reply, and the keeper has what it leaves
 pub record IsMadeCall {P : Type 0} (keeps : P → Rows → Type 0) (tells : P → Type 0) (faults : P → ℕ)
     (caller : List ℕ) (old : DeskParts P) (c : Call) (r : Reply) (new : DeskParts P) : Type 0 where
   pub mark : Mark
+  pub may : MayBeUnder mark old.machine caller c
   pub reply_is : r ≡ reply_under mark old.machine caller c
   pub new_is : new.machine ≡ next_under mark old.machine caller c
   pub kept : HasKept keeps tells faults old new (failures_at mark)

@@ -4,10 +4,10 @@ use Rattle.std.specs.Prelude.{not, if◌then◌else◌, ◌+◌}
 use Rattle.std.specs.Bool.{MatchBool}
 use Rattle.request_lines.specs.Lines.{AreWithinLimits}
 use Rattle.tracker_machine.specs.Machine.{Machine}
-use Rattle.tracker_runs.specs.Run.{text_of_run, end_of_run, IsRun, is_blank, requests, HasReply, IsPassedOver, AnswersLine, IsFrontOfReply}
+use Rattle.tracker_runs.specs.Run.{text_of_run, end_of_run, MayAllBeMarked, IsRun, is_blank, requests, HasReply, IsPassedOver, AnswersLine, IsFrontOfReply}
 
 pub IsRun-nil : (m : Machine) → IsRun m [] [] m 0
-IsRun-nil m = record { marked = []; lines_are = refl; text_is = refl; new_is = refl; failures_are = refl }
+IsRun-nil m = record { marked = []; lines_are = refl; may = tt; text_is = refl; new_is = refl; failures_are = refl }
 
 -- a line with its reply, and then a run
 IsRun-cons : (old next new : Machine) (line first rest : List ℕ) (lines : List (List ℕ)) (n k : ℕ) → HasReply old line first next n → IsRun next lines rest new k
@@ -15,6 +15,7 @@ IsRun-cons : (old next new : Machine) (line first rest : List ℕ) (lines : List
 IsRun-cons old next new line first rest lines n k one more = record {
   marked = record { line = line; mark = one.mark } ∷ more.marked;
   lines_are = ap (λ l. line ∷ l) more.lines_are;
+  may = (one.may, subst (λ m. MayAllBeMarked m more.marked) one.new_is more.may);
   text_is = ap₂ (λ s t. s ++ t) one.text_is (more.text_is ∙ ap (λ m. text_of_run m more.marked) one.new_is);
   new_is = more.new_is ∙ ap (λ m. end_of_run m more.marked) one.new_is;
   failures_are = ap₂ (λ i j. i + j) one.failures_are more.failures_are;
@@ -50,7 +51,7 @@ front_of : (b : Bool) (middle new : Machine) (line text front back : List ℕ) (
 front_of true middle new line text front back done rest more n blank one is within parts =
     inl (no_front front back (sym one.text_is ∙ parts), one.new_is, one.failures_are)
 front_of false middle new line text front back done rest more n blank one is within parts =
-    inr (line, more, one.mark, back, is, within, blank, sym one.text_is ∙ parts, one.new_is, one.failures_are)
+    inr (line, more, one.mark, back, is, within, blank, one.may, sym one.text_is ∙ parts, one.new_is, one.failures_are)
 
 pub front_of_reply : (middle new : Machine) (line text front back : List ℕ) (done rest more : List (List ℕ)) (n : ℕ) → AnswersLine middle line text new n → rest ≡ line ∷ more
     → AreWithinLimits (done ++ line ∷ []) → text ≡ front ++ back → IsFrontOfReply middle done rest front new n

@@ -11,7 +11,8 @@ use Rattle.tracker_calls.specs.declared.reply.Refusal.TheVariants as refusal
 use Rattle.call_lines.specs.Asked.{line_of}
 use Rattle.reply_texts.specs.Reply.{reply_text}
 use Rattle.tracker_machine.specs.Machine.{Machine}
-use Rattle.tracker_machine.specs.Step.{reply_of, next_of}
+use Rattle.tracker_machine.specs.Meaning.{HasEffect}
+use Rattle.tracker_machine.specs.Step.{meaning, reply_of, next_of}
 
 -- a line of spaces, tabs and carriage returns asks for nothing
 abbrev pub is_blank_byte : ℕ → Bool
@@ -50,6 +51,11 @@ abbrev pub asked_next : Machine → Result (List ℕ × Call) Cause → Machine
 asked_next m (Ok asked) = next_of m asked.0 asked.1
 asked_next m (Err c) = m
 
+-- the call that is asked for has an effect, which is to be kept
+abbrev pub HasAskedEffect : Machine → Result (List ℕ × Call) Cause → Type 0
+HasAskedEffect m (Ok asked) = HasEffect (meaning m asked.0 asked.1)
+HasAskedEffect m (Err c) = ⊥
+
 -- the reply to a line, and the state after it: a marked line leaves the state
 abbrev pub marked_reply : Machine → List ℕ → Mark → Reply
 marked_reply m line plain = asked_reply m (line_of line)
@@ -60,6 +66,11 @@ abbrev pub marked_next : Machine → List ℕ → Mark → Machine
 marked_next m line plain = asked_next m (line_of line)
 marked_next m line memory = m
 marked_next m line keeper = m
+
+-- a keeper fails at a line only where its call has an effect; memory may lack at any
+abbrev pub MayBeMarked : Machine → List ℕ → Mark → Type 0
+MayBeMarked m line keeper = HasAskedEffect m (line_of line)
+MayBeMarked m line _ = Unit {0}
 
 -- a reply's text with its line feed
 abbrev pub reply_line : Reply → List ℕ
@@ -74,18 +85,27 @@ abbrev pub end_of_run : Machine → List Marked → Machine
 end_of_run m [] = m
 end_of_run m (x ∷ xs) = end_of_run (marked_next m x.line x.mark) xs
 
--- these lines are answered by this text, and lead to this state, under some marks, so many of which are of a keeper that failed
+-- each of the lines may have its mark
+abbrev pub MayAllBeMarked : Machine → List Marked → Type 0
+MayAllBeMarked m [] = Unit {0}
+MayAllBeMarked m (x ∷ xs) =
+    MayBeMarked m x.line x.mark × MayAllBeMarked (marked_next m x.line x.mark) xs
+
+-- these lines are answered by this text, and lead to this state, under marks that they may have, so many of which are of a keeper
+-- that failed
 pub record IsRun (old : Machine) (lines : List (List ℕ)) (text : List ℕ) (new : Machine)
     (failures : ℕ) : Type 0 where
   pub marked : List Marked
   pub lines_are : map (λ x. x.line) marked ≡ lines
+  pub may : MayAllBeMarked old marked
   pub text_is : text ≡ text_of_run old marked
   pub new_is : new ≡ end_of_run old marked
   pub failures_are : failures ≡ failures_in marked
 
--- the reply to a line and the state after it, under some mark
+-- the reply to a line and the state after it, under a mark that it may have
 pub record RepliesTo (old : Machine) (line : List ℕ) (reply : Reply) (new : Machine) : Type 0 where
   pub mark : Mark
+  pub may : MayBeMarked old line mark
   pub reply_is : reply ≡ marked_reply old line mark
   pub new_is : new ≡ marked_next old line mark
 
@@ -93,6 +113,7 @@ pub record RepliesTo (old : Machine) (line : List ℕ) (reply : Reply) (new : Ma
 pub record HasReply (old : Machine) (line text : List ℕ) (new : Machine)
     (failures : ℕ) : Type 0 where
   pub mark : Mark
+  pub may : MayBeMarked old line mark
   pub text_is : text ≡ reply_line (marked_reply old line mark)
   pub new_is : new ≡ marked_next old line mark
   pub failures_are : failures ≡ failures_at mark
@@ -116,7 +137,7 @@ IsFrontOfReply m done rest front new failures =
     ((front ≡ []) × (new ≡ m) × (failures ≡ 0))
     ⊎ ((line : List ℕ) × (more : List (List ℕ)) × (mark : Mark) × (back : List ℕ)
     × (rest ≡ line ∷ more)
-    × AreWithinLimits (done ++ line ∷ []) × (is_blank line ≡ false)
+    × AreWithinLimits (done ++ line ∷ []) × (is_blank line ≡ false) × MayBeMarked m line mark
     × (reply_line (marked_reply m line mark) ≡ front ++ back) × (new ≡ marked_next m line mark)
     × (failures ≡ failures_at mark))
 
