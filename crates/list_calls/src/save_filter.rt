@@ -1,5 +1,5 @@
 // The call `save_filter`: a query that is kept under a name.
-ghost use Rattle.std.specs.Prelude.{◌≡◌, ◌+◌, ◌≤◌, ◌<◌, true, Ok, Some, IfOk, length, option_map, slice_get};
+ghost use Rattle.std.specs.Prelude.{◌≡◌, ◌+◌, ◌≤◌, ◌<◌, true, Ok, Some, IfOk, OnOk, length, option_map, slice_get};
 ghost use Rattle.std.specs.Option.{is_some, option_copied};
 ghost use Rattle.field_forms.specs.Names.{is_title};
 ghost use Rattle.rising_numbers.specs.ByNumber.{free_from};
@@ -13,6 +13,7 @@ ghost use Rattle.tracker_machine.specs.Filters.{filters_refusal, number_for, is_
 ghost use Rattle.tracker_state.specs.Check.{Checks};
 ghost use Rattle.tracker_state.specs.State.{query_of, IsBound, saved_as};
 ghost use Rattle.tracker_state.specs.Plan.{IsPrepared, cost_to_prepare};
+ghost use Rattle.tracker_state.specs.declared.plan.Prepared.{Prepared};
 
 use crate::browsing::may_browse;
 use crate::rows::filter_ops;
@@ -46,6 +47,9 @@ pub fn save_filter<L: Ledger>(
     ensures steps { steps.new ≤ steps.old
         + cost_to_prepare
         (save_filter_meaning state.old.machine caller.0 name.now jql.now) state.old.machine }
+    // Where it is prepared, each issue was asked once.
+    ensures exact { (prepared : Prepared) → result ≡ Ok prepared
+        → steps.new ≡ steps.old + length state.old.machine.histories }
 {
     state.is_tracker();
     check_filters(state, caller, name)?;
@@ -157,6 +161,8 @@ fn save<L: Ledger>(
     ensures prepared { IsPrepared (saved state.old.machine filter.owner.0
         filter.name filter.text (Ok (query_of filter.query))) state.new result }
     ensures steps { steps.new ≤ steps.old + length state.old.machine.histories }
+    ensures exact { (prepared : Prepared) → result ≡ Ok prepared
+        → steps.new ≡ steps.old + length state.old.machine.histories }
 {
     let is_kept = is_kept(state, &filter);
     let ready = verdicts(alloc, state, filter, steps)?;
@@ -182,6 +188,7 @@ fn verdicts<L: Ledger>(
         (surroundings_in state.now.machine.setup state.now.machine.sprints) state.now.machine.moment
         (condition_of filter) state.now.machine.histories ready.verdicts.items) }
     ensures steps { steps.new ≤ steps.old + length state.now.machine.histories }
+    ensures exact { OnOk result (steps.new ≡ steps.old + length state.now.machine.histories) }
 {
     ReadyFilter::of(
         alloc,
