@@ -63,7 +63,7 @@ fn left_bucket(balance: Balance) -> u8
 
 // The refusal of a call that is for another balance than this one.
 fn other_balance(kept: Balance) -> Refusal
-    ensures { result ≡ balance_refusal kept }
+    ensures { result ≡ Refusal.Cause (balance_refusal kept) }
 {
     Refusal::Cause(Cause::BalanceIs(match kept {
         Balance::Idle(bucket) => BalanceKept::Idle(bucket),
