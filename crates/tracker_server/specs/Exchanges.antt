@@ -50,18 +50,23 @@ pub record IsMade (worker : ℕ) (user : List ℕ) (c : Call) (ahead later : Opt
   pub is_made : Follows (lets_through ticked) ticked made (event worker user c) r
   pub entered_is : entered ≡ tick ++ made
 
--- what is asked for is answered: a call is made, and a refusal is the reply, which makes no event and takes no reading
+-- the reply is this refusal, which makes no event and takes no reading
+abbrev pub IsRefused : Refusal → Option (List ℕ) → Option (List ℕ) → List Event → Reply → Type 0
+IsRefused refused ahead later entered r =
+    (r ≡ reply.Refused refused) × (entered ≡ []) × (later ≡ ahead)
+
+-- what is asked for is answered: a call is made, or a cause is refused
 abbrev pub IsAnswered : ℕ → Asked → Option (List ℕ) → Option (List ℕ) → List Event → Reply → Type 0
 IsAnswered worker (Ok asked) ahead later entered r =
     IsMade worker asked.0 asked.1 ahead later entered r
-IsAnswered worker (Err fault) ahead later entered r =
-    (r ≡ reply.Refused fault) × (entered ≡ []) × (later ≡ ahead)
+IsAnswered worker (Err c) ahead later entered r =
+    IsRefused (refusal.Cause c) ahead later entered r
 
 -- the request's call is answered, or there was not enough memory to read it
 abbrev pub Answers : ℕ → Option (List ℕ) → Option (List ℕ) → Exchange → Type 0
 Answers worker ahead later x =
     IsAnswered worker (asked_of x.request) ahead later x.entered x.reply
-    ⊎ IsAnswered worker (Err refusal.Memory) ahead later x.entered x.reply
+    ⊎ IsRefused refusal.Memory ahead later x.entered x.reply
 
 -- each is answered, one after another, with the readings of a clock
 abbrev pub AreAnswered : ℕ → Option (List ℕ) → Option (List ℕ) → List Exchange → Type 0
