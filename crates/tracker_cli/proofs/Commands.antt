@@ -129,15 +129,15 @@ module _ {P : Type 0} (keeps : P → Rows → Type 0) (tells : P → Type 0) (fa
       (p.0, p.1, (p.2.0, (p.2.1.0, made user _ _ p.2.1.1, p.2.1.2))))
 
   cut_imported : (user : List ℕ) (left t u : Option (List ℕ))
-      → IfSome left (λ bytes. GrewBy t u (AreCutFrom keeps tells faults start last user (batch_in bytes).calls))
-      → IfSome left (λ bytes. GrewBy t u (AreCutImported keeps tells faults setup_text keeper last user (batch_in bytes).calls))
-  cut_imported user left t u one = IfSome_then left one (λ bytes p. (p.0, made_cut user _ _ p.1, p.2))
+      → IfSome left (λ bytes. (length bytes ≤ import_limit) × GrewBy t u (AreCutFrom keeps tells faults start last user (batch_in bytes).calls))
+      → IfSome left (λ bytes. (length bytes ≤ import_limit) × GrewBy t u (AreCutImported keeps tells faults setup_text keeper last user (batch_in bytes).calls))
+  cut_imported user left t u one = IfSome_then left one (λ bytes p. (p.0, (p.1.0, made_cut user _ _ p.1.1, p.1.2)))
 
   pub record_imported : (user : List ℕ) (left t u : Option (List ℕ))
-      → IfSome left (λ bytes. GrewBy t u (IsRecordText (AreMadeFrom keeps tells faults start last user) bytes))
-      → IfSome left (λ bytes. GrewBy t u (IsRecordText (AreImported keeps tells faults setup_text keeper last user) bytes))
+      → IfSome left (λ bytes. (length bytes ≤ import_limit) × GrewBy t u (IsRecordText (AreMadeFrom keeps tells faults start last user) bytes))
+      → IfSome left (λ bytes. (length bytes ≤ import_limit) × GrewBy t u (IsRecordText (AreImported keeps tells faults setup_text keeper last user) bytes))
   record_imported user left t u one = IfSome_then left one (λ bytes p.
-      (p.0, (p.1.0, p.1.1, p.1.2, made user _ _ p.1.3, p.1.4), p.2))
+      let text = p.1.1 in (p.0, (p.1.0, (text.0, text.1, text.2, made user _ _ text.3, text.4), p.1.2)))
 
   unwritten : (user bytes : List ℕ) (t u : Option (List ℕ))
       → IsUnwritten (AreMadeFrom keeps tells faults start last user) (AreCutFrom keeps tells faults start last user) t u bytes
@@ -147,23 +147,23 @@ module _ {P : Type 0} (keeps : P → Rows → Type 0) (tells : P → Type 0) (fa
       inr (text, (number, whole, front, back, bad, made user _ _ one, parts, is), now)
 
   unwritten_imported : (user : List ℕ) (left t u : Option (List ℕ))
-      → IfSome left (IsUnwritten (AreMadeFrom keeps tells faults start last user) (AreCutFrom keeps tells faults start last user) t u)
-      → IfSome left (IsUnwritten (AreImported keeps tells faults setup_text keeper last user) (AreCutImported keeps tells faults setup_text keeper last user) t u)
-  unwritten_imported user left t u one = IfSome_then left one (λ bytes p. unwritten user bytes t u p)
+      → IfSome left (λ bytes. (length bytes ≤ import_limit) × IsUnwritten (AreMadeFrom keeps tells faults start last user) (AreCutFrom keeps tells faults start last user) t u bytes)
+      → IfSome left (λ bytes. (length bytes ≤ import_limit) × IsUnwritten (AreImported keeps tells faults setup_text keeper last user) (AreCutImported keeps tells faults setup_text keeper last user) t u bytes)
+  unwritten_imported user left t u one = IfSome_then left one (λ bytes p. (p.0, unwritten user bytes t u p.1))
 
   pub written_of : (Else : Type 0) (user : List ℕ) (left t u : Option (List ℕ))
-      → IfSome left (IsUnwritten (AreMadeFrom keeps tells faults start last user) (AreCutFrom keeps tells faults start last user) t u)
+      → IfSome left (λ bytes. (length bytes ≤ import_limit) × IsUnwritten (AreMadeFrom keeps tells faults start last user) (AreCutFrom keeps tells faults start last user) t u bytes)
       ⊎ (GrewByFront t u (λ due. due ≡ limit_input) × IsTooLong left × (last ≡ start.keeper))
-      → IfSome left (IsUnwritten (AreImported keeps tells faults setup_text keeper last user) (AreCutImported keeps tells faults setup_text keeper last user) t u)
+      → IfSome left (λ bytes. (length bytes ≤ import_limit) × IsUnwritten (AreImported keeps tells faults setup_text keeper last user) (AreCutImported keeps tells faults setup_text keeper last user) t u bytes)
       ⊎ (GrewByFront t u (λ due. due ≡ limit_input) × IsTooLong left × Stands keeps tells faults setup_text keeper last)
       ⊎ Else
   written_of Else user left t u (inl one) = inl (unwritten_imported user left t u one)
   written_of Else user left t u (inr one) = inr (inl (one.0, one.1, stands one.2))
 
   pub memory_of : (Else : Type 0) (user : List ℕ) (left t u : Option (List ℕ))
-      → IfSome left (λ bytes. GrewBy t u (AreCutFrom keeps tells faults start last user (batch_in bytes).calls))
+      → IfSome left (λ bytes. (length bytes ≤ import_limit) × GrewBy t u (AreCutFrom keeps tells faults start last user (batch_in bytes).calls))
       ⊎ ((u ≡ t) × (last ≡ start.keeper))
-      → IfSome left (λ bytes. GrewBy t u (AreCutImported keeps tells faults setup_text keeper last user (batch_in bytes).calls))
+      → IfSome left (λ bytes. (length bytes ≤ import_limit) × GrewBy t u (AreCutImported keeps tells faults setup_text keeper last user (batch_in bytes).calls))
       ⊎ ((u ≡ t) × Stands keeps tells faults setup_text keeper last)
       ⊎ Else
   memory_of Else user left t u (inl one) = inl (cut_imported user left t u one)

@@ -16,7 +16,7 @@ use Rattle.tracker_machine.specs.Machine.{Machine}
 use Rattle.tracker_machine.specs.Tracker.{IsTracker}
 use Rattle.tracker_runs.specs.Run.{IsRun, IsFrontOfReply, requests}
 use Rattle.tracker_runs.proofs.Runs.{IsRun-nil, IsRun-line, front_of_reply}
-use Rattle.tracker_cli.specs.Outcome.{BeginsIn, HasRowsOf, HasRowsBehind, StaysUnopened, IsKeptBehind, IsExec, IsCheck, IsOfLines, AreReplies, AreCutReplies, AreChecked, AreCutChecks, IsFrontOfCheck, AreRepliesOf, AreCutRepliesOf, GrewBy, GrewByFront, IsInitText, IsKeptText, IsLimitText, IsCutLimitText, EndsRun, limit_line, limit_lines, setup_limit}
+use Rattle.tracker_cli.specs.Outcome.{BeginsIn, HasRowsOf, HasRowsBehind, StaysUnopened, IsKeptBehind, IsSetup, IsExec, IsCheck, IsOfLines, AreReplies, AreCutReplies, AreChecked, AreCutChecks, IsFrontOfCheck, AreRepliesOf, AreCutRepliesOf, GrewBy, GrewByFront, IsInitText, IsKeptText, IsLimitText, IsCutLimitText, EndsRun, limit_line, limit_lines, setup_limit}
 use Rattle.tracker_keeper.specs.Rows.{Rows}
 use Rattle.tracker_core.specs.Desk.{DeskParts, IsOpened, IsOpenFault}
 use Rattle.tracker_core.specs.Left.{LeavesOn, LeavesJustIts, LeavesOpened, LeavesWithOne}
@@ -382,12 +382,15 @@ was_all all rest bytes read end = sym (append-nil bytes) ∙ ap (λ list. bytes 
 
 -- what was read to its end was the whole input
 pub whole_text : (Held : Type 0) (left after : Option (List ℕ)) (bytes text : List ℕ) → Consumes left after bytes → IsAtEnd after → IsInitText Held (Some bytes) text → IsInitText Held left text
-whole_text Held left after bytes text read end (inr (inr is)) = inr (inr is)
+whole_text Held None after bytes text read end (inr (inr (is, setup, has))) = inr (inr (is, tt, has))
 whole_text Held None after bytes text read end (inl (is, long)) = inl (is, tt)
 whole_text Held None after bytes text read end (inr (inl (fault, apart, why, is))) = inr (inl (fault, apart, tt, is))
 whole_text Held (Some all) None bytes text read end (inl one) = absurd read
 whole_text Held (Some all) None bytes text read end (inr (inl one)) = absurd read
+whole_text Held (Some all) None bytes text read end (inr (inr one)) = absurd read
 whole_text Held (Some all) (Some rest) bytes text read end (inl (is, long)) =
     inl (is, subst (λ list. setup_limit < length list) (was_all all rest bytes read end) long)
 whole_text Held (Some all) (Some rest) bytes text read end (inr (inl (fault, apart, why, is))) =
-    inr (inl (fault, apart, subst (λ list. Explains list fault) (was_all all rest bytes read end) why, is))
+    inr (inl (fault, apart, subst (λ list. (length list ≤ setup_limit) × Explains list fault) (was_all all rest bytes read end) why, is))
+whole_text Held (Some all) (Some rest) bytes text read end (inr (inr (is, setup, has))) =
+    inr (inr (is, subst (λ list. (length list ≤ setup_limit) × IsSetup list) (was_all all rest bytes read end) setup, has))

@@ -115,10 +115,10 @@ pub record ImportedEnd
       × IsWholeImport Made old new bytes)
   -- a read failed, and nothing was written
   pub read : status ≡ 2 → (new ≡ old) × Unmade
-  -- a write failed: a front of the replies was written; or all replies to the records before a bad one and a front of its text; or a
-  -- front of the limit's text, or of that on a bad row
+  -- a write failed: the input is within its limit, and a front of the replies was written, or all replies to the records before a bad
+  -- one and a front of its text; or a front of the limit's text, or of that on a bad row
   pub written : status ≡ 3 →
-      IfSome left (IsUnwritten Made Cut old new)
+      IfSome left (λ bytes. (length bytes ≤ import_limit) × IsUnwritten Made Cut old new bytes)
       ⊎ (GrewByFront old new (λ due. due ≡ limit_input) × IsTooLong left × Unmade)
       ⊎ (GrewByFront old new (IsKeptText Bad) × Same)
   -- the keeper failed before any call, and nothing was written
@@ -127,14 +127,19 @@ pub record ImportedEnd
   pub bad : status ≡ 5 → GrewBy old new (IsKeptText Bad) × Same
   -- at either nothing was read
   pub unread : (status ≡ 4) ⊎ (status ≡ 5) → after ≡ left
-  -- want of memory: a front of the replies was written; or no call was made and nothing was written, with a desk or without one
+  -- want of memory: the input is within its limit, and a front of the replies was written; or no call was made and nothing was written,
+  -- with a desk or without one
   pub memory : status ≡ 6 →
-      IfSome left (λ bytes. GrewBy old new (Cut (batch_in bytes).calls)) ⊎ ((new ≡ old) × Unmade)
+      IfSome left (λ bytes. (length bytes ≤ import_limit)
+      × GrewBy old new (Cut (batch_in bytes).calls))
+      ⊎ ((new ≡ old) × Unmade)
       ⊎ ((new ≡ old) × Same)
   -- the input is too long, which is told
   pub limit : status ≡ 7 → Appends old new limit_input × IsTooLong left × Unmade
-  -- a record is bad: those before have their replies, and its text follows
-  pub record_is : status ≡ 8 → IfSome left (λ bytes. GrewBy old new (IsRecordText Made bytes))
+  -- the input is within its limit, and a record is bad: those before have their replies, and its text follows
+  pub record_is : status ≡ 8
+      → IfSome left (λ bytes. (length bytes ≤ import_limit)
+      × GrewBy old new (IsRecordText Made bytes))
   pub statuses : (status ≤ 8) × (status ≢ 1)
 
 -- ---- generate

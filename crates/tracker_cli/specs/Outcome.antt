@@ -274,6 +274,20 @@ pub record LinesEnd
   pub limit : status ≡ 7 → IfSome left (λ bytes. GrewBy old new (IsLimitText Replies bytes))
   pub statuses : (status ≤ 7) × (status ≢ 1)
 
+-- these bytes are a setup
+pub record IsSetup (bytes : List ℕ) : Type 0 where
+  pub setup : Parts
+  pub is_text : IsUtf8 bytes
+  pub reads : setup_in bytes ≡ Ok setup
+
+-- the most bytes of a setup
+abbrev pub setup_limit : ℕ
+setup_limit = 1_048_576
+
+-- the input is a setup, and within its limit
+abbrev pub HasSetup : Option (List ℕ) → Type 0
+HasSetup left = IfSome left (λ bytes. (length bytes ≤ setup_limit) × IsSetup bytes)
+
 -- a new tracker was made of this setup's text, where there was no row
 pub record IsCreated {P : Type 0} (keeps : P → Rows → Type 0) (tells : P → Type 0) (old new : P)
     (text : List ℕ) : Type 0 where
@@ -283,21 +297,19 @@ pub record IsCreated {P : Type 0} (keeps : P → Rows → Type 0) (tells : P →
   pub kept : keeps old no_rows → keeps new (rows_of (opening text setup))
   pub none : (rows : Rows) → keeps old rows → tells new → HasNoRow rows
 
--- the text tells why these bytes are no setup
+-- the text tells why the input, which is within its limit, is no setup
 abbrev pub IsSetupText : Option (List ℕ) → List ℕ → Type 0
 IsSetupText left text =
     (fault : SetupFault) × (fault ≢ setup_fault.Memory)
-    × IfSome left (λ bytes. Explains bytes fault) × (text ≡ setup_line fault)
+    × IfSome left (λ bytes. (length bytes ≤ setup_limit) × Explains bytes fault)
+    × (text ≡ setup_line fault)
 
--- the most bytes of a setup
-abbrev pub setup_limit : ℕ
-setup_limit = 1_048_576
-
--- one of the texts of `init`, each where it is due: the input is too long, it is no setup, or the keeper has a row, which `Held` says
+-- one of the texts of `init`, each where it is due: the input is too long; or it is within its limit, and no setup; or it is one, and the
+-- keeper has a row, which `Held` says
 abbrev pub IsInitText : Type 0 → Option (List ℕ) → List ℕ → Type 0
 IsInitText Held left text =
     ((text ≡ limit_input) × IfSome left (λ bytes. setup_limit < length bytes))
-    ⊎ IsSetupText left text ⊎ ((text ≡ held) × Held)
+    ⊎ IsSetupText left text ⊎ ((text ≡ held) × HasSetup left × Held)
 
 -- what comes of `init`. `Created` says that a tracker was made of a text, `Same` that the keeper has the rows that it had, and `Held` that
 -- it has some
@@ -312,15 +324,15 @@ pub record InitEnd
   pub read : status ≡ 2 → (new ≡ old) × Same
   -- a write failed: the text that was due has a front
   pub written : status ≡ 3 → GrewByFront old new (IsInitText Held left) × Same
-  -- the keeper failed
-  pub unopened : status ≡ 4 → (new ≡ old) × Same
+  -- the input is a setup, and the keeper failed
+  pub unopened : status ≡ 4 → (new ≡ old) × HasSetup left × Same
   -- want of memory
   pub memory : status ≡ 6 → (new ≡ old) × Same
   -- the input is too long
   pub limit : status ≡ 7
       → Appends old new limit_input × IfSome left (λ bytes. setup_limit < length bytes) × Same
-  -- the input is no setup
+  -- the input is within its limit, and no setup
   pub setup : status ≡ 8 → GrewBy old new (IsSetupText left) × Same
-  -- the keeper has a row
-  pub held_is : status ≡ 9 → Appends old new held × Held × Same
+  -- the input is a setup, and the keeper has a row
+  pub held_is : status ≡ 9 → Appends old new held × HasSetup left × Held × Same
   pub statuses : (status ≤ 9) × (status ≢ 1) × (status ≢ 5)

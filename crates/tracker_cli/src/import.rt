@@ -38,10 +38,10 @@ pub(crate) fn import<S: Source, T: Sink, P: Keeper + Drop>(
     ensures read { result.0 ≡ 2 → (T.taken out.new ≡ T.taken out.old)
         × Stands P.keeps P.tells P.faults BUILT_IN.now keeper result.1 }
     ensures written { result.0 ≡ 3 →
-        IfSome (S.left input.old)
-        (IsUnwritten (AreImported P.keeps P.tells P.faults BUILT_IN.now keeper result.1 user.now)
+        IfSome (S.left input.old) (λ bytes. (length bytes ≤ import_limit)
+        × IsUnwritten (AreImported P.keeps P.tells P.faults BUILT_IN.now keeper result.1 user.now)
         (AreCutImported P.keeps P.tells P.faults BUILT_IN.now keeper result.1 user.now)
-        (T.taken out.old) (T.taken out.new))
+        (T.taken out.old) (T.taken out.new) bytes)
         ⊎ (GrewByFront (T.taken out.old) (T.taken out.new) (λ due. due ≡ limit_input)
         × IsTooLong (S.left input.old)
         × Stands P.keeps P.tells P.faults BUILT_IN.now keeper result.1)
@@ -55,7 +55,8 @@ pub(crate) fn import<S: Source, T: Sink, P: Keeper + Drop>(
         × HasItsRows P.keeps keeper result.1 }
     ensures unread { (result.0 ≡ 4) ⊎ (result.0 ≡ 5) → S.left input.new ≡ S.left input.old }
     ensures memory { result.0 ≡ 6 →
-        IfSome (S.left input.old) (λ bytes. GrewBy (T.taken out.old) (T.taken out.new)
+        IfSome (S.left input.old) (λ bytes. (length bytes ≤ import_limit)
+        × GrewBy (T.taken out.old) (T.taken out.new)
         (AreCutImported P.keeps P.tells P.faults BUILT_IN.now keeper result.1 user.now
         (batch_in bytes).calls))
         ⊎ ((T.taken out.new ≡ T.taken out.old)
@@ -65,7 +66,8 @@ pub(crate) fn import<S: Source, T: Sink, P: Keeper + Drop>(
         × IsTooLong (S.left input.old)
         × Stands P.keeps P.tells P.faults BUILT_IN.now keeper result.1 }
     ensures record { result.0 ≡ 8 →
-        IfSome (S.left input.old) (λ bytes. GrewBy (T.taken out.old) (T.taken out.new)
+        IfSome (S.left input.old) (λ bytes. (length bytes ≤ import_limit)
+        × GrewBy (T.taken out.old) (T.taken out.new)
         (IsRecordText (AreImported P.keeps P.tells P.faults BUILT_IN.now keeper result.1 user.now)
         bytes)) }
     ensures read_cause { result.0 ≡ 2 → Rose (S.faults input.old) (S.faults input.new) }
@@ -105,22 +107,24 @@ fn import_input<L: Ledger, S: Source, T: Sink, P: Keeper + Drop>(
         (T.taken out.old) (T.taken out.new) bytes) }
     ensures read { result.0 ≡ 2 → (T.taken out.new ≡ T.taken out.old) × (result.1 ≡ desk.keeper) }
     ensures written { result.0 ≡ 3 →
-        IfSome (S.left input.old)
-        (IsUnwritten (AreMadeFrom P.keeps P.tells P.faults desk result.1 user.now)
+        IfSome (S.left input.old) (λ bytes. (length bytes ≤ import_limit)
+        × IsUnwritten (AreMadeFrom P.keeps P.tells P.faults desk result.1 user.now)
         (AreCutFrom P.keeps P.tells P.faults desk result.1 user.now)
-        (T.taken out.old) (T.taken out.new))
+        (T.taken out.old) (T.taken out.new) bytes)
         ⊎ (GrewByFront (T.taken out.old) (T.taken out.new) (λ due. due ≡ limit_input)
         × IsTooLong (S.left input.old)
         × (result.1 ≡ desk.keeper)) }
     ensures memory { result.0 ≡ 6 →
-        IfSome (S.left input.old) (λ bytes. GrewBy (T.taken out.old) (T.taken out.new)
+        IfSome (S.left input.old) (λ bytes. (length bytes ≤ import_limit)
+        × GrewBy (T.taken out.old) (T.taken out.new)
         (AreCutFrom P.keeps P.tells P.faults desk result.1 user.now (batch_in bytes).calls))
         ⊎ ((T.taken out.new ≡ T.taken out.old) × (result.1 ≡ desk.keeper)) }
     ensures limit { result.0 ≡ 7 → Appends (T.taken out.old) (T.taken out.new) limit_input
         × IsTooLong (S.left input.old)
         × (result.1 ≡ desk.keeper) }
     ensures record { result.0 ≡ 8 →
-        IfSome (S.left input.old) (λ bytes. GrewBy (T.taken out.old) (T.taken out.new)
+        IfSome (S.left input.old) (λ bytes. (length bytes ≤ import_limit)
+        × GrewBy (T.taken out.old) (T.taken out.new)
         (IsRecordText (AreMadeFrom P.keeps P.tells P.faults desk result.1 user.now) bytes)) }
     ensures read_cause { result.0 ≡ 2 → Rose (S.faults input.old) (S.faults input.new) }
     ensures write_cause { result.0 ≡ 3 → Rose (T.faults out.old) (T.faults out.new) }

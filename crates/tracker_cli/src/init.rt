@@ -9,7 +9,7 @@ ghost use Rattle.tracker_machine.specs.Machine.{opening};
 ghost use Rattle.tracker_machine.specs.Kept.{rows_of};
 ghost use Rattle.tracker_core.specs.Desk.{HasNoRow};
 ghost use Rattle.tracker_cli.specs.Texts.{setup_line};
-ghost use Rattle.tracker_cli.specs.Outcome.{held, limit_input, setup_limit, GrewBy, GrewByFront, HasItsRows, HasSomeRow, IsCreated, IsSetupText, IsInitText};
+ghost use Rattle.tracker_cli.specs.Outcome.{held, limit_input, setup_limit, GrewBy, GrewByFront, HasItsRows, HasSetup, HasSomeRow, IsCreated, IsSetupText, IsInitText};
 
 use crate::held::tell_held;
 use crate::texts::setup_line;
@@ -39,7 +39,8 @@ pub(crate) fn init<S: Source, T: Sink, P: Keeper + Drop>(
         (IsInitText (HasSomeRow P.keeps P.tells keeper result.1) (S.left input.old))
         × HasItsRows P.keeps keeper result.1 }
     ensures unopened { result.0 ≡ 4
-        → (T.taken out.new ≡ T.taken out.old) × HasItsRows P.keeps keeper result.1 }
+        → (T.taken out.new ≡ T.taken out.old) × HasSetup (S.left input.old)
+        × HasItsRows P.keeps keeper result.1 }
     ensures memory { result.0 ≡ 6
         → (T.taken out.new ≡ T.taken out.old) × HasItsRows P.keeps keeper result.1 }
     ensures limit { result.0 ≡ 7 → Appends (T.taken out.old) (T.taken out.new) limit_input
@@ -49,6 +50,7 @@ pub(crate) fn init<S: Source, T: Sink, P: Keeper + Drop>(
         → GrewBy (T.taken out.old) (T.taken out.new) (IsSetupText (S.left input.old))
         × HasItsRows P.keeps keeper result.1 }
     ensures held { result.0 ≡ 9 → Appends (T.taken out.old) (T.taken out.new) held
+        × HasSetup (S.left input.old)
         × HasSomeRow P.keeps P.tells keeper result.1 × HasItsRows P.keeps keeper result.1 }
     ensures read_cause { result.0 ≡ 2 → Rose (S.faults input.old) (S.faults input.new) }
     ensures write_cause { result.0 ≡ 3 → Rose (T.faults out.old) (T.faults out.new) }
@@ -70,19 +72,22 @@ pub(crate) fn init<S: Source, T: Sink, P: Keeper + Drop>(
 
 // Makes a new tracker of the setup that the text is.
 fn make<T: Sink, P: Keeper + Drop>(alloc: Global, text: &[u8], out: &mut T, keeper: P) -> (u8, P)
+    requires within { length text.now ≤ setup_limit }
     ensures done { result.0 ≡ 0
         → (T.taken out.new ≡ T.taken out.old) × IsCreated P.keeps P.tells keeper result.1 text.now }
     ensures written { result.0 ≡ 3 → GrewByFront (T.taken out.old) (T.taken out.new)
         (IsInitText (HasSomeRow P.keeps P.tells keeper result.1) (Some text.now))
         × HasItsRows P.keeps keeper result.1 }
     ensures unopened { result.0 ≡ 4
-        → (T.taken out.new ≡ T.taken out.old) × HasItsRows P.keeps keeper result.1 }
+        → (T.taken out.new ≡ T.taken out.old) × HasSetup (Some text.now)
+        × HasItsRows P.keeps keeper result.1 }
     ensures memory { result.0 ≡ 6
         → (T.taken out.new ≡ T.taken out.old) × HasItsRows P.keeps keeper result.1 }
     ensures setup { result.0 ≡ 8
         → GrewBy (T.taken out.old) (T.taken out.new) (IsSetupText (Some text.now))
         × HasItsRows P.keeps keeper result.1 }
     ensures held { result.0 ≡ 9 → Appends (T.taken out.old) (T.taken out.new) held
+        × HasSetup (Some text.now)
         × HasSomeRow P.keeps P.tells keeper result.1 × HasItsRows P.keeps keeper result.1 }
     ensures write_cause { result.0 ≡ 3 → Rose (T.faults out.old) (T.faults out.new) }
     ensures keeper_cause { result.0 ≡ 4 → Rose (P.faults keeper) (P.faults result.1) }

@@ -34,7 +34,7 @@ returns-in-Ok-open-clause-written g c = λ is.
     let new = g.T.Sink.taken c.import_input.new.out in
     let Made = AreImported g.P.Keeper.keeps g.P.Keeper.tells g.P.Keeper.faults BUILT_IN.now c.args.keeper last in
     let Cut = AreCutImported g.P.Keeper.keeps g.P.Keeper.tells g.P.Keeper.faults BUILT_IN.now c.args.keeper last in
-    subst (λ user. IfSome (g.S.Source.left c.args.input.now) (IsUnwritten (Made user) (Cut user) old new)
+    subst (λ user. IfSome (g.S.Source.left c.args.input.now) (λ bytes. (length bytes ≤ import_limit) × IsUnwritten (Made user) (Cut user) old new bytes)
     ⊎ (GrewByFront old new (λ due. due ≡ limit_input) × IsTooLong (g.S.Source.left c.args.input.now)
     × Stands g.P.Keeper.keeps g.P.Keeper.tells g.P.Keeper.faults BUILT_IN.now c.args.keeper last)
     ⊎ (GrewByFront old new (IsKeptText (HasBadRow g.P.Keeper.keeps g.P.Keeper.tells c.args.keeper last)) × HasItsRows g.P.Keeper.keeps c.args.keeper last)) c.in-Ok.ensures
@@ -48,7 +48,7 @@ returns-in-Ok-open-clause-memory g c = λ is.
     let old = g.T.Sink.taken c.args.out.now in
     let new = g.T.Sink.taken c.import_input.new.out in
     let Cut = AreCutImported g.P.Keeper.keeps g.P.Keeper.tells g.P.Keeper.faults BUILT_IN.now c.args.keeper last in
-    subst (λ user. IfSome (g.S.Source.left c.args.input.now) (λ bytes. GrewBy old new (Cut user (batch_in bytes).calls))
+    subst (λ user. IfSome (g.S.Source.left c.args.input.now) (λ bytes. (length bytes ≤ import_limit) × GrewBy old new (Cut user (batch_in bytes).calls))
     ⊎ ((new ≡ old) × Stands g.P.Keeper.keeps g.P.Keeper.tells g.P.Keeper.faults BUILT_IN.now c.args.keeper last)
     ⊎ ((new ≡ old) × HasItsRows g.P.Keeper.keeps c.args.keeper last)) c.in-Ok.ensures
     (memory_of g.P.Keeper.keeps g.P.Keeper.tells g.P.Keeper.faults BUILT_IN.now c.args.keeper c.in-Ok-open.desk
@@ -67,7 +67,7 @@ returns-in-Ok-open-clause-limit g c = λ is.
 pub returns-in-Ok-open-clause-record : goal.returns-in-Ok-open-clause-record
 returns-in-Ok-open-clause-record g c = λ is.
     let Made = AreImported g.P.Keeper.keeps g.P.Keeper.tells g.P.Keeper.faults BUILT_IN.now c.args.keeper c.import_input.result.1 in
-    subst (λ user. IfSome (g.S.Source.left c.args.input.now) (λ bytes. GrewBy (g.T.Sink.taken c.args.out.now) (g.T.Sink.taken c.import_input.new.out)
+    subst (λ user. IfSome (g.S.Source.left c.args.input.now) (λ bytes. (length bytes ≤ import_limit) × GrewBy (g.T.Sink.taken c.args.out.now) (g.T.Sink.taken c.import_input.new.out)
     (IsRecordText (Made user) bytes))) c.in-Ok.ensures
     (record_imported g.P.Keeper.keeps g.P.Keeper.tells g.P.Keeper.faults BUILT_IN.now c.args.keeper c.in-Ok-open.desk
     c.in-Ok-open.ensures.opened c.in-Ok-open.ensures.rows c.in-Ok-open.ensures.later_ok c.import_input.result.1 _ _ _ _

@@ -22,16 +22,19 @@ returns-in-Ok-clause-written g c = λ is.
     let Made = AreMadeFrom g.P.Keeper.keeps g.P.Keeper.tells g.P.Keeper.faults c.args.desk c.import_bytes.result.1 c.args.user.now in
     let Cut = AreCutFrom g.P.Keeper.keeps g.P.Keeper.tells g.P.Keeper.faults c.args.desk c.import_bytes.result.1 c.args.user.now in
     let Says : List ℕ → Type 0 = λ bytes. IsUnwritten Made Cut (g.T.Sink.taken c.args.out.now) (g.T.Sink.taken c.import_bytes.new.out) bytes in
-    inl (of_whole Says _ _ _ c.in-Ok.ensures.whole c.in-Ok.ensures.end (subst Says c.deref.ensures.value (c.import_bytes.ensures.written is)))
+    inl (of_whole (λ bytes. (length bytes ≤ import_limit) × Says bytes) _ _ _ c.in-Ok.ensures.whole c.in-Ok.ensures.end
+    (c.in-Ok.ensures.within, subst Says c.deref.ensures.value (c.import_bytes.ensures.written is)))
 
 pub returns-in-Ok-clause-memory : goal.returns-in-Ok-clause-memory
 returns-in-Ok-clause-memory g c = λ is.
     let Cut = AreCutFrom g.P.Keeper.keeps g.P.Keeper.tells g.P.Keeper.faults c.args.desk c.import_bytes.result.1 c.args.user.now in
     let Says : List ℕ → Type 0 = λ bytes. GrewBy (g.T.Sink.taken c.args.out.now) (g.T.Sink.taken c.import_bytes.new.out) (Cut (batch_in bytes).calls) in
-    inl (of_whole Says _ _ _ c.in-Ok.ensures.whole c.in-Ok.ensures.end (subst Says c.deref.ensures.value (c.import_bytes.ensures.memory is)))
+    inl (of_whole (λ bytes. (length bytes ≤ import_limit) × Says bytes) _ _ _ c.in-Ok.ensures.whole c.in-Ok.ensures.end
+    (c.in-Ok.ensures.within, subst Says c.deref.ensures.value (c.import_bytes.ensures.memory is)))
 
 pub returns-in-Ok-clause-record : goal.returns-in-Ok-clause-record
 returns-in-Ok-clause-record g c = λ is.
     let Made = AreMadeFrom g.P.Keeper.keeps g.P.Keeper.tells g.P.Keeper.faults c.args.desk c.import_bytes.result.1 c.args.user.now in
     let Says : List ℕ → Type 0 = λ bytes. GrewBy (g.T.Sink.taken c.args.out.now) (g.T.Sink.taken c.import_bytes.new.out) (IsRecordText Made bytes) in
-    of_whole Says _ _ _ c.in-Ok.ensures.whole c.in-Ok.ensures.end (subst Says c.deref.ensures.value (c.import_bytes.ensures.record is))
+    of_whole (λ bytes. (length bytes ≤ import_limit) × Says bytes) _ _ _ c.in-Ok.ensures.whole c.in-Ok.ensures.end
+    (c.in-Ok.ensures.within, subst Says c.deref.ensures.value (c.import_bytes.ensures.record is))
