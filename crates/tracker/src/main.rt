@@ -2,16 +2,17 @@
 //! standard output; or `tracker STORE serve PORT`, requests over HTTP. The status is that of the command.
 #![tactic(auto)]
 
-use keeper_told::ToldKeeper;
-use sqlite::{Connection, Error, ErrorCode, File, FileStore};
+use file_runs::run_over_files;
+use keeper_told::open_told;
+use sqlite::{Error, ErrorCode, Unknown};
 use std::alloc::Global;
 use std::net::{Net, TcpListener, TcpStream};
 use std::process::ExitCode;
 use std::sync::Wait;
 use std::time::Clock;
 use std::{env, io, mem};
-use tracker_cli::{PortLinks, Reading, Store, Writing, run, serve};
-use tracker_keeper::MemoryKeeper;
+use tracker_cli::{PortLinks, Reading, Writing, run, serve};
+use tracker_keeper::{Keeper, MemoryKeeper};
 
 /// The words are none of the command's.
 const NO_COMMAND: u8 = 1;
@@ -21,14 +22,6 @@ const NO_STORE: u8 = 4;
 
 /// There was not enough memory.
 const NO_MEMORY: u8 = 6;
-
-type Kept = Store<MemoryKeeper, ToldKeeper<FileStore<File>>>;
-
-/// Why there is no store.
-enum NoStore {
-    CannotOpen,
-    Memory,
-}
 
 fn main(rt: HostRuntime) -> ExitCode {
     let alloc = rt.alloc();
@@ -43,51 +36,51 @@ fn main(rt: HostRuntime) -> ExitCode {
             return ExitCode::from(NO_MEMORY);
         }
     }
-    let keeper = match store_at(&rt, store) {
-        Ok(keeper) => keeper,
-        Err(NoStore::Memory) => return ExitCode::from(NO_MEMORY),
-        Err(NoStore::CannotOpen) => {
-            let _ = eprintln!(rt; "store");
-            return ExitCode::from(NO_STORE);
-        }
+    let status = match &store {
+        Some(name) if name.as_str() != ":memory:" => in_files(&rt, &words, name.as_str()),
+        _ => in_memory(&rt, &words),
     };
-    if !is_serve(&words) {
-        return ExitCode::from(run_over(&rt, &words, keeper));
-    }
-    let status = serve_port(&rt, &words, keeper);
-    if status == NO_COMMAND {
-        let _ = eprintln!(rt; "usage: serve PORT");
-    }
     ExitCode::from(status)
 }
 
-// The store of that name: rows in memory, also where none is named, or an SQLite file.
-fn store_at(rt: &HostRuntime, store: Option<String>) -> Result<Kept, NoStore> {
-    match store {
-        None => in_memory(rt),
-        Some(name) => {
-            if name.as_str() == ":memory:" {
-                in_memory(rt)
-            } else {
-                in_file(rt, name.as_str())
-            }
-        }
+// Carries out the words over rows in memory, which go with the process.
+fn in_memory(rt: &HostRuntime, words: &[String]) -> u8 {
+    let Ok(keeper) = MemoryKeeper::new(rt.alloc(), &[], Vec::new(rt.alloc())) else {
+        return NO_MEMORY;
+    };
+    if is_serve(words) {
+        return served(rt, serve_port(rt, words, keeper));
+    }
+    let mut input = Reading::new(rt.reader());
+    let mut out = Writing::new(io::writer(rt));
+    let (status, keeper) = run(rt.alloc(), words, &mut input, &mut out, keeper);
+    mem::forget(keeper);
+    status
+}
+
+// The same over an SQLite file, which is made where there is none.
+fn in_files(rt: &HostRuntime, words: &[String], path: &str) -> u8 {
+    if is_serve(words) {
+        return match open_told(rt, path, Unknown) {
+            Ok(keeper) => served(rt, serve_port(rt, words, keeper)),
+            Err(error) => not_opened(rt, error),
+        };
+    }
+    let mut input = Reading::new(rt.reader());
+    let mut out = Writing::new(io::writer(rt));
+    match run_over_files(rt, words, path, Unknown, &mut input, &mut out) {
+        Ok((status, _store)) => status,
+        Err(error) => not_opened(rt, error),
     }
 }
 
-fn in_memory(rt: &HostRuntime) -> Result<Kept, NoStore> {
-    match MemoryKeeper::new(rt.alloc(), &[], Vec::new(rt.alloc())) {
-        Ok(keeper) => Ok(Store::Memory(keeper)),
-        Err(_) => Err(NoStore::Memory),
+// Says that there is no store, but for want of memory.
+fn not_opened(rt: &HostRuntime, error: Error) -> u8 {
+    if let Error::SqliteFailure(ErrorCode::OutOfMemory) = error {
+        return NO_MEMORY;
     }
-}
-
-fn in_file(rt: &HostRuntime, path: &str) -> Result<Kept, NoStore> {
-    match Connection::open(rt, path) {
-        Ok(connection) => Ok(Store::File(ToldKeeper::adopt(rt.alloc(), connection))),
-        Err(Error::SqliteFailure(ErrorCode::OutOfMemory)) => Err(NoStore::Memory),
-        Err(_) => Err(NoStore::CannotOpen),
-    }
+    let _ = eprintln!(rt; "store");
+    NO_STORE
 }
 
 fn is_serve(words: &[String]) -> bool {
@@ -97,30 +90,22 @@ fn is_serve(words: &[String]) -> bool {
     }
 }
 
-// Carries out a command over the machine's own streams.
-fn run_over(rt: &HostRuntime, words: &[String], keeper: Kept) -> u8 {
-    let mut input = Reading::new(rt.reader());
-    let mut out = Writing::new(io::writer(rt));
-    let (status, keeper) = run(rt.alloc(), words, &mut input, &mut out, keeper);
-    leave(keeper);
-    status
-}
-
-// Leaves a store as the process ends. Rows in memory go with the process, and aren't given back one by one. A file is closed.
-fn leave(keeper: Kept) {
-    match keeper {
-        Store::Memory(rows) => mem::forget(rows),
-        Store::File(file) => drop(file),
-    }
-}
-
 // Serves HTTP on the port that the word behind `serve` names, until it is stopped.
-fn serve_port<R>(rt: &R, words: &[String], keeper: Kept) -> u8
+fn serve_port<R, P>(rt: &R, words: &[String], keeper: P) -> u8
 where
     R: Wait + Alloc<A = Global> + Net<Listener = TcpListener, Stream = TcpStream> + Clock,
+    P: Keeper + Drop,
 {
     let port = words.get(1).map_or("", |word| word.as_str());
     let links = PortLinks::new(rt, port);
     let (status, _links, _keeper) = serve(rt.alloc(), rt, words, links, keeper);
+    status
+}
+
+// Says how the words are to be where they are none of a server's.
+fn served(rt: &HostRuntime, status: u8) -> u8 {
+    if status == NO_COMMAND {
+        let _ = eprintln!(rt; "usage: serve PORT");
+    }
     status
 }

@@ -1,0 +1,4 @@
+mod Setups
+mod Opened
+mod Ends
+mod Left

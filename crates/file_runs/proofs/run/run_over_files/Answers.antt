@@ -1,0 +1,30 @@
+use Rattle.std.proofs.Common.{◌≡◌, inl, inr, sym, subst}
+use Rattle.sqlite_wal.specs.Files.{image_at}
+use Rattle.sqlite.specs.Files.{file_state}
+use Rattle.sqlite.specs.State.{HasCleanDisk}
+use Rattle.sqlite_store.specs.FileStore as store
+use Rattle.setup_reading.specs.declared.built_in_text.TheConstants.{BUILT_IN}
+use Rattle.tracker_keeper.specs.Rows.{Rows, no_rows}
+use Rattle.tracker_machine.specs.Kept.{rows_of}
+use Rattle.keeper_told.specs.Keeping.{Keeps}
+use Rattle.file_runs.specs.Runs.{BeginsWith}
+use Rattle.file_runs.proofs.Left.{run_ends, run_ends_again}
+use Rattle.file_runs.proofs.run.run_over_files.Goals as goal
+
+-- (not checked yet: the two clauses are `run_ends` and `run_ends_again` over the clauses of the three calls)
+pub returns-clause-begins : goal.returns-clause-begins
+returns-clause-begins g c = λ clean exec rows begins.
+    let k = c.in_ok-keeper.keeper in
+    let told = c.in_ok-keeper.ensures in
+    let kept = λ (early : HasCleanDisk (file_state k.conn)). elim begins [
+      | inl held ↦ told.kept early rows held
+      | inr none ↦ subst (Keeps (file_state k.conn)) (sym none.1) (told.nothing early none.0)
+    ] in
+    run_ends _ _ _ _ (store.state c.abandon.result).may_leave BUILT_IN.now k c.run.result.1 rows
+    (λ early opened. kept early) (λ early db may. inl (told.left early rows (kept early) db may)) (c.abandon.ensures.told clean)
+    (λ one other leaving image may. c.abandon.ensures.left clean one other (leaving (c.abandon.ensures.told clean)) image may)
+    _ _ _ _ _ _ (c.run.ensures.lines (inl exec))
+
+pub returns-clause-goes_on : goal.returns-clause-goes_on
+returns-clause-goes_on g c = λ clean exec m holds.
+    run_ends_again _ BUILT_IN.now m holds.tracker holds.setup _ _ _ _ _ _ (returns-clause-begins g c clean exec (rows_of m) (inl holds.held))
