@@ -1,3 +1,4 @@
+pub mod Counts
 pub mod Desks
 pub mod Forms
 pub mod Kept

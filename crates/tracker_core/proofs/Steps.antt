@@ -20,7 +20,7 @@ use Rattle.tracker_state.specs.State.{Held, saved_as, saved_filters}
 use Rattle.tracker_state.specs.Plan.{told, effect_of, cost_of, cost_to_prepare, IsRefused}
 
 -- as many filters as the abstract tracker has
-many : (s : Held) → s.machine.filters ≡ saved_filters s.watched.filters → length s.machine.filters ≡ length s.watched.filters
+pub many : (s : Held) → s.machine.filters ≡ saved_filters s.watched.filters → length s.machine.filters ≡ length s.watched.filters
 many s same = ap length same ∙ length-map s.watched.filters saved_as
 
 -- what is told makes nothing

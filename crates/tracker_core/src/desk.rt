@@ -10,7 +10,9 @@ ghost use Rattle.tracker_machine.specs.Meaning.{Performs, HasEffect};
 ghost use Rattle.tracker_machine.specs.Meaning.Meaning.{Makes};
 ghost use Rattle.tracker_machine.specs.Kept.{rows_of, ops_of};
 ghost use Rattle.tracker_machine.specs.Step.{IsStep, evaluations, meaning};
+ghost use Rattle.tracker_core.specs.Counts.{searches, IsCounted};
 ghost use Rattle.tracker_core.specs.Desk.{IsOwed, IsKeepersOwn, IsCreateFault, HasRow, HasNoRow, due_in};
+ghost use Rattle.tracker_calls.specs.declared.reply.Answer.{Answer};
 ghost use Rattle.tracker_core.specs.Left.{IsWithCall, LeavesOn, LeavesJustIts, LeavesCreated};
 ghost use Rattle.tracker_state.specs.Plan.{effect_of, cost_of, Fits};
 
@@ -133,6 +135,9 @@ impl<P: Keeper + Drop> Desk<P> {
             self.old.keeper self.old.machine self.new.keeper self.new.machine }
         ensures steps { steps.new
             ≤ steps.old + evaluations (due_in self.old.cells) self.old.machine caller.now call.now }
+        ensures exact { (answer : Answer) → result ≡ Reply.Ok answer → searches call.now ≡ false
+            → IsCounted (due_in self.old.cells) self.old.machine call.now
+            (meaning self.old.machine caller.now call.now) steps.old steps.new }
     {
         self.state.have_seen();
         match prepare(self.alloc, &mut self.state, caller, call, steps) {
@@ -151,9 +156,10 @@ impl<P: Keeper + Drop> Desk<P> {
         self.state.is_tracker();
     }
 
-    /// The state, lent.
+    /// The state, lent, with the verdicts of its filters.
     pub fn state(&self) -> &State
-        ensures { result.now.machine ≡ self.now.machine }
+        ensures machine { result.now.machine ≡ self.now.machine }
+        ensures cells { result.now.watched.views.table ≡ self.now.cells }
     {
         &self.state
     }
@@ -276,6 +282,8 @@ fn make<P: Keeper, L: Ledger>(
         (λ m later. (m ≡ state.old.machine) × (later ≡ applied (effect_of plan) state.old.machine))
         keeper.old state.old.machine keeper.new state.new.machine }
     ensures steps { steps.new ≤ steps.old + cost_of plan state.old }
+    ensures exact { (told : Answer) → result ≡ Reply.Ok told
+        → steps.new ≡ steps.old + cost_of plan state.old }
 {
     state.is_tracker();
     match keeper.commit(rows.as_slice()) {

@@ -1,10 +1,12 @@
 // What is done before anything is kept: looks, refusals, and all memory.
-ghost use Rattle.std.specs.Prelude.{◌≡◌, ◌≤◌, ◌<◌, ◌+◌, None, length, option_map, IfOk};
+ghost use Rattle.std.specs.Prelude.{◌≡◌, ◌≤◌, ◌<◌, ◌+◌, false, None, Ok, length, option_map, IfOk};
 ghost use Rattle.std.specs.Option.{option_copied};
 ghost use Rattle.tracker_calls.specs.Part.{part_fault};
 ghost use Rattle.tracker_machine.specs.Checks.{or_then, count_refusal, external_refusal, few_refusal, other_refusal, title_refusal, twins_refusal};
 ghost use Rattle.tracker_machine.specs.Step.{meaning, meaning_for, form_refusal};
 ghost use Rattle.tracker_state.specs.Plan.{IsPrepared, cost_to_prepare};
+ghost use Rattle.tracker_state.specs.declared.plan.Prepared.{Prepared};
+ghost use Rattle.tracker_core.specs.Counts.{searches, asked_before};
 
 use external_ids::is_external;
 use field_forms::name_form::is_title;
@@ -52,6 +54,8 @@ pub fn prepare<L: Ledger>(
     ensures filters { state.new.watched.filters ≡ state.old.watched.filters }
     ensures steps { steps.new ≤ steps.old + cost_to_prepare
         (meaning state.old.machine caller.now call.now) state.old.machine }
+    ensures exact { (prepared : Prepared) → result ≡ Ok prepared → searches call.now ≡ false
+        → steps.new ≡ steps.old + asked_before call.now state.old.machine }
 {
     match fault_of_form(alloc, call) {
         Ok(None) => {}
@@ -81,6 +85,8 @@ fn prepare_for<L: Ledger>(
     ensures filters { state.new.watched.filters ≡ state.old.watched.filters }
     ensures steps { steps.new ≤ steps.old + cost_to_prepare
         (meaning_for state.old.machine user.0 call.now) state.old.machine }
+    ensures exact { (prepared : Prepared) → result ≡ Ok prepared → searches call.now ≡ false
+        → steps.new ≡ steps.old + asked_before call.now state.old.machine }
 {
     match call {
         Call::Create {

@@ -5,12 +5,12 @@ use Rattle.tracker_import.proofs.export.export_rows.Goals as goal
 
 pub returns-in-Err-Write-clause-run : goal.returns-in-Err-Write-clause-run
 returns-in-Err-Write-clause-run g c =
-    front_of_whole _ _ _ _ _ _ c.state.ensures c.new-pending.ensures.items c.in-Ok.ensures.ok c.in-Err-Write.ensures.bytes
+    front_of_whole _ _ _ _ _ _ c.state.ensures.machine c.new-pending.ensures.items c.in-Ok.ensures.ok c.in-Err-Write.ensures.bytes
 
 pub returns-clause-run : goal.returns-clause-run
-returns-clause-run g c = front_of_whole _ _ _ _ _ _ c.state.ensures c.new-pending.ensures.items c.in-Ok.ensures.ok c.in-Err-Memory.ensures.bytes
+returns-clause-run g c = front_of_whole _ _ _ _ _ _ c.state.ensures.machine c.new-pending.ensures.items c.in-Ok.ensures.ok c.in-Err-Memory.ensures.bytes
 
 pub returns-in-Ok-export_issues-clause-run : goal.returns-in-Ok-export_issues-clause-run
 returns-in-Ok-export_issues-clause-run g c =
     subst (λ l. Appends (g.T.Sink.taken c.args.out.now) (g.T.Sink.taken c.export_issues.new.out) l)
-    (whole_text _ _ _ _ c.state.ensures c.new-pending.ensures.items c.in-Ok.ensures.ok) c.in-Ok-export_issues.ensures.bytes
+    (whole_text _ _ _ _ c.state.ensures.machine c.new-pending.ensures.items c.in-Ok.ensures.ok) c.in-Ok-export_issues.ensures.bytes
