@@ -1,7 +1,9 @@
 -- What a server does with a desk.
-use Rattle.std.specs.Prelude.{◌≡◌, ℕ, List, [], ◌∷◌, codes}
+use Rattle.std.specs.Prelude.{◌≡◌, ◌+◌, ℕ, List, [], ◌∷◌, codes}
 use Rattle.tracker_calls.specs.declared.call.Call.{Call}
+use Rattle.tracker_calls.specs.declared.reply.Refusal.TheVariants as refusal
 use Rattle.tracker_calls.specs.declared.reply.Reply.{Reply}
+use Rattle.tracker_calls.specs.declared.reply.Reply.TheVariants as reply
 use Rattle.tracker_core.specs.Desk.{DeskParts, IsOwed}
 use Rattle.tracker_core.specs.Left.{IsWithCall, LeavesOn, LeavesWithOne}
 use Rattle.tracker_keeper.specs.Rows.{Rows}
@@ -13,6 +15,7 @@ use Rattle.tracker_machine.specs.Tracker.{IsTracker}
 use Rattle.tracker_server.specs.Events.{Lead}
 use Rattle.tracker_server.specs.Served.{makes_event}
 use Rattle.tracker_server.specs.declared.event.Event.{Event}
+use Rattle.tracker_cli.specs.Answering.{RoseBy}
 use Rattle.tracker_cli.specs.Numerals.{IsPort}
 use Rattle.tracker_cli.specs.Outcome.{BeginsIn}
 
@@ -42,8 +45,18 @@ tells_parts desk state = desk ≡ state
 abbrev pub IsWithSomeCall : Machine → Machine → Type 0
 IsWithSomeCall m later = (caller : List ℕ) × (c : Call) × IsWithCall caller c m later
 
+-- how many calls were refused since the keeper failed
+abbrev pub failures_told : Reply → ℕ
+failures_told (reply.Refused refusal.Keeper) = 1
+failures_told r = 0
+
+abbrev pub failures_among : List Event → ℕ
+failures_among [] = 0
+failures_among (e ∷ events) = failures_told e.reply + failures_among events
+
 -- calls were made, one after another, from the tracker whose rows the keeper has on, or from a new one of this setup; it has the rows of
--- the last state then, so far as it tells them, and a crash leaves them, or those with one call more
+-- the last state then, so far as it tells them, and a crash leaves them, or those with one call more; and its count rose by as many as
+-- were refused since it failed
 pub record HasServed {P : Type 0} (keeps : P → Rows → Type 0) (tells : P → Type 0) (faults : P → ℕ)
     (leaves : P → Rows → Rows → Type 0) (setup_text : List ℕ) (old new : P) : Type 0 where
   pub first : DeskParts P
@@ -52,6 +65,7 @@ pub record HasServed {P : Type 0} (keeps : P → Rows → Type 0) (tells : P →
   pub start : BeginsIn keeps tells setup_text old new first.machine
   pub made : Lead (makes_event (MakesCall keeps tells faults leaves)) first events last
   pub keeper : last.keeper ≡ new
+  pub counted : RoseBy (faults old) (faults new) (failures_among events)
   pub rows : (rows : Rows) → keeps old rows → tells new → keeps new (rows_of last.machine)
   pub tracker : IsTracker last.machine
   pub left : (rows : Rows) → keeps old rows → leaves old rows rows → tells new
