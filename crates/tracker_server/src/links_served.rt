@@ -1,7 +1,7 @@
 // Connections that are served one after another.
 ghost use Rattle.std.specs.Prelude.{◌≡◌, ◌≤◌, [], Some, IsSome};
 ghost use Rattle.request_lines.specs.Causes.{Rose};
-ghost use Rattle.tracker_server.specs.Served.{HasMadeCalls};
+ghost use Rattle.tracker_server.specs.Served.{HasMadeCalls, HasServedLink};
 
 use crate::direct::Direct;
 use crate::links::{Links, NextLink};
@@ -30,7 +30,8 @@ pub fn serve_links<R: Wait, K: Links, M: Maker + Drop>(
     links: K,
     maker: M,
 ) -> (LinksEnd, K, M)
-    ensures made { HasMadeCalls M.tells M.makes maker result.2 }
+    ensures made { HasMadeCalls K.In.left K.At.ahead M.tells M.makes
+        (K.ahead links) (K.ahead result.1) maker result.2 }
     ensures ended { result.0 ≡ LinksEnd.Ended → IsSome (K.ahead links)
         → K.ahead result.1 ≡ Some [] }
     ensures failed { result.0 ≡ LinksEnd.Failed → Rose (K.faults links) (K.faults result.1) }
@@ -62,7 +63,7 @@ fn serve_link<S: Source + Drop, T: Sink + Drop, C: Clock + Drop, M: Maker + Drop
     clock: C,
     maker: M,
 ) -> M
-    ensures { HasMadeCalls M.tells M.makes maker result }
+    ensures { HasServedLink M.tells M.makes (S.left source) (C.ahead clock) maker result }
 {
     let mut source = source;
     let mut sink = sink;

@@ -1,11 +1,12 @@
-use Rattle.std.proofs.Common.{arith}
+use Rattle.std.proofs.Common.{arith, subst}
 use Rattle.std.proofs.lemmas.Grind.{common_steps}
+use Rattle.tracker_server.specs.Links.{TakesLink}
 use Rattle.tracker_server.proofs.Served.{made_more, told_on, ended_empty, has_failed}
 use Rattle.tracker_server.proofs.links_served.serve_links.Goals as goal
 
 pub loop-preserved : goal.loop-preserved
 loop-preserved g c = record {
-  made = made_more g.M.Maker.tells g.M.Maker.makes _ _ _ c.loop.invariant.made c.serve_link-maker.ensures;
+  made = made_more _ _ g.M.Maker.tells g.M.Maker.makes _ _ _ _ _ _ _ _ _ c.loop.invariant.made (subst (TakesLink _ _) c.in-Link.is c.next-in-loop.ensures.next) c.serve_link-maker.ensures;
   told = λ told. told_on _ _ _ c.next-in-loop.ensures.next (c.loop.invariant.told told);
   later = omega (arith, c.loop.invariant.later, c.next-in-loop.ensures.cause.later);
 }
