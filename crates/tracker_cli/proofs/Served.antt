@@ -11,7 +11,8 @@ use Rattle.tracker_keeper.specs.Rows.{Rows}
 use Rattle.tracker_machine.specs.Kept.{rows_of}
 use Rattle.tracker_machine.specs.Tracker.{IsTracker}
 use Rattle.tracker_server.specs.Events.{Lead}
-use Rattle.tracker_server.specs.Served.{makes_event, HasMadeCalls}
+use Rattle.std.specs.Prelude.{Option}
+use Rattle.tracker_server.specs.Served.{makes_event, AreOfLinks, HasMadeCalls}
 use Rattle.tracker_server.specs.declared.event.Event.{Event}
 use Rattle.tracker_cli.specs.Serving.{MakesCall, HasServed, IsWithSomeCall, failures_told, failures_among, tells_parts}
 use Rattle.tracker_cli.specs.Answering.{RoseBy}
@@ -49,27 +50,28 @@ counted_led keeps tells faults leaves old new (e ∷ events) (next, makes, rest)
     (told_counted e.reply _ _ makes.owed) (counted_led keeps tells faults leaves next new events rest)
 
 -- calls were made from the state of a desk on, and the keeper was handed back
-pub served_opened : {P : Type 0} (keeps : P → Rows → Type 0) (tells : P → Type 0) (faults : P → ℕ) (leaves : P → Rows → Rows → Type 0) (setup_text : List ℕ) (old new : P)
+pub served_opened : {P S T C : Type 0} (left : S → Option (List ℕ)) (ahead : C → Option (List ℕ)) (before after : Option (List (S × T × C))) (keeps : P → Rows → Type 0) (tells : P → Type 0) (faults : P → ℕ) (leaves : P → Rows → Rows → Type 0) (setup_text : List ℕ) (old new : P)
     (desk first last : DeskParts P) → ((rows : Rows) → keeps old rows → tells desk.keeper → IsOpened setup_text rows desk.machine)
     → ((rows : Rows) → keeps old rows → tells desk.keeper → keeps desk.keeper (rows_of desk.machine))
     → ((rows : Rows) → keeps old rows → leaves old rows rows → tells desk.keeper → LeavesJustIts leaves desk.keeper desk.machine) → faults old ≤ faults desk.keeper → first ≡ desk
-    → HasMadeCalls tells_parts (MakesCall keeps tells faults leaves) first last → new ≡ last.keeper → IsTracker first.machine → IsTracker last.machine
-    → HasServed keeps tells faults leaves setup_text old new
-served_opened keeps tells faults leaves setup_text old new desk first last opened kept just later begun made handed first_tracker last_tracker =
+    → HasMadeCalls left ahead tells_parts (MakesCall keeps tells faults leaves) before after first last → new ≡ last.keeper → IsTracker first.machine → IsTracker last.machine
+    → HasServed keeps tells faults leaves (AreOfLinks left ahead (MakesCall keeps tells faults leaves) before after) setup_text old new
+served_opened left ahead before after keeps tells faults leaves setup_text old new desk first last opened kept just later begun made handed first_tracker last_tracker =
     let one = made first refl in
     let is : new ≡ one.1.keeper = handed ∙ ap (λ (d : DeskParts _). d.keeper) one.2 in
-    let stays = stays_led keeps tells faults leaves first one.1 one.0 one.3 in
+    let stays = stays_led keeps tells faults leaves first one.1 one.0 one.3.led in
     let back : tells new → tells desk.keeper = λ told. subst (λ (d : DeskParts _). tells d.keeper) begun (stays.told (subst tells is told)) in
     record {
       first = first;
       last = one.1;
       events = one.0;
       start = λ rows has told. subst (λ (d : DeskParts _). IsOpened setup_text rows d.machine) (sym begun) (opened rows has (back told));
-      made = one.3;
+      made = one.3.led;
+      linked = one.3.linked;
       keeper = sym is;
       counted = subst (λ k. RoseBy (faults old) (faults k) (failures_among one.0)) (sym is)
           (rose_later (faults old) (faults first.keeper) (faults one.1.keeper) (failures_among one.0)
-          (subst (λ (d : DeskParts _). faults old ≤ faults d.keeper) (sym begun) later) (counted_led keeps tells faults leaves first one.1 one.0 one.3));
+          (subst (λ (d : DeskParts _). faults old ≤ faults d.keeper) (sym begun) later) (counted_led keeps tells faults leaves first one.1 one.0 one.3.led));
       rows = λ rows has told.
           subst (λ k. keeps k (rows_of one.1.machine)) (sym is)
           (stays.rows (subst (λ (d : DeskParts _). keeps d.keeper (rows_of d.machine)) (sym begun) (kept rows has (back told))));

@@ -55,15 +55,18 @@ failures_among [] = 0
 failures_among (e ∷ events) = failures_told e.reply + failures_among events
 
 -- calls were made, one after another, from the tracker whose rows the keeper has on, or from a new one of this setup; it has the rows of
--- the last state then, so far as it tells them, and a crash leaves them, or those with one call more; and its count rose by as many as
--- were refused since it failed
+-- the last state then, so far as it tells them, and a crash leaves them, or those with one call more; its count rose by as many as
+-- were refused since it failed. `Linked` says of which connections the calls are
 pub record HasServed {P : Type 0} (keeps : P → Rows → Type 0) (tells : P → Type 0) (faults : P → ℕ)
-    (leaves : P → Rows → Rows → Type 0) (setup_text : List ℕ) (old new : P) : Type 0 where
+    (leaves : P → Rows → Rows → Type 0)
+    (Linked : DeskParts P → List Event → DeskParts P → Type 0) (setup_text : List ℕ)
+    (old new : P) : Type 0 where
   pub first : DeskParts P
   pub last : DeskParts P
   pub events : List Event
   pub start : BeginsIn keeps tells setup_text old new first.machine
   pub made : Lead (makes_event (MakesCall keeps tells faults leaves)) first events last
+  pub linked : Linked first events last
   pub keeper : last.keeper ≡ new
   pub counted : RoseBy (faults old) (faults new) (failures_among events)
   pub rows : (rows : Rows) → keeps old rows → tells new → keeps new (rows_of last.machine)

@@ -3,7 +3,8 @@ ghost use Rattle.std.specs.Prelude.{◌≡◌, ◌≢◌, ◌<◌, ◌≤◌, �
 ghost use Rattle.request_lines.specs.Causes.{Rose};
 ghost use Rattle.tracker_core.specs.Desk.{HasBadRow};
 ghost use Rattle.tracker_cli.specs.Outcome.{StaysUnopened};
-ghost use Rattle.tracker_cli.specs.Serving.{IsServe, HasServed};
+ghost use Rattle.tracker_server.specs.Served.{AreOfLinks};
+ghost use Rattle.tracker_cli.specs.Serving.{MakesCall, IsServe, HasServed};
 
 use crate::exec::RequestLines;
 use crate::number::port_of;
@@ -51,7 +52,10 @@ pub fn serve<R: Wait, K: Links, P: Keeper + Drop>(
     ensures ended { result.0 ≡ 0 → IsSome (K.ahead links) → K.ahead result.1 ≡ Some [] }
     ensures link_cause { result.0 ≡ 2 → Rose (K.faults links) (K.faults result.1) }
     ensures served { (result.0 ≡ 0) ⊎ (result.0 ≡ 2)
-        → HasServed P.keeps P.tells P.faults P.leaves BUILT_IN.now keeper result.2 }
+        → HasServed P.keeps P.tells P.faults P.leaves
+        (AreOfLinks K.In.left K.At.ahead (MakesCall P.keeps P.tells P.faults P.leaves)
+        (K.ahead links) (K.ahead result.1))
+        BUILT_IN.now keeper result.2 }
 
     // No desk was opened, and the keeper has the rows that it had.
     ensures keeper_cause { result.0 ≡ 4 → Rose (P.faults keeper) (P.faults result.2) }
@@ -83,7 +87,10 @@ fn serve_desk<L: Ledger, R: Wait, K: Links, P: Keeper + Drop>(
     ensures ended { result.0 ≡ 0 → IsSome (K.ahead links) → K.ahead result.1 ≡ Some [] }
     ensures link_cause { result.0 ≡ 2 → Rose (K.faults links) (K.faults result.1) }
     ensures served { (result.0 ≡ 0) ⊎ (result.0 ≡ 2)
-        → HasServed P.keeps P.tells P.faults P.leaves BUILT_IN.now keeper result.2 }
+        → HasServed P.keeps P.tells P.faults P.leaves
+        (AreOfLinks K.In.left K.At.ahead (MakesCall P.keeps P.tells P.faults P.leaves)
+        (K.ahead links) (K.ahead result.1))
+        BUILT_IN.now keeper result.2 }
     ensures keeper_cause { result.0 ≡ 4 → Rose (P.faults keeper) (P.faults result.2) }
     ensures bad { result.0 ≡ 5 →
         (kind : ℕ) × (number : ℕ) × HasBadRow P.keeps P.tells keeper result.2 kind number }

@@ -6,13 +6,13 @@ use Rattle.tracker_cli.proofs.serving.serve_desk.Goals as goal
 
 pub returns-in-Ended-clause-served : goal.returns-in-Ended-clause-served
 returns-in-Ended-clause-served g c = λ _.
-    served_opened g.P.Keeper.keeps g.P.Keeper.tells g.P.Keeper.faults g.P.Keeper.leaves BUILT_IN.now c.args.keeper c.close.result
+    served_opened _ _ _ _ g.P.Keeper.keeps g.P.Keeper.tells g.P.Keeper.faults g.P.Keeper.leaves BUILT_IN.now c.args.keeper c.close.result
     c.in-Ok.desk c.new-requests.result c.serve_links-end.result.2
     c.in-Ok.ensures.opened c.in-Ok.ensures.rows c.in-Ok.ensures.left_ok c.in-Ok.ensures.later_ok c.new-requests.ensures c.serve_links-end.ensures.made c.close.ensures c.is_tracker.ensures c.is_tracker-2.ensures
 
 pub returns-in-Failed-clause-served : goal.returns-in-Failed-clause-served
 returns-in-Failed-clause-served g c = λ _.
-    served_opened g.P.Keeper.keeps g.P.Keeper.tells g.P.Keeper.faults g.P.Keeper.leaves BUILT_IN.now c.args.keeper c.close-in-Failed.result
+    served_opened _ _ _ _ g.P.Keeper.keeps g.P.Keeper.tells g.P.Keeper.faults g.P.Keeper.leaves BUILT_IN.now c.args.keeper c.close-in-Failed.result
     c.in-Ok.desk c.new-requests.result c.serve_links-end.result.2
     c.in-Ok.ensures.opened c.in-Ok.ensures.rows c.in-Ok.ensures.left_ok c.in-Ok.ensures.later_ok c.new-requests.ensures c.serve_links-end.ensures.made c.close-in-Failed.ensures c.is_tracker.ensures c.is_tracker-2.ensures
 
