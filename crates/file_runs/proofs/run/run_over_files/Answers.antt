@@ -11,12 +11,11 @@ use Rattle.file_runs.specs.Runs.{BeginsWith}
 use Rattle.file_runs.proofs.Left.{run_ends, run_ends_again}
 use Rattle.file_runs.proofs.run.run_over_files.Goals as goal
 
--- (not checked yet: the two clauses are `run_ends` and `run_ends_again` over the clauses of the three calls)
 pub returns-clause-begins : goal.returns-clause-begins
 returns-clause-begins g c = λ clean exec rows begins.
     let k = c.in_ok-keeper.keeper in
     let told = c.in_ok-keeper.ensures in
-    let kept = λ (early : HasCleanDisk (file_state k.conn)). elim begins [
+    let kept : HasCleanDisk (file_state k.conn) → Keeps (file_state k.conn) rows = λ early. elim begins [
       | inl held ↦ told.kept early rows held
       | inr none ↦ subst (Keeps (file_state k.conn)) (sym none.1) (told.nothing early none.0)
     ] in
