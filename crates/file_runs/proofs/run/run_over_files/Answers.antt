@@ -19,10 +19,10 @@ returns-clause-begins g c = λ clean exec rows begins.
       | inl held ↦ told.kept early rows held
       | inr none ↦ subst (Keeps (file_state k.conn)) (sym none.1) (told.nothing early none.0)
     ] in
-    run_ends _ _ _ _ (store.state c.abandon.result).may_leave BUILT_IN.now k c.run.result.1 rows
+    run_ends _ _ _ _ (store.state c.abandon.result).may_leave BUILT_IN.now k c.run-status.result.1 rows
     (λ early opened. kept early) (λ early db may. inl (told.left early rows (kept early) db may)) (c.abandon.ensures.told clean)
     (λ one other leaving image may. c.abandon.ensures.left clean one other (leaving (c.abandon.ensures.told clean)) image may)
-    _ _ _ _ _ _ (c.run.ensures.lines (inl exec))
+    _ _ _ _ _ _ (c.run-status.ensures.lines (inl exec))
 
 pub returns-clause-goes_on : goal.returns-clause-goes_on
 returns-clause-goes_on g c = λ clean exec m holds.
