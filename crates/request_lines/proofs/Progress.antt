@@ -220,17 +220,28 @@ module _ {State : Type 0} (Answers : State → List ℕ → List ℕ → State �
       let all : lines bytes ≡ done ++ lines (front ++ (h ++ rest)) = ap lines (is ∙ append_assoc (joined done) front (h ++ rest)) ∙ lines-joined done (front ++ (h ++ rest)) so_far.are in
       IsCutShort-after old new done (lines (front ++ (h ++ rest))) (lines bytes) t u all (within_so_far old new left a t u n so_far few) so_far.served)
 
+  -- the lines that are done are within the limits where nothing was read behind them
+  pub within_none : (old m : State) (left a t u : Option (List ℕ)) (n : ℕ) (so_far : IsSoFar old left a t u n m) → n ≤ 1000000 → AreWithinLimits (so_far.done ++ [])
+  within_none old m left a t u n so_far few = subst AreWithinLimits (sym (append-nil so_far.done)) (within_so_far old m left a t u n so_far few)
+
+  -- so they are with a part of one more, where there is a turn left
+  pub within_part : (old m : State) (left a t u : Option (List ℕ)) (n : ℕ) (front : List ℕ) (so_far : IsSoFar old left a t u n m) → n < 1000000 → IsLine front
+      → AreWithinLimits (so_far.done ++ lines front)
+  within_part old m left a t u n [] so_far few is_line = within_none old m left a t u n so_far (omega (arith, few))
+  within_part old m left a t u n (x ∷ xs) so_far few is_line =
+      subst (λ l. AreWithinLimits (so_far.done ++ l)) (sym (lines-last (x ∷ xs) is_line.one (omega arith))) (within_next old m left a t u n (x ∷ xs) so_far few is_line)
+
   pub ends_read_fault : (old new : State) (left a b t u : Option (List ℕ)) (h front : List ℕ) (n : ℕ)
-      → IsSoFar old left a t u n new → n ≤ 1000000 → h ≡ [] → IsOneLine front → Consumes a (prepend_known h b) front
+      → (so_far : IsSoFar old left a t u n new) → AreWithinLimits (so_far.done ++ lines front) → h ≡ [] → IsOneLine front → Consumes a (prepend_known h b) front
       → IfSome left (λ bytes. Ends Answers old bytes b t u ReadFault new)
-  ends_read_fault old new left a b t u h front n so_far few empty one read =
+  ends_read_fault old new left a b t u h front n so_far within empty one read =
       let done = so_far.done in
       let whole = Consumes-trans left a (prepend_known h b) (joined done) front so_far.read read in
       told left b h (joined done ++ front) (λ bytes b. Ends Answers old bytes b t u ReadFault new) whole (λ bytes rest is.
       let all : whole_lines (joined done ++ front) ≡ done = whole_lines-joined done front so_far.are one in (
         joined done ++ front,
         is ∙ ap (λ l. (joined done ++ front) ++ (l ++ rest)) empty,
-        subst AreWithinLimits (sym all) (within_so_far old new left a t u n so_far few),
+        subst AreWithinLimits (sym (lines-joined done front so_far.are)) within,
         subst (λ l. HasServed Answers old l t u new) (sym all) so_far.served,
       ))
 

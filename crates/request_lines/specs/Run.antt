@@ -84,14 +84,15 @@ pub record IsCutShort {State : Type 0} (Answers : State → List ℕ → List �
   pub next : IsFrontOfNext Answers middle done rest front new
   pub written : Appends taken_old taken_new (text ++ front)
 
--- how a run over these bytes ends, by what it answers
+-- how a run over these bytes ends, by what it answers. Where a read fails, each line that has its line feed has its answer, and what was
+-- read behind them is within the limits too
 abbrev pub Ends : {State : Type 0} → (State → List ℕ → List ℕ → State → Type 0) → State → List ℕ
     → Option (List ℕ) → Option (List ℕ) → Option (List ℕ) → End → State → Type 0
 Ends Answers old bytes left taken_old taken_new Done new =
     IsAtEnd left × AreWithinLimits (lines bytes)
     × HasServed Answers old (lines bytes) taken_old taken_new new
 Ends Answers old bytes left taken_old taken_new ReadFault new =
-    (read : List ℕ) × Consumes (Some bytes) left read × AreWithinLimits (whole_lines read)
+    (read : List ℕ) × Consumes (Some bytes) left read × AreWithinLimits (lines read)
     × HasServed Answers old (whole_lines read) taken_old taken_new new
 Ends Answers old bytes left taken_old taken_new WriteFault new =
     IsCutShort Answers old (lines bytes) taken_old taken_new new

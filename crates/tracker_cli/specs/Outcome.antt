@@ -217,7 +217,7 @@ abbrev pub EndsRun : (List (List ℕ) → List ℕ → Type 0) → (List ℕ →
 EndsRun Replies Cut bytes left old new Done =
     IsAtEnd left × AreWithinLimits (lines bytes) × GrewBy old new (Replies (lines bytes))
 EndsRun Replies Cut bytes left old new ReadFault =
-    (read : List ℕ) × Consumes (Some bytes) left read × AreWithinLimits (whole_lines read)
+    (read : List ℕ) × Consumes (Some bytes) left read × AreWithinLimits (lines read)
     × GrewBy old new (Replies (whole_lines read))
 EndsRun Replies Cut bytes left old new WriteFault = GrewBy old new (Cut bytes)
 EndsRun Replies Cut bytes left old new Memory = GrewBy old new (Cut bytes)
@@ -251,10 +251,10 @@ pub record LinesEnd
   pub done : status ≡ 0
       → IfSome left (λ bytes. IsAtEnd after × AreWithinLimits (lines bytes)
       × GrewBy old new (Replies (lines bytes)))
-  -- a read failed: the whole lines before, which are within the limits, have their replies
+  -- a read failed: all that was read is within the limits, and the whole lines have their replies
   pub read : status ≡ 2 →
       IfSome left (λ bytes. (read : List ℕ) × Consumes (Some bytes) after read
-      × AreWithinLimits (whole_lines read) × GrewBy old new (Replies (whole_lines read)))
+      × AreWithinLimits (lines read) × GrewBy old new (Replies (whole_lines read)))
   -- a write failed: the first lines have their replies, and at most the next one a front of its reply; or all lines before a limit have
   -- theirs, and the limit's text has a front; or so has the text on a bad row
   pub written : status ≡ 3 →

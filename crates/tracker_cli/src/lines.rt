@@ -39,7 +39,7 @@ pub(crate) fn run_lines<S: Source, T: Sink, P: Keeper + Drop>(
     ensures read { result.0 ≡ 2
         → IfSome (S.left input.old) (λ bytes. (read : List ℕ)
         × Consumes (Some bytes) (S.left input.new) read
-        × AreWithinLimits (whole_lines read)
+        × AreWithinLimits (lines read)
         × GrewBy (T.taken out.old) (T.taken out.new)
         (AreRepliesOf (BeginsIn P.keeps P.tells BUILT_IN.now keeper result.1)
         (HasRowsBehind P.keeps P.tells P.faults P.leaves keeper result.1)

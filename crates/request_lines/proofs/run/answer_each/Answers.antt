@@ -1,6 +1,6 @@
 use Rattle.std.proofs.Common.{arith, refl}
 use Rattle.request_lines.proofs.InTurn.{all_sent, begun, cut_here, cut_last_at, cut_line_at, finished, last_finished, one_more, still, within_more}
-use Rattle.request_lines.proofs.Progress.{ends_done, ends_memory, ends_read_fault, ends_long, ends_many}
+use Rattle.request_lines.proofs.Progress.{ends_done, ends_memory, ends_read_fault, ends_long, ends_many, within_none, within_part}
 use Rattle.request_lines.proofs.run.answer_each.Goals as goal
 
 pub loop-count-init : goal.loop-count-init
@@ -79,7 +79,7 @@ returns-in-Failed-clause-run g c =
     let so_far = still _ _ _ _ _ _ _ _ _ _ _ c.loop-count.invariant.so_far c.in-Ok.ensures.bytes in
     let taken = c.in-Failed.ensures.bytes in
     finished _ _ _ _ _ _ _ _ _ c.next_line.new.self _ _ _ _ _ so_far (omega arith) taken.1 c.finish-in-Failed.ensures.run
-    (λ sent. ends_read_fault _ _ _ _ _ _ _ _ c.next_line.new.self _ _ sent (omega arith) (c.in-Failed.ensures.held refl) (taken.0).one taken.1)
+    (λ sent. ends_read_fault _ _ _ _ _ _ _ _ c.next_line.new.self _ _ sent (within_part _ _ _ _ _ _ _ _ _ sent (omega arith) taken.0) (c.in-Failed.ensures.held refl) (taken.0).one taken.1)
 
 pub returns-in-Memory-clause-run : goal.returns-in-Memory-clause-run
 returns-in-Memory-clause-run g c =
@@ -106,4 +106,4 @@ returns-in-Ok-true-clause-run g c =
 pub returns-in-Err-fill-clause-run : goal.returns-in-Err-fill-clause-run
 returns-in-Err-fill-clause-run g c =
     let sent = all_sent _ _ _ _ _ _ _ _ _ _ c.loop-count.invariant.so_far c.in-Ok-send.ensures.bytes in
-    ends_read_fault _ _ _ _ _ _ _ _ c.fill.new.self _ _ sent (omega arith) c.in-Err-fill.ensures.failed tt c.in-Err-fill.ensures.same
+    ends_read_fault _ _ _ _ _ _ _ _ c.fill.new.self _ _ sent (within_none _ _ _ _ _ _ _ _ sent (omega arith)) c.in-Err-fill.ensures.failed tt c.in-Err-fill.ensures.same
