@@ -1,0 +1,4 @@
+pub mod RowText
+pub mod Telling
+pub mod Writing
+pub mod Laws
