@@ -1,0 +1,4 @@
+pub mod Placed
+pub mod Small
+pub mod Dumped
+pub mod Walked
