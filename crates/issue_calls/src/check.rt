@@ -177,8 +177,10 @@ pub fn known_values(
     set: &ResolvedSet<'_>,
     opening: Option<Opening<'_>>,
 ) -> Result<Vec<Change>, Refusal>
+    // The names were read by this tracker's setup, and a sprint that is given is there.
     requires setup { set.now.setup ≡ state.now.machine.setup }
     requires known { GivesKnownSprint state.now.machine set.now.set }
+    // The fields become what is wanted of them, which fits and names no missing sprint.
     ensures changes { IfOk result (λ changes. changes.items
         ≡ changes_of (names_in state.now.machine.setup)
         (wants_of state.now.machine.setup set.now.set opening.entry)) }
@@ -186,6 +188,8 @@ pub fn known_values(
         AllFit (names_in state.now.machine.setup) changes.items) }
     ensures sprints { IfOk result (λ changes.
         AreOfSprints (length state.now.machine.sprints) changes.items) }
+    // It passes only where each value fits, and else names a field whose value doesn't, or want of
+    // memory.
     ensures check { Checks (values_refusal state.now.machine
         (wants_of state.now.machine.setup set.now.set opening.entry)) result }
 {

@@ -44,11 +44,14 @@ pub fn create(
     set: &[GivenField],
     external: Option<&str>,
 ) -> Result<Prepared, Refusal>
+    // The caller is a user, and an external id that is given has its form.
     requires caller { caller.0 < length state.old.machine.setup.users }
     requires external { IfSome external (λ id. is_external id.now ≡ true) }
+    // Nothing changes yet: not the tracker, nor the filters and their verdicts.
     ensures same { state.new.machine ≡ state.old.machine }
     ensures table { state.new.watched.views.table ≡ state.old.watched.views.table }
     ensures filters { state.new.watched.filters ≡ state.old.watched.filters }
+    // What is prepared is what the call means.
     ensures prepared { IsPrepared (create_meaning state.old.machine caller.0 project.now
         issue_type.now summary.now set.now (option_copied external.entry)) state.new result }
 {
@@ -182,10 +185,14 @@ fn check_values(
     opening: Opening<'_>,
     set: &ResolvedSet<'_>,
 ) -> Result<Vec<Change>, Refusal>
+    // The names were read by this tracker's setup, and a sprint that is given is there.
     requires setup { set.now.setup ≡ state.now.machine.setup }
     requires known { GivesKnownSprint state.now.machine set.now.set }
+    // It passes only where nothing refuses a new issue of these values, and else names that cause,
+    // or want of memory.
     ensures check { Checks (new_issue_refusal state.now.machine opening.entry.caller.0
         opening.entry.issue_type.now opening.entry.summary.now set.now.set) result }
+    // The fields become what is wanted of them, which fits and names no missing sprint.
     ensures changes { IfOk result (λ changes. changes.items
         ≡ changes_of (names_in state.now.machine.setup)
         (create_wants state.now.machine.setup opening.entry.caller.0
@@ -194,9 +201,11 @@ fn check_values(
         AllFit (names_in state.now.machine.setup) changes.items) }
     ensures sprints { IfOk result (λ changes.
         AreOfSprints (length state.now.machine.sprints) changes.items) }
+    // An issue may open so: it has its type, summary and status, and its row can list the values.
     ensures named { IfOk result (λ changes. AreNamed (opening_value (filled changes.items))) }
     ensures listed { IfOk result (λ changes. AreSmall (filled changes.items)
         → are_opening (names_in state.now.machine.setup) (filled changes.items) ≡ true) }
+    // There is room for one issue more and its texts, which are no more than a call may bring.
     ensures few { IfOk result (λ changes. length state.now.machine.histories < most_issues) }
     ensures light { IfOk result (λ changes.
         bytes_kept state.now.machine.histories ≤ most_text_bytes - text_reserve) }

@@ -56,13 +56,17 @@ fn check_edit(
     set: &ResolvedSet<'_>,
 ) -> Result<(usize, Vec<Change>), Refusal>
     requires { set.now.setup ≡ state.now.machine.setup }
+    // It passes only where nothing refuses the edit, and else names that cause, or want of memory.
     ensures check { Checks (edit_refusal state.now.machine caller.0 issue.now set.now.set) result }
+    // At the place is the issue of that name.
     ensures place { IfOk result (λ r. place_of_issue issue.now state.now.machine.histories
         ≡ Some r.0) }
     ensures there { IfOk result (λ r. r.0 < length state.now.machine.histories) }
+    // Its fields become what `set` wants of them, which fits and names no missing sprint.
     ensures changes { IfOk result (λ r. r.1.items ≡ set_changes state.now.machine set.now.set) }
     ensures fitting { IfOk result (λ r. AllFit (names_in state.now.machine.setup) r.1.items) }
     ensures sprints { IfOk result (λ r. AreOfSprints (length state.now.machine.sprints) r.1.items) }
+    // There is room for the entries and texts of one more group.
     ensures few { IfOk result (λ r. entries_kept state.now.machine.histories ≤ most_entries - entries_reserve) }
     ensures light { IfOk result (λ r. bytes_kept state.now.machine.histories ≤ most_text_bytes - text_reserve) }
 {
@@ -86,15 +90,19 @@ fn change(
     name: &str,
     changes: Vec<Change>,
 ) -> Result<Prepared, Refusal>
+    // Issue and caller are there, and so is room for the entries and texts of one more group.
     requires there { place < length state.old.machine.histories }
     requires user { caller.0 < length state.old.machine.setup.users }
     requires few { entries_kept state.old.machine.histories ≤ most_entries - entries_reserve }
     requires light { bytes_kept state.old.machine.histories ≤ most_text_bytes - text_reserve }
+    // The values fit and name no missing sprint; some may be the present ones.
     requires fitting { AllFit (names_in state.old.machine.setup) changes.items }
     requires sprints { AreOfSprints (length state.old.machine.sprints) changes.items }
+    // Nothing changes yet: not the tracker, nor the filters and their verdicts.
     ensures same { state.new.machine ≡ state.old.machine }
     ensures table { state.new.watched.views.table ≡ state.old.watched.views.table }
     ensures filters { state.new.watched.filters ≡ state.old.watched.filters }
+    // What is prepared is a group of those changes that make a difference.
     ensures prepared { IfSome (slice_get state.old.machine.histories place) (λ h.
         IsPrepared (grouped (edit_answer name.now) state.old.machine caller.0 place h
         (net_changes (present h) changes.items)) state.new result) }
@@ -105,13 +113,16 @@ fn change(
 
 // The values that differ from the present ones.
 fn news(state: &State, place: usize, changes: Vec<Change>) -> Vec<Change>
+    // The issue is there, and the values fit and name no missing sprint.
     requires there { place < length state.now.machine.histories }
     requires fitting { AllFit (names_in state.now.machine.setup) changes.items }
     requires sprints { AreOfSprints (length state.now.machine.sprints) changes.items }
+    // Those changes stay that make a difference, each to another value than the present one.
     ensures net { IfSome (slice_get state.now.machine.histories place) (λ h.
         result.items ≡ net_changes (present h) changes.items) }
     ensures news { IfSome (slice_get state.now.machine.histories place) (λ h.
         AreNews (present h) 0 result.items) }
+    // They fit and name no missing sprint, as before.
     ensures fitting { AllFit (names_in state.now.machine.setup) result.items }
     ensures sprints { AreOfSprints (length state.now.machine.sprints) result.items }
 {

@@ -49,17 +49,21 @@ pub fn grouped(
     name: &str,
     net: Vec<Change>,
 ) -> Result<Prepared, Refusal>
+    // Issue and caller are there, and so is room for the entries and texts of one more group.
     requires there { place < length state.old.machine.histories }
     requires user { caller.0 < length state.old.machine.setup.users }
     requires few { entries_kept state.old.machine.histories ≤ most_entries - entries_reserve }
     requires light { bytes_kept state.old.machine.histories ≤ most_text_bytes - text_reserve }
+    // Each change is to another value than the present one, which fits and names no missing sprint.
     requires news { IfSome (slice_get state.old.machine.histories place) (λ h.
         AreNews (present h) 0 net.items) }
     requires fitting { AllFit (names_in state.old.machine.setup) net.items }
     requires sprints { AreOfSprints (length state.old.machine.sprints) net.items }
+    // Nothing changes yet: not the tracker, nor the filters and their verdicts.
     ensures same { state.new.machine ≡ state.old.machine }
     ensures table { state.new.watched.views.table ≡ state.old.watched.views.table }
     ensures filters { state.new.watched.filters ≡ state.old.watched.filters }
+    // What is prepared is what a group of these changes means, with the answer of the call.
     ensures prepared { IfSome (slice_get state.old.machine.histories place) (λ h.
         IsPrepared (grouped (group_answer call name.now) state.old.machine caller.0 place h
         net.items) state.new result) }
@@ -94,24 +98,31 @@ fn new_group(
     place: usize,
     net: Vec<Change>,
 ) -> Result<(GroupPlan, Vec<RowOp>), Memory>
+    // Issue and caller are there, and so is room for the entries and texts of one more group.
     requires there { place < length state.old.machine.histories }
     requires user { caller.0 < length state.old.machine.setup.users }
     requires few { entries_kept state.old.machine.histories ≤ most_entries - entries_reserve }
     requires light { bytes_kept state.old.machine.histories ≤ most_text_bytes - text_reserve }
+    // There are changes, each to another value than the present one, which fits and names no
+    // missing sprint.
     requires news { IfSome (slice_get state.old.machine.histories place) (λ h.
         AreNews (present h) 0 net.items) }
     requires some { net.items ≢ [] }
     requires fitting { AllFit (names_in state.old.machine.setup) net.items }
     requires sprints { AreOfSprints (length state.old.machine.sprints) net.items }
+    // The changes are some, as before, and nothing changes but room: not the tracker, nor the
+    // filters and their verdicts.
     ensures some { net.items ≢ [] }
     ensures same { state.new.machine ≡ state.old.machine }
     ensures table { state.new.watched.views.table ≡ state.old.watched.views.table }
     ensures filters { state.new.watched.filters ≡ state.old.watched.filters }
+    // The plan is for the next group of that issue, which may come and finds room.
     ensures place { IfOk result (λ r. r.0.place ≡ place) }
     ensures group { IfOk result (λ r. IfSome (slice_get state.old.machine.histories place) (λ h.
         r.0.group ≡ next_group state.old.machine caller.0 h net.items)) }
     ensures allowed { IfOk result (λ r. MayGroup state.old.machine place r.0.group) }
     ensures fits { IfOk result (λ r. GroupFits state.new r.0) }
+    // What keeps it is a row of where the tracker stands then, and one of the group.
     ensures rows { IfOk result (λ r. IfSome (slice_get state.old.machine.histories place) (λ h.
         r.1.items ≡ present_op state.old.machine.balance
         (state.old.machine.change + 1) state.old.machine.moment
@@ -134,10 +145,13 @@ fn new_group(
 // Makes room for these entries of the issue at a place, and for a row of each sprint that it is in before and after them.
 fn reserve(state: &mut State, place: usize, entries: &[Entry]) -> Result<(), Memory>
     requires { place < length state.old.machine.histories }
+    // The tracker stays as it is.
     ensures machine { state.new.machine ≡ state.old.machine }
+    // Where memory sufficed, the entries find room, and so do the rows of both sprints.
     ensures room { OnOk result (slice_get state.new.rooms place ≡ Some (length entries.now)) }
     ensures rows { OnOk result (IfSome (slice_get state.new.machine.histories place) (λ h.
         HasRowsRoom state.new h entries.now)) }
+    // The filters and their verdicts stay.
     ensures table { state.new.watched.views.table ≡ state.old.watched.views.table }
     ensures filters { state.new.watched.filters ≡ state.old.watched.filters }
 {
@@ -200,12 +214,16 @@ fn group_of(
     place: usize,
     net: Vec<Change>,
 ) -> Result<Group, Memory>
+    // The issue is there, and there are changes, each to another value than the present one, which
+    // fits and names no missing sprint.
     requires there { place < length state.now.machine.histories }
     requires news { IfSome (slice_get state.now.machine.histories place) (λ h.
         AreNews (present h) 0 net.items) }
     requires some { net.items ≢ [] }
     requires fitting { AllFit (names_in state.now.machine.setup) net.items }
     requires sprints { AreOfSprints (length state.now.machine.sprints) net.items }
+    // The group is the tracker's next change, by the caller at the present moment, with the entries
+    // that these changes make.
     ensures change { IfOk result (λ group. group.change ≡ state.now.machine.change + 1) }
     ensures at { IfOk result (λ group. group.at ≡ state.now.machine.moment) }
     ensures author { IfOk result (λ group. group.author ≡ caller) }
@@ -213,8 +231,10 @@ fn group_of(
         IfSome (slice_get state.now.machine.histories place) (λ h.
         group.entries ≡ entries_of (present h)
         (state.now.machine.change + 1) state.now.machine.moment caller net.items)) }
+    // It brings no more entries and no more text than a call may.
     ensures few { IfOk result (λ group. length group.entries ≤ entries_reserve) }
     ensures light { IfOk result (λ group. AllLight group.entries) }
+    // Its values fit and name no missing sprint, and the issue may add it.
     ensures fitting { IfOk result (λ group.
         AllEntriesFit (names_in state.now.machine.setup) group.entries) }
     ensures sprints { IfOk result (λ group.
@@ -246,12 +266,17 @@ fn net_entries(
     author: UserNo,
     net: Vec<Change>,
 ) -> Result<Entries, Memory>
+    // The group comes after all that the issue has, and there are changes, each to another value
+    // than the present one.
     requires timely { updated issue.now.history ≤ at }
     requires earlier { last_change issue.now.history.change issue.now.history.entries < change }
     requires news { AreNews (present issue.now.history) 0 net.items }
     requires some { net.items ≢ [] }
+    // The entries are those of these changes.
     ensures entries { IfOk result (λ entries. entries
         ≡ entries_of (present issue.now.history) change at author net.items) }
+    // Whichever setup the changes fit, the entries fit it too, bring no missing sprint, and are as
+    // few and as light as a call's may be.
     ensures few { IfOk result (λ entries. (names : Names) → AllFit names net.items →
         length names.fields ≤ 30 → length entries ≤ entries_reserve) }
     ensures fitting { IfOk result (λ entries. (names : Names) → AllFit names net.items →
@@ -261,6 +286,7 @@ fn net_entries(
     ensures light { IfOk result (λ entries. (names : Names) → GroupsAreLight names →
         ((f : FieldNo) → Holds names f (present issue.now.history f)) → AllFit names net.items →
         AllLight entries) }
+    // The issue may add them.
     ensures may { IfOk result (λ entries. MayAdd issue.now.history change at author entries) }
 {
     entries_of(alloc, issue, change, at, author, net)

@@ -40,12 +40,15 @@ pub fn place_last(
     new: NewValues,
     external: Option<&str>,
 ) -> Result<Prepared, Refusal>
+    // An issue may begin with these values, its author is a user, and the external id may name it.
     requires may { MayBegin state.old.machine new }
     requires author { caller.0 < length state.old.machine.setup.users }
     requires name { MayName state.old.machine.externals (option_copied external) }
+    // Nothing changes yet: not the tracker, nor the filters and their verdicts.
     ensures same { state.new.machine ≡ state.old.machine }
     ensures table { state.new.watched.views.table ≡ state.old.watched.views.table }
     ensures filters { state.new.watched.filters ≡ state.old.watched.filters }
+    // What is prepared is an issue of these values behind all others.
     ensures prepared { IsPrepared (created_last state.old.machine caller.0
         (option_copied external.entry) new) state.new result }
 {
@@ -73,13 +76,17 @@ fn open(
     rank: Rank,
     external: Option<&str>,
 ) -> Result<Prepared, Refusal>
+    // The rank is the one behind all others.
     requires given { last_rank state.old.machine ≡ Ok rank }
+    // An issue may begin with these values, its author is a user, and the external id may name it.
     requires may { MayBegin state.old.machine values }
     requires author { caller.0 < length state.old.machine.setup.users }
     requires name { MayName state.old.machine.externals (option_copied external) }
+    // Nothing changes yet: not the tracker, nor the filters and their verdicts.
     ensures same { state.new.machine ≡ state.old.machine }
     ensures table { state.new.watched.views.table ≡ state.old.watched.views.table }
     ensures filters { state.new.watched.filters ≡ state.old.watched.filters }
+    // What is prepared is the new issue at that rank.
     ensures prepared { IsPrepared (created state.old.machine caller.0
         (key_of_project state.old.machine values.project)
         (option_copied external.entry) values.changes.items rank) state.new result }
@@ -104,13 +111,16 @@ fn open(
 
 // Makes room for the issue, its external id, its rank and its verdicts, and for a row of its sprint.
 fn reserve(state: &mut State, new: &IssuePlan) -> Result<(), Memory>
+    // The tracker stays as it is.
     ensures machine { state.new.machine ≡ state.old.machine }
+    // Where memory sufficed, each part of the new issue finds room.
     ensures room { OnOk result (1 ≤ state.new.room) }
     ensures ranks { OnOk result (length state.new.machine.order < state.new.ranks_room) }
     ensures cells { OnOk result (HasIssueRoom state.new.watched) }
     ensures rows { OnOk result (HasRoomFor state.new.work
         (share_now state.new.work.seen new.now.issue.history).sprint) }
     ensures externals { OnOk result (IfSome new.now.external (λ e. 1 ≤ state.new.externals_room)) }
+    // The filters and their verdicts stay.
     ensures table { state.new.watched.views.table ≡ state.old.watched.views.table }
     ensures filters { state.new.watched.filters ≡ state.old.watched.filters }
 {
@@ -199,18 +209,24 @@ fn new_issue(
     external: Option<&str>,
 ) -> Result<(IssuePlan, Row), Memory>
     requires { MayBegin state.now.machine values }
+    // The issue is the tracker's next one, opens with these values, and has its project's next key.
     ensures history { IfOk result (λ r. r.0.issue.history ≡ opened state.now.machine caller.0
         (key_of_project state.now.machine values.project) (filled values.changes.items)) }
     ensures key { IfOk result (λ r. string_bytes r.0.key
         ≡ next_key state.now.machine (key_of_project state.now.machine values.project)) }
     ensures project { IfOk result (λ r. r.0.project ≡ values.project) }
+    // It has the rank that is given, and its text is counted, which is no more than a call may
+    // bring.
     ensures rank { IfOk result (λ r. r.0.rank ≡ rank) }
     ensures bytes { IfOk result (λ r. r.0.bytes ≡ history_bytes r.0.issue.history) }
     ensures light { IfOk result (λ r. r.0.bytes ≤ text_reserve) }
+    // A row can list its values.
     ensures listed { IfOk result (λ r.
         are_opening (names_in state.now.machine.setup) (filled values.changes.items) ≡ true) }
+    // It has the external id that is given, if there is one.
     ensures external { IfOk result (λ r. id_of r.0.external ≡ option_copied external.entry) }
     ensures text { IfOk result (λ r. IfSome r.0.external (λ e. string_bytes e.text ≡ e.id)) }
+    // The row keeps what it opens with.
     ensures row { IfOk result (λ r. r.1 ≡ issue_row (names_in state.now.machine.setup)
         (opened state.now.machine caller.0 (key_of_project state.now.machine values.project)
         (filled values.changes.items))) }
@@ -239,9 +255,11 @@ fn issue_in(
     project: ProjectNo,
     opening: Changes,
 ) -> Result<(Issue, String, Row), Memory>
+    // There is room for one issue more, its project is there, and a row can list its values.
     requires few { length state.now.machine.histories < most_issues }
     requires there { project.0 < length state.now.machine.setup.project }
     requires listed { are_opening (names_in state.now.machine.setup) opening ≡ true }
+    // Issue, key and row all tell of the tracker's next issue, which opens with these values.
     ensures history { IfOk result (λ r. r.0.history ≡ opened state.now.machine caller.0
         (key_of_project state.now.machine project) opening) }
     ensures key { IfOk result (λ r. string_bytes r.1

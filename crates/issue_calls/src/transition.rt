@@ -68,13 +68,19 @@ fn check_transition(
     transition: &str,
     set: &ResolvedSet<'_>,
 ) -> Result<(usize, Vec<Change>), Refusal>
+    // The names were read by this tracker's setup, and the caller is a user.
     requires setup { set.now.setup ≡ state.now.machine.setup }
     requires user { caller.0 < length state.now.machine.setup.users }
+    // It passes only where nothing refuses the transition, and else names that cause, or want of
+    // memory.
     ensures check { Checks (transition_refusal state.now.machine caller.0 issue.now transition.now
         set.now.set) result }
+    // At the place is the issue of that name.
     ensures place { IfOk result (λ r. place_of_issue issue.now state.now.machine.histories
         ≡ Some r.0) }
     ensures there { IfOk result (λ r. r.0 < length state.now.machine.histories) }
+    // What changes is what the transition makes of the issue: other values than the present ones,
+    // which fit and name no missing sprint.
     ensures net { IfOk result (λ r. r.1.items
         ≡ transition_news state.now.machine caller.0 set.now.set
         (slice_get state.now.machine.histories r.0)
@@ -83,6 +89,7 @@ fn check_transition(
         IfSome (slice_get state.now.machine.histories r.0) (λ h. AreNews (present h) 0 r.1.items)) }
     ensures fitting { IfOk result (λ r. AllFit (names_in state.now.machine.setup) r.1.items) }
     ensures sprints { IfOk result (λ r. AreOfSprints (length state.now.machine.sprints) r.1.items) }
+    // There is room for the entries and texts of one more group.
     ensures few { IfOk result (λ r. entries_kept state.now.machine.histories ≤ most_entries - entries_reserve) }
     ensures light { IfOk result (λ r. bytes_kept state.now.machine.histories ≤ most_text_bytes - text_reserve) }
 {
@@ -107,14 +114,20 @@ fn check_plan(
     transition: usize,
     set: &ResolvedSet<'_>,
 ) -> Result<Vec<Change>, Refusal>
+    // The names were read by this tracker's setup, and caller, issue, transition and a sprint that
+    // is given are there.
     requires setup { set.now.setup ≡ state.now.machine.setup }
     requires user { caller.0 < length state.now.machine.setup.users }
     requires there { place < length state.now.machine.histories }
     requires named { transition < length state.now.machine.setup.transition }
     requires known { GivesKnownSprint state.now.machine set.now.set }
+    // It passes only where conditions, values and validators hold, and else names the first that
+    // doesn't, or want of memory.
     ensures check { Checks (plan_refusal state.now.machine caller.0 set.now.set
         (slice_get state.now.machine.histories place)
         (slice_get state.now.machine.setup.transition transition)) result }
+    // What changes is what the transition makes of the issue: other values than the present ones,
+    // which fit and name no missing sprint.
     ensures net { IfOk result (λ net. net.items
         ≡ transition_news state.now.machine caller.0 set.now.set
         (slice_get state.now.machine.histories place)
@@ -141,15 +154,22 @@ fn plan_of(
     transition: &Transition,
     set: &ResolvedSet<'_>,
 ) -> Result<Vec<Change>, Refusal>
+    // The names were read by this tracker's setup, in which the transition and its rules are sound.
     requires setup { set.now.setup ≡ state.now.machine.setup }
     requires sound { IsSoundTransition state.now.machine.setup transition.now }
     requires rules { rules_are_sound (names_in state.now.machine.setup) transition.now ≡ true }
+    // A sprint that is given and the caller are there, and the issue's reporter fits, if it has
+    // one.
     requires known { GivesKnownSprint state.now.machine set.now.set }
     requires user { caller.0 < length state.now.machine.setup.users }
     requires reporter { Holds (names_in state.now.machine.setup) reporter
         (present issue.now.history reporter) }
+    // It passes only where conditions, values and validators hold, and else names the first that
+    // doesn't, or want of memory.
     ensures check { Checks (plan_refusal state.now.machine caller.0 set.now.set
         (Some issue.now.history) (Some transition.now)) result }
+    // What changes is what the transition makes of the issue: other values than the present ones,
+    // which fit and name no missing sprint.
     ensures net { IfOk result (λ net. net.items
         ≡ transition_news state.now.machine caller.0 set.now.set (Some issue.now.history)
         (Some transition.now)) }
@@ -213,15 +233,19 @@ fn news_of(
     transition: &Transition,
     inputs: Vec<Change>,
 ) -> Result<Vec<Change>, Memory>
+    // The transition and its rules are sound in this setup.
     requires sound { IsSoundTransition (parts setup.now) transition.now }
     requires rules { rules_are_sound (names_in (parts setup.now)) transition.now ≡ true }
+    // The caller is a user, and what stands in the issue as reporter and what is put in fit.
     requires user { caller.0 < length setup.now.users }
     requires reporter { Holds (names_in (parts setup.now)) reporter
         (present issue.now.history reporter) }
     requires inputs { AllFit (names_in (parts setup.now)) inputs.items }
+    // What changes is what the transition plans, each to another value than the present one.
     ensures net { IfOk result (λ net. net.items
         ≡ planned (parts setup.now) issue.now.history caller transition.now inputs.items) }
     ensures news { IfOk result (λ net. AreNews (present issue.now.history) 0 net.items) }
+    // It fits, and names no missing sprint where what is put in names none.
     ensures fitting { IfOk result (λ net. AllFit (names_in (parts setup.now)) net.items) }
     ensures sprints { IfOk result (λ net. (count : ℕ) →
         AreOfSprints count inputs.items → AreOfSprints count net.items) }
