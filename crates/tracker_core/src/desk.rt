@@ -74,19 +74,26 @@ impl<P: Keeper + Drop> Desk<P> {
     /// The desk of a new tracker, whose opening rows are kept. A keeper that has a row already, or that fails, is handed back
     /// with its rows as they were.
     pub fn create(alloc: Global, keeper: P, setup: Setup) -> Result<Desk<P>, (OpenFault, P)>
+        // A new tracker of the setup begins, whose opening rows are kept by a keeper that had none.
         ensures state { IfOk result (λ desk. desk.machine ≡ opening setup.text (parts setup)) }
         ensures rows { P.keeps keeper no_rows →
             IfOk result (λ desk. P.keeps desk.keeper (rows_of (opening setup.text (parts setup)))) }
         ensures none { (rows : Rows) → P.keeps keeper rows →
             IfOk result (λ desk. P.tells desk.keeper → HasNoRow rows) }
+        // Where none begins the keeper has its rows as they were, and some where it's said to hold
+        // any.
         ensures same { (rows : Rows) → P.keeps keeper rows → IfErr result (λ e. P.keeps e.1 rows) }
         ensures held { (rows : Rows) → P.keeps keeper rows →
             IfErr result (λ e. e.0 ≡ OpenFault.Held → P.tells e.1 → HasRow rows) }
+        // No row is called bad. A keeper that is blamed has failed, and its count of that never
+        // falls.
         ensures fault { IfErr result (λ e. IsCreateFault e.0) }
         ensures cause { IfErr result
             (λ e. e.0 ≡ OpenFault.Keeper → Rose (P.faults keeper) (P.faults e.1)) }
         ensures later_ok { IfOk result (λ desk. P.faults keeper ≤ P.faults desk.keeper) }
         ensures later_err { IfErr result (λ e. P.faults keeper ≤ P.faults e.1) }
+        // Once it has begun a crash leaves just its rows, and else those that were there, or its
+        // rows where there were none.
         ensures left_ok { P.keeps keeper no_rows → IfOk result
             (λ desk. LeavesJustIts P.leaves desk.keeper (opening setup.text (parts setup))) }
         ensures left_err { (rows : Rows) → P.keeps keeper rows → P.leaves keeper rows rows →
@@ -123,16 +130,24 @@ impl<P: Keeper + Drop> Desk<P> {
     /// call; once the call is carried out, just those of the tracker.
     #[tactic(auto, unfolding(tracker_machine::specs::Step::IsStep, tracker_machine::specs::Step::evaluations), using(crate::proofs::Steps::told_step, crate::proofs::Steps::refused_step))]
     pub fn call<L: Ledger>(&mut self, caller: &UserName, call: &Call, steps: &mut Steps<L>) -> Reply
+        // The call is made as the abstract tracker makes it, and what is kept are the rows after
+        // it.
         ensures step { IsStep self.old.machine caller.now call.now result self.new.machine }
         ensures rows { P.keeps self.old.keeper (rows_of self.old.machine) →
             P.keeps self.new.keeper (rows_of self.new.machine) }
+        // A keeper that can't tell what it keeps can't later; it's blamed only where it failed, and
+        // isn't asked where there is nothing to keep.
         ensures told { P.tells self.new.keeper → P.tells self.old.keeper }
         ensures cause { IsOwed result (P.faults self.old.keeper) (P.faults self.new.keeper) }
         ensures unasked { ¬ (HasEffect (meaning self.old.machine caller.now call.now)) →
             self.new.keeper ≡ self.old.keeper }
+        // A crash leaves the rows of the tracker, or what it could leave before, or those with this
+        // call.
         ensures left { P.keeps self.old.keeper (rows_of self.old.machine) →
             LeavesOn P.leaves (IsWithCall caller.now call.now)
             self.old.keeper self.old.machine self.new.keeper self.new.machine }
+        // It asks queries no more often than the abstract tracker allows, and as often as such a
+        // call asks where it's answered and no search.
         ensures steps { steps.new
             ≤ steps.old + evaluations (due_in self.old.cells) self.old.machine caller.now call.now }
         ensures exact { (answer : Answer) → result ≡ Reply.Ok answer → searches call.now ≡ false
@@ -193,14 +208,17 @@ impl<P: Keeper + Drop> Desk<P> {
 
 // The keeper has no row.
 fn look<P: Keeper>(keeper: &mut P) -> Result<(), OpenFault>
+    // It passes where there is no row, and says that some are held only where one is.
     ensures none { (rows : Rows) → P.keeps keeper.old rows →
         OnOk result (P.tells keeper.new → HasNoRow rows) }
     ensures held { (rows : Rows) → P.keeps keeper.old rows →
         result ≡ Err OpenFault.Held → P.tells keeper.new → HasRow rows }
+    // Looking changes nothing: the rows stay, and so does what a crash leaves.
     ensures told { P.tells keeper.new → P.tells keeper.old }
     ensures same { (rows : Rows) → P.keeps keeper.old rows → P.keeps keeper.new rows }
     ensures left { (rows : Rows) → P.keeps keeper.old rows → P.leaves keeper.old rows rows →
         P.leaves keeper.new rows rows }
+    // No row is called bad. A keeper that is blamed has failed, and its count of that never falls.
     ensures fault { IfErr result IsCreateFault }
     ensures cause { result ≡ Err OpenFault.Keeper →
         Rose (P.faults keeper.old) (P.faults keeper.new) }
@@ -231,17 +249,22 @@ pub(crate) fn begun<P: Keeper>(
     keeper: &mut P,
     setup: Setup,
 ) -> Result<State, OpenFault>
+    // A new tracker of the setup begins, and a keeper that had no row keeps its opening rows.
     ensures state { IfOk result (λ state. state.machine ≡ opening setup.text (parts setup)) }
     ensures rows { P.keeps keeper.old no_rows →
         OnOk result (P.keeps keeper.new (rows_of (opening setup.text (parts setup)))) }
+    // A keeper that can't tell what it keeps can't later, and where none begins its rows stay.
     ensures told { P.tells keeper.new → P.tells keeper.old }
     ensures same { (rows : Rows) → P.keeps keeper.old rows →
         OnErr result (P.keeps keeper.new rows) }
+    // Once it has begun a crash leaves just its rows, and else no row or these.
     ensures left_ok { P.keeps keeper.old no_rows →
         OnOk result (LeavesJustIts P.leaves keeper.new (opening setup.text (parts setup))) }
     ensures left_err { P.keeps keeper.old no_rows → P.leaves keeper.old no_rows no_rows →
         OnErr result (P.leaves keeper.new no_rows no_rows
         ⊎ P.leaves keeper.new no_rows (rows_of (opening setup.text (parts setup)))) }
+    // The rows have no part in a fault. A keeper that is blamed has failed, and its count of that
+    // never falls.
     ensures own { IfErr result IsKeepersOwn }
     ensures cause { result ≡ Err OpenFault.Keeper →
         Rose (P.faults keeper.old) (P.faults keeper.new) }
@@ -269,18 +292,24 @@ fn make<P: Keeper, L: Ledger>(
     rows: Vec<RowOp>,
     steps: &mut Steps<L>,
 ) -> Reply
+    // There is room for what the plan does, the tracker allows it, and the rows keep just that.
     requires fits { Fits state.old plan }
     requires allowed { IsAllowed (effect_of plan) state.old.machine }
     requires keeps { rows.items ≡ ops_of (effect_of plan) state.old.machine }
+    // It's done and answered, or refused and not done; what is kept are the rows after it.
     ensures step { Performs (Makes answer (effect_of plan))
         state.old.machine result state.new.machine }
     ensures rows { P.keeps keeper.old (rows_of state.old.machine) →
         P.keeps keeper.new (rows_of state.new.machine) }
+    // A keeper that can't tell what it keeps can't later, and it's blamed only where it failed.
     ensures told { P.tells keeper.new → P.tells keeper.old }
     ensures cause { IsOwed result (P.faults keeper.old) (P.faults keeper.new) }
+    // A crash leaves the rows of the tracker, or what it could leave before, or those with this
+    // plan.
     ensures left { P.keeps keeper.old (rows_of state.old.machine) → LeavesOn P.leaves
         (λ m later. (m ≡ state.old.machine) × (later ≡ applied (effect_of plan) state.old.machine))
         keeper.old state.old.machine keeper.new state.new.machine }
+    // It asks queries no more often than the plan costs, and just so often where it's done.
     ensures steps { steps.new ≤ steps.old + cost_of plan state.old }
     ensures exact { (told : Answer) → result ≡ Reply.Ok told
         → steps.new ≡ steps.old + cost_of plan state.old }

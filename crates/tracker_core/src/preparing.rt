@@ -48,10 +48,14 @@ pub fn prepare<L: Ledger>(
     call: &Call,
     steps: &mut Steps<L>,
 ) -> Result<Prepared, Refusal>
+    // The tracker stays as it is, and what is prepared is what the call means.
     ensures same { state.new.machine ≡ state.old.machine }
     ensures prepared { IsPrepared (meaning state.old.machine caller.now call.now) state.new result }
+    // The filters and their verdicts stay.
     ensures table { state.new.watched.views.table ≡ state.old.watched.views.table }
     ensures filters { state.new.watched.filters ≡ state.old.watched.filters }
+    // Queries are asked no more often than the call allows, and just as often as such a call asks
+    // first where it's prepared and no search.
     ensures steps { steps.new ≤ steps.old + cost_to_prepare
         (meaning state.old.machine caller.now call.now) state.old.machine }
     ensures exact { (prepared : Prepared) → result ≡ Ok prepared → searches call.now ≡ false
@@ -77,12 +81,17 @@ fn prepare_for<L: Ledger>(
     call: &Call,
     steps: &mut Steps<L>,
 ) -> Result<Prepared, Refusal>
+    // The caller is a user, and each member of the call has its form.
     requires user { user.0 < length state.old.machine.setup.users }
     requires form { form_refusal call.now ≡ None }
+    // The tracker stays as it is, and what is prepared is what the call means.
     ensures same { state.new.machine ≡ state.old.machine }
     ensures prepared { IsPrepared (meaning_for state.old.machine user.0 call.now) state.new result }
+    // The filters and their verdicts stay.
     ensures table { state.new.watched.views.table ≡ state.old.watched.views.table }
     ensures filters { state.new.watched.filters ≡ state.old.watched.filters }
+    // Queries are asked no more often than the call allows, and just as often as such a call asks
+    // first where it's prepared and no search.
     ensures steps { steps.new ≤ steps.old + cost_to_prepare
         (meaning_for state.old.machine user.0 call.now) state.old.machine }
     ensures exact { (prepared : Prepared) → result ≡ Ok prepared → searches call.now ≡ false
