@@ -17,6 +17,7 @@ use tracker_keeper::Keeper;
 
 /// Writes all issues of the tracker whose rows the keeper has; answers the status and hands the keeper back.
 pub(crate) fn export<T: Sink, P: Keeper + Drop>(alloc: Global, out: &mut T, keeper: P) -> (u8, P)
+    // All issues were written, or a front of them or of the text on a bad row where a write failed.
     ensures done { result.0 ≡ 0 → GrewBy (T.taken out.old) (T.taken out.new)
         (IsExported P.keeps P.tells P.faults BUILT_IN.now keeper result.1) }
     ensures written { result.0 ≡ 3 → GrewByFront (T.taken out.old) (T.taken out.new)
@@ -24,18 +25,22 @@ pub(crate) fn export<T: Sink, P: Keeper + Drop>(alloc: Global, out: &mut T, keep
         ⊎ (GrewByFront (T.taken out.old) (T.taken out.new)
         (IsKeptText (HasBadRow P.keeps P.tells keeper result.1))
         × HasItsRows P.keeps keeper result.1) }
+    // No desk was opened: no more was written than the text on a bad row, and the rows stay.
     ensures unopened { result.0 ≡ 4
         → (T.taken out.new ≡ T.taken out.old) × HasItsRows P.keeps keeper result.1 }
     ensures bad { result.0 ≡ 5
         → GrewBy (T.taken out.old) (T.taken out.new)
         (IsKeptText (HasBadRow P.keeps P.tells keeper result.1))
         × HasItsRows P.keeps keeper result.1 }
+    // Want of memory leaves a front of the issues written, or nothing where no desk was opened.
     ensures memory { result.0 ≡ 6 → GrewByFront (T.taken out.old) (T.taken out.new)
         (IsExported P.keeps P.tells P.faults BUILT_IN.now keeper result.1)
         ⊎ ((T.taken out.new ≡ T.taken out.old) × HasItsRows P.keeps keeper result.1) }
+    // What is blamed has failed, and the sink's count of that never falls.
     ensures write_cause { result.0 ≡ 3 → Rose (T.faults out.old) (T.faults out.new) }
     ensures keeper_cause { result.0 ≡ 4 → Rose (P.faults keeper) (P.faults result.1) }
     ensures write_later { T.faults out.old ≤ T.faults out.new }
+    // There is no other status.
     ensures statuses { (result.0 ≤ 6) × (result.0 ≢ 1) × (result.0 ≢ 2) }
 {
     match Desk::open(alloc, keeper) {
@@ -49,13 +54,17 @@ pub(crate) fn export<T: Sink, P: Keeper + Drop>(alloc: Global, out: &mut T, keep
 
 // Writes all issues of the desk, and hands its keeper back.
 fn write_issues<T: Sink, P: Keeper + Drop>(alloc: Global, desk: Desk<P>, out: &mut T) -> (u8, P)
+    // The issues were written, all or a front of them.
     ensures done { result.0 ≡ 0
         → Appends (T.taken out.old) (T.taken out.new) (export_text desk.machine) }
     ensures cut { (result.0 ≡ 3) ⊎ (result.0 ≡ 6)
         → WritesFront (T.taken out.old) (T.taken out.new) (export_text desk.machine) }
+    // The keeper is as the desk had it.
     ensures keeper { result.1 ≡ desk.keeper }
+    // A sink that is blamed has failed, and its count of that never falls.
     ensures write_cause { result.0 ≡ 3 → Rose (T.faults out.old) (T.faults out.new) }
     ensures write_later { T.faults out.old ≤ T.faults out.new }
+    // There is no other status.
     ensures statuses { (result.0 ≡ 0) ⊎ (result.0 ≡ 3) ⊎ (result.0 ≡ 6) }
 {
     let end = export_rows(alloc, &desk, out);

@@ -27,23 +27,30 @@ pub(crate) fn generate<T: Sink, P: Keeper + Drop>(
     keeper: P,
 ) -> (u8, P)
     requires { number ≤ 20_000 }
+    // The whole load was made and kept, and its text was written. A failed write leaves a front of
+    // it, or of the text that the keeper has rows.
     ensures done { result.0 ≡ 0 → GrewBy (T.taken out.old) (T.taken out.new)
         (IsGenerated P.keeps P.tells P.faults BUILT_IN.now keeper result.1 number) }
     ensures written { result.0 ≡ 3 → IsUnwrittenLoad
         (IsGenerated P.keeps P.tells P.faults BUILT_IN.now keeper result.1 number)
         (HasItsRows P.keeps keeper result.1) (HasSomeRow P.keeps P.tells keeper result.1)
         (T.taken out.old) (T.taken out.new) }
+    // The load was cut short: its first calls are kept, or none where no tracker was begun, and
+    // nothing was written.
     ensures unkept { result.0 ≡ 4 → (T.taken out.new ≡ T.taken out.old)
         × (IsBegun P.keeps P.tells P.faults BUILT_IN.now keeper result.1 number 1
         ⊎ HasItsRows P.keeps keeper result.1) }
     ensures memory { result.0 ≡ 6 → (T.taken out.new ≡ T.taken out.old)
         × (IsBegun P.keeps P.tells P.faults BUILT_IN.now keeper result.1 number 0
         ⊎ HasItsRows P.keeps keeper result.1) }
+    // The keeper had rows before, which stay, and that was written.
     ensures held { result.0 ≡ 9 → Appends (T.taken out.old) (T.taken out.new) held
         × HasSomeRow P.keeps P.tells keeper result.1 × HasItsRows P.keeps keeper result.1 }
+    // What is blamed has failed, and the sink's count of that never falls.
     ensures write_cause { result.0 ≡ 3 → Rose (T.faults out.old) (T.faults out.new) }
     ensures keeper_cause { result.0 ≡ 4 → Rose (P.faults keeper) (P.faults result.1) }
     ensures write_later { T.faults out.old ≤ T.faults out.new }
+    // There is no other status.
     ensures statuses { (result.0 ≡ 0) ⊎ (result.0 ≡ 3) ⊎ (result.0 ≡ 4) ⊎ (result.0 ≡ 6)
         ⊎ (result.0 ≡ 9) }
 {
@@ -67,23 +74,28 @@ fn load<L: Ledger, T: Sink, P: Keeper + Drop>(
     desk: Desk<P>,
     blank: Blank,
 ) -> (u8, P)
+    // The load isn't too large, and the blank is the ledger's own, with all its parts.
     requires number { number ≤ 20_000 }
     requires name { blank.name ≡ L.name }
     requires parts { blank.parts ≡ L.parts }
     requires some { 0 < L.parts }
+    // The whole load was made and is kept, and its text was written, or a front of it.
     ensures done { result.0 ≡ 0 →
         Appends (T.taken out.old) (T.taken out.new) (load_line (load_summary number desk.machine))
         × HandsBack P.keeps P.tells P.faults desk result.1 (loaded number desk.machine) 0 }
     ensures written { result.0 ≡ 3 → GrewByFront (T.taken out.old) (T.taken out.new)
         (λ due. due ≡ load_line (load_summary number desk.machine))
         × HandsBack P.keeps P.tells P.faults desk result.1 (loaded number desk.machine) 0 }
+    // The load was cut short: its first calls are kept, and nothing was written.
     ensures unkept { result.0 ≡ 4 → (T.taken out.new ≡ T.taken out.old)
         × IsBegunFrom P.keeps P.tells P.faults desk result.1 number 1 }
     ensures memory { result.0 ≡ 6 → (T.taken out.new ≡ T.taken out.old)
         × IsBegunFrom P.keeps P.tells P.faults desk result.1 number 0 }
+    // What is blamed has failed, and the sink's count of that never falls.
     ensures write_cause { result.0 ≡ 3 → Rose (T.faults out.old) (T.faults out.new) }
     ensures keeper_cause { result.0 ≡ 4 → Rose (P.faults desk.keeper) (P.faults result.1) }
     ensures write_later { T.faults out.old ≤ T.faults out.new }
+    // There is no other status.
     ensures statuses { (result.0 ≡ 0) ⊎ (result.0 ≡ 3) ⊎ (result.0 ≡ 4) ⊎ (result.0 ≡ 6) }
 {
     let mut desk = desk;
@@ -99,13 +111,16 @@ fn load<L: Ledger, T: Sink, P: Keeper + Drop>(
 
 // Writes what a load comes to: 0, or 3 where the sink failed on it, or 6 where there was no memory for it and nothing was written.
 fn tell_load<T: Sink>(alloc: Global, out: &mut T, summary: &LoadSummary) -> u8
+    // The status tells what was written: the whole text, a front of it, or nothing.
     ensures told { result ≡ 0
         → Appends (T.taken out.old) (T.taken out.new) (load_line summary.now) }
     ensures written { result ≡ 3
         → GrewByFront (T.taken out.old) (T.taken out.new) (λ due. due ≡ load_line summary.now) }
     ensures memory { result ≡ 6 → T.taken out.new ≡ T.taken out.old }
+    // A sink that is blamed has failed, and its count of that never falls.
     ensures write_cause { result ≡ 3 → Rose (T.faults out.old) (T.faults out.new) }
     ensures later { T.faults out.old ≤ T.faults out.new }
+    // There is no other status.
     ensures statuses { (result ≡ 0) ⊎ (result ≡ 3) ⊎ (result ≡ 6) }
 {
     let Ok(text) = load_line(alloc, summary) else {

@@ -29,10 +29,13 @@ pub(crate) fn init<S: Source, T: Sink, P: Keeper + Drop>(
     out: &mut T,
     keeper: P,
 ) -> (u8, P)
+    // The input was read as a setup, a new tracker of it is kept, and nothing was written.
     ensures done { result.0 ≡ 0
         → (T.taken out.new ≡ T.taken out.old) × IfSome (S.left input.old) (λ bytes.
         IsAtEnd (S.left input.new) × (length bytes ≤ setup_limit)
         × IsCreated P.keeps P.tells keeper result.1 bytes) }
+    // In all other cases the keeper has its rows as they were. What was written tells why, as far
+    // as it could be.
     ensures read { result.0 ≡ 2
         → (T.taken out.new ≡ T.taken out.old) × HasItsRows P.keeps keeper result.1 }
     ensures written { result.0 ≡ 3 → GrewByFront (T.taken out.old) (T.taken out.new)
@@ -43,6 +46,7 @@ pub(crate) fn init<S: Source, T: Sink, P: Keeper + Drop>(
         × HasItsRows P.keeps keeper result.1 }
     ensures memory { result.0 ≡ 6
         → (T.taken out.new ≡ T.taken out.old) × HasItsRows P.keeps keeper result.1 }
+    // So they are where the input is too long or no setup, or where there are rows already.
     ensures limit { result.0 ≡ 7 → Appends (T.taken out.old) (T.taken out.new) limit_input
         × IfSome (S.left input.old) (λ bytes. setup_limit < length bytes)
         × HasItsRows P.keeps keeper result.1 }
@@ -52,11 +56,13 @@ pub(crate) fn init<S: Source, T: Sink, P: Keeper + Drop>(
     ensures held { result.0 ≡ 9 → Appends (T.taken out.old) (T.taken out.new) held
         × HasSetup (S.left input.old)
         × HasSomeRow P.keeps P.tells keeper result.1 × HasItsRows P.keeps keeper result.1 }
+    // What is blamed has failed, and the counts of source and sink never fall.
     ensures read_cause { result.0 ≡ 2 → Rose (S.faults input.old) (S.faults input.new) }
     ensures write_cause { result.0 ≡ 3 → Rose (T.faults out.old) (T.faults out.new) }
     ensures keeper_cause { result.0 ≡ 4 → Rose (P.faults keeper) (P.faults result.1) }
     ensures read_later { S.faults input.old ≤ S.faults input.new }
     ensures write_later { T.faults out.old ≤ T.faults out.new }
+    // There is no other status.
     ensures statuses { (result.0 ≤ 9) × (result.0 ≢ 1) × (result.0 ≢ 5) }
 {
     match read_whole(alloc, input, SETUP_LIMIT) {
@@ -72,9 +78,13 @@ pub(crate) fn init<S: Source, T: Sink, P: Keeper + Drop>(
 
 // Makes a new tracker of the setup that the text is.
 fn make<T: Sink, P: Keeper + Drop>(alloc: Global, text: &[u8], out: &mut T, keeper: P) -> (u8, P)
+    // The text is within the limit of a setup.
     requires within { length text.now ≤ setup_limit }
+    // The text is a setup, a new tracker of it is kept, and nothing was written.
     ensures done { result.0 ≡ 0
         → (T.taken out.new ≡ T.taken out.old) × IsCreated P.keeps P.tells keeper result.1 text.now }
+    // In all other cases the keeper has its rows as they were. What was written tells why, as far
+    // as it could be.
     ensures written { result.0 ≡ 3 → GrewByFront (T.taken out.old) (T.taken out.new)
         (IsInitText (HasSomeRow P.keeps P.tells keeper result.1) (Some text.now))
         × HasItsRows P.keeps keeper result.1 }
@@ -89,9 +99,11 @@ fn make<T: Sink, P: Keeper + Drop>(alloc: Global, text: &[u8], out: &mut T, keep
     ensures held { result.0 ≡ 9 → Appends (T.taken out.old) (T.taken out.new) held
         × HasSetup (Some text.now)
         × HasSomeRow P.keeps P.tells keeper result.1 × HasItsRows P.keeps keeper result.1 }
+    // What is blamed has failed, and the sink's count of that never falls.
     ensures write_cause { result.0 ≡ 3 → Rose (T.faults out.old) (T.faults out.new) }
     ensures keeper_cause { result.0 ≡ 4 → Rose (P.faults keeper) (P.faults result.1) }
     ensures write_later { T.faults out.old ≤ T.faults out.new }
+    // There is no other status.
     ensures statuses { (result.0 ≡ 0) ⊎ (result.0 ≡ 3) ⊎ (result.0 ≡ 4) ⊎ (result.0 ≡ 6)
         ⊎ (result.0 ≡ 8) ⊎ (result.0 ≡ 9) }
 {
@@ -103,9 +115,12 @@ fn make<T: Sink, P: Keeper + Drop>(alloc: Global, text: &[u8], out: &mut T, keep
 
 // Makes a new tracker of the setup.
 fn create<T: Sink, P: Keeper + Drop>(alloc: Global, setup: Setup, out: &mut T, keeper: P) -> (u8, P)
+    // A new tracker of the setup is kept by a keeper that had no row, and nothing was written.
     ensures done { result.0 ≡ 0 → (T.taken out.new ≡ T.taken out.old)
         × (P.keeps keeper no_rows → P.keeps result.1 (rows_of (opening setup.text (parts setup))))
         × ((rows : Rows) → P.keeps keeper rows → P.tells result.1 → HasNoRow rows) }
+    // In all other cases nothing was written but that the keeper has rows, or a front of it, and
+    // these stay.
     ensures written { result.0 ≡ 3
         → GrewByFront (T.taken out.old) (T.taken out.new) (λ due. due ≡ held)
         × HasSomeRow P.keeps P.tells keeper result.1 }
@@ -114,9 +129,11 @@ fn create<T: Sink, P: Keeper + Drop>(alloc: Global, setup: Setup, out: &mut T, k
         → Appends (T.taken out.old) (T.taken out.new) held
         × HasSomeRow P.keeps P.tells keeper result.1 }
     ensures same { result.0 ≢ 0 → HasItsRows P.keeps keeper result.1 }
+    // What is blamed has failed, and the sink's count of that never falls.
     ensures write_cause { result.0 ≡ 3 → Rose (T.faults out.old) (T.faults out.new) }
     ensures keeper_cause { result.0 ≡ 4 → Rose (P.faults keeper) (P.faults result.1) }
     ensures write_later { T.faults out.old ≤ T.faults out.new }
+    // There is no other status.
     ensures statuses { (result.0 ≡ 0) ⊎ (result.0 ≡ 3) ⊎ (result.0 ≡ 4) ⊎ (result.0 ≡ 6)
         ⊎ (result.0 ≡ 9) }
 {
@@ -131,14 +148,18 @@ fn create<T: Sink, P: Keeper + Drop>(alloc: Global, setup: Setup, out: &mut T, k
 
 // Writes why the text is no setup: 8, or 3 where the sink failed on it, or 6 where there was no memory and nothing was written.
 fn tell_fault<T: Sink>(alloc: Global, out: &mut T, fault: SetupFault) -> u8
+    // The status tells what was written: the whole text, a front of it, or nothing. Want of memory
+    // has no text.
     ensures told { result ≡ 8
         → (fault ≢ SetupFault.Memory)
         × Appends (T.taken out.old) (T.taken out.new) (setup_line fault) }
     ensures written { result ≡ 3 → (fault ≢ SetupFault.Memory)
         × GrewByFront (T.taken out.old) (T.taken out.new) (λ due. due ≡ setup_line fault) }
     ensures memory { result ≡ 6 → T.taken out.new ≡ T.taken out.old }
+    // A sink that is blamed has failed, and its count of that never falls.
     ensures write_cause { result ≡ 3 → Rose (T.faults out.old) (T.faults out.new) }
     ensures later { T.faults out.old ≤ T.faults out.new }
+    // There is no other status.
     ensures statuses { (result ≡ 3) ⊎ (result ≡ 6) ⊎ (result ≡ 8) }
 {
     if let SetupFault::Memory = &fault {

@@ -26,8 +26,10 @@ pub(crate) fn run_lines<S: Source, T: Sink, P: Keeper + Drop>(
     out: &mut T,
     keeper: P,
 ) -> (u8, P)
+    // The command is one that answers lines.
     requires command { IsOfLines (map string_bytes words.now) }
     requires check { IsTrue is_check ↔ IsCheck (map string_bytes words.now) }
+    // The whole input was read, and each line has its reply.
     ensures done { result.0 ≡ 0
         → IfSome (S.left input.old) (λ bytes. IsAtEnd (S.left input.new)
         × AreWithinLimits (lines bytes)
@@ -36,6 +38,7 @@ pub(crate) fn run_lines<S: Source, T: Sink, P: Keeper + Drop>(
         (HasRowsBehind P.keeps P.tells P.faults P.leaves keeper result.1)
         (map string_bytes words.now)
         (lines bytes))) }
+    // A read failed: each whole line that was read has its reply.
     ensures read { result.0 ≡ 2
         → IfSome (S.left input.old) (λ bytes. (read : List ℕ)
         × Consumes (Some bytes) (S.left input.new) read
@@ -45,6 +48,7 @@ pub(crate) fn run_lines<S: Source, T: Sink, P: Keeper + Drop>(
         (HasRowsBehind P.keeps P.tells P.faults P.leaves keeper result.1)
         (map string_bytes words.now)
         (whole_lines read))) }
+    // A write failed: on a reply, on the text of a limit, or on that of a bad row.
     ensures written { result.0 ≡ 3 → IfSome (S.left input.old) (λ bytes.
         GrewBy (T.taken out.old) (T.taken out.new)
         (AreCutRepliesOf (BeginsIn P.keeps P.tells BUILT_IN.now keeper result.1)
@@ -58,6 +62,8 @@ pub(crate) fn run_lines<S: Source, T: Sink, P: Keeper + Drop>(
         ⊎ (GrewByFront (T.taken out.old) (T.taken out.new)
         (IsKeptText (HasBadRow P.keeps P.tells keeper result.1))
         × StaysUnopened P.keeps P.tells P.leaves BUILT_IN.now keeper result.1) }
+    // `exec` could open no desk: nothing was read, no more was written than the text on a bad row,
+    // and the rows stay.
     ensures unopened { result.0 ≡ 4
         → (T.taken out.new ≡ T.taken out.old)
         × StaysUnopened P.keeps P.tells P.leaves BUILT_IN.now keeper result.1 }
@@ -67,6 +73,7 @@ pub(crate) fn run_lines<S: Source, T: Sink, P: Keeper + Drop>(
         × StaysUnopened P.keeps P.tells P.leaves BUILT_IN.now keeper result.1 }
     ensures opens { (result.0 ≡ 4) ⊎ (result.0 ≡ 5) → IsExec (map string_bytes words.now) }
     ensures unread { (result.0 ≡ 4) ⊎ (result.0 ≡ 5) → S.left input.new ≡ S.left input.old }
+    // The replies were cut short, for want of memory or at a limit, which is told.
     ensures memory { result.0 ≡ 6
         → IfSome (S.left input.old) (λ bytes. GrewBy (T.taken out.old) (T.taken out.new)
         (AreCutRepliesOf (BeginsIn P.keeps P.tells BUILT_IN.now keeper result.1)
@@ -78,13 +85,16 @@ pub(crate) fn run_lines<S: Source, T: Sink, P: Keeper + Drop>(
         (IsLimitText (AreRepliesOf (BeginsIn P.keeps P.tells BUILT_IN.now keeper result.1)
         (HasRowsBehind P.keeps P.tells P.faults P.leaves keeper result.1)
         (map string_bytes words.now)) bytes)) }
+    // `check` opens no desk, so that the rows stay.
     ensures no_desk { ¬ (IsExec (map string_bytes words.now))
         → StaysUnopened P.keeps P.tells P.leaves BUILT_IN.now keeper result.1 }
+    // What is blamed has failed, and the counts of source and sink never fall.
     ensures read_cause { result.0 ≡ 2 → Rose (S.faults input.old) (S.faults input.new) }
     ensures write_cause { result.0 ≡ 3 → Rose (T.faults out.old) (T.faults out.new) }
     ensures keeper_cause { result.0 ≡ 4 → Rose (P.faults keeper) (P.faults result.1) }
     ensures read_later { S.faults input.old ≤ S.faults input.new }
     ensures write_later { T.faults out.old ≤ T.faults out.new }
+    // There is no other status.
     ensures statuses { (result.0 ≤ 7) × (result.0 ≢ 1) }
 {
     match carry_out::<Brand, S, T, P>(alloc, words, is_check, input, out, keeper, Blank::new(1)) {
@@ -117,11 +127,14 @@ fn carry_out<L: Ledger, S: Source, T: Sink, P: Keeper + Drop>(
     keeper: P,
     blank: Blank,
 ) -> Result<(End, P), (OpenFault, P)>
+    // The command is one that answers lines.
     requires command { IsOfLines (map string_bytes words.now) }
     requires check { IsTrue is_check ↔ IsCheck (map string_bytes words.now) }
+    // The blank is the ledger's own, with all its parts.
     requires name { blank.name ≡ L.name }
     requires parts { blank.parts ≡ L.parts }
     requires some { 0 < L.parts }
+    // The lines have their replies, as far as the run went.
     ensures run { IfOk result (λ r. IfSome (S.left input.old) (λ bytes. EndsRun
         (AreRepliesOf (BeginsIn P.keeps P.tells BUILT_IN.now keeper r.1)
         (HasRowsBehind P.keeps P.tells P.faults P.leaves keeper r.1) (map string_bytes words.now))
@@ -130,14 +143,17 @@ fn carry_out<L: Ledger, S: Source, T: Sink, P: Keeper + Drop>(
         (StaysUnopened P.keeps P.tells P.leaves BUILT_IN.now keeper r.1)
         (map string_bytes words.now))
         bytes (S.left input.new) (T.taken out.old) (T.taken out.new) r.0)) }
+    // Where no desk was opened, it was for `exec`: nothing was read or written, and the rows stay.
     ensures unwritten { IfErr result (λ e. T.taken out.new ≡ T.taken out.old) }
     ensures unread { IfErr result (λ e. S.left input.new ≡ S.left input.old) }
     ensures exec { IfErr result (λ e. IsExec (map string_bytes words.now)) }
     ensures same { IfErr result
         (λ e. StaysUnopened P.keeps P.tells P.leaves BUILT_IN.now keeper e.1) }
     ensures fault { IfErr result (λ e. IsOpenFault (HasBadRow P.keeps P.tells keeper e.1) e.0) }
+    // `check` opens no desk, so that the rows stay.
     ensures no_desk { ¬ (IsExec (map string_bytes words.now))
         → IfOk result (λ r. StaysUnopened P.keeps P.tells P.leaves BUILT_IN.now keeper r.1) }
+    // What is blamed has failed, and the counts of source and sink never fall.
     ensures keeper_cause { IfErr result
         (λ e. e.0 ≡ OpenFault.Keeper → Rose (P.faults keeper) (P.faults e.1)) }
     ensures read_cause { IfOk result
@@ -163,9 +179,12 @@ fn exec<L: Ledger, S: Source, T: Sink, P: Keeper + Drop>(
     keeper: P,
     blank: Blank,
 ) -> Result<(End, P), (OpenFault, P)>
+    // The blank is the ledger's own, with all its parts.
     requires name { blank.name ≡ L.name }
     requires parts { blank.parts ≡ L.parts }
     requires some { 0 < L.parts }
+    // The lines have their replies, as far as the run went, and what is kept are the rows behind
+    // them.
     ensures run { IfOk result (λ r. IfSome (S.left input.old) (λ bytes. EndsRun
         (AreReplies (BeginsIn P.keeps P.tells BUILT_IN.now keeper r.1)
         (HasRowsBehind P.keeps P.tells P.faults P.leaves keeper r.1))
@@ -173,11 +192,13 @@ fn exec<L: Ledger, S: Source, T: Sink, P: Keeper + Drop>(
         (HasRowsBehind P.keeps P.tells P.faults P.leaves keeper r.1)
         (StaysUnopened P.keeps P.tells P.leaves BUILT_IN.now keeper r.1))
         bytes (S.left input.new) (T.taken out.old) (T.taken out.new) r.0)) }
+    // Where no desk was opened, nothing was read or written, and the rows stay.
     ensures unwritten { IfErr result (λ e. T.taken out.new ≡ T.taken out.old) }
     ensures unread { IfErr result (λ e. S.left input.new ≡ S.left input.old) }
     ensures same { IfErr result
         (λ e. StaysUnopened P.keeps P.tells P.leaves BUILT_IN.now keeper e.1) }
     ensures fault { IfErr result (λ e. IsOpenFault (HasBadRow P.keeps P.tells keeper e.1) e.0) }
+    // What is blamed has failed, and the counts of source and sink never fall.
     ensures keeper_cause { IfErr result
         (λ e. e.0 ≡ OpenFault.Keeper → Rose (P.faults keeper) (P.faults e.1)) }
     ensures read_cause { IfOk result

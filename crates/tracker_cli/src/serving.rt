@@ -80,10 +80,14 @@ fn serve_desk<L: Ledger, R: Wait, K: Links, P: Keeper + Drop>(
     keeper: P,
     blank: Blank,
 ) -> (u8, K, P)
+    // The blank is the ledger's own, with all its parts.
     requires name { blank.name ≡ L.name }
     requires parts { blank.parts ≡ L.parts }
     requires some { 0 < L.parts }
+    // The words were the command's.
     ensures words { result.0 ≢ 1 }
+    // No link is left, where they are told, or they failed; calls were made then, one after
+    // another.
     ensures ended { result.0 ≡ 0 → IsSome (K.ahead links) → K.ahead result.1 ≡ Some [] }
     ensures link_cause { result.0 ≡ 2 → Rose (K.faults links) (K.faults result.1) }
     ensures served { (result.0 ≡ 0) ⊎ (result.0 ≡ 2)
@@ -91,12 +95,15 @@ fn serve_desk<L: Ledger, R: Wait, K: Links, P: Keeper + Drop>(
         (AreOfLinks K.In.left K.At.ahead (MakesCall P.keeps P.tells P.faults P.leaves)
         (K.ahead links) (K.ahead result.1))
         BUILT_IN.now keeper result.2 }
+    // No desk was opened, and the keeper has its rows as they were.
     ensures keeper_cause { result.0 ≡ 4 → Rose (P.faults keeper) (P.faults result.2) }
     ensures bad { result.0 ≡ 5 →
         (kind : ℕ) × (number : ℕ) × HasBadRow P.keeps P.tells keeper result.2 kind number }
     ensures same { (result.0 ≢ 0) → (result.0 ≢ 2)
         → StaysUnopened P.keeps P.tells P.leaves BUILT_IN.now keeper result.2 }
+    // The links' count of failures never falls.
     ensures later { K.faults links ≤ K.faults result.1 }
+    // There is no other status.
     ensures statuses { (result.0 ≤ 6) × (result.0 ≢ 3) }
 {
     let desk = match Desk::open(alloc, keeper) {
