@@ -152,14 +152,19 @@ fn save<L: Ledger>(
     filter: Filter,
     steps: &mut Steps<L>,
 ) -> Result<Prepared, Refusal>
+    // The filter asks for what its text asks for in this setup, has the number of its name, and may
+    // be saved.
     requires bound { IsBound state.old.machine.setup filter }
     requires number { filter.no ≡ number_for state.old.machine filter.owner.0 filter.name }
     requires may { MaySave state.old.machine.setup state.old.machine.filters (saved_as filter) }
+    // Nothing changes yet: not the tracker, nor the filters and their verdicts.
     ensures same { state.new.machine ≡ state.old.machine }
     ensures table { state.new.watched.views.table ≡ state.old.watched.views.table }
     ensures filters { state.new.watched.filters ≡ state.old.watched.filters }
+    // What is prepared is what saving it means.
     ensures prepared { IsPrepared (saved state.old.machine filter.owner.0
         filter.name filter.text (Ok (query_of filter.query))) state.new result }
+    // Each issue is asked once at most, and just once where it's prepared.
     ensures steps { steps.new ≤ steps.old + length state.old.machine.histories }
     ensures exact { (prepared : Prepared) → result ≡ Ok prepared
         → steps.new ≡ steps.old + length state.old.machine.histories }
@@ -239,15 +244,19 @@ fn put(
     ready: ReadyFilter,
     answer: Answer,
 ) -> Result<Prepared, Refusal>
+    // The filter asks for what its text asks for in this setup, it may be saved, and its verdicts
+    // are right.
     requires bound { IsBound state.old.machine.setup ready.filter }
     requires may { MaySave state.old.machine.setup state.old.machine.filters
         (saved_as ready.filter) }
     requires right { AreVerdicts
         (surroundings_in state.old.machine.setup state.old.machine.sprints) state.old.machine.moment
         (condition_of ready.filter) state.old.machine.histories ready.verdicts.items }
+    // Nothing changes yet: not the tracker, nor the filters and their verdicts.
     ensures same { state.new.machine ≡ state.old.machine }
     ensures table { state.new.watched.views.table ≡ state.old.watched.views.table }
     ensures filters { state.new.watched.filters ≡ state.old.watched.filters }
+    // What is prepared is that it comes, with this answer.
     ensures prepared { IsPrepared (Makes answer (NewFilter (saved_as ready.filter)))
         state.new result }
 {

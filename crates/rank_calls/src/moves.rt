@@ -60,12 +60,16 @@ fn check_move(
     issue: &str,
     other: &str,
 ) -> Result<(IssueNo, IssueNo), Refusal>
+    // No issue is named to go beside itself.
     requires apart { bytes_eq other.now issue.now ≡ false }
+    // It passes only where nothing refuses the move, and else names that cause, or want of memory.
     ensures check { Checks (move_refusal state.now.machine caller.0 issue.now other.now) result }
+    // The numbers are those of both issues, as named.
     ensures issue { IfOk result (λ r.
         option_map (λ h. h.no) (history_named state.now.machine issue.now) ≡ Some r.0) }
     ensures other { IfOk result (λ r.
         option_map (λ h. h.no) (history_named state.now.machine other.now) ≡ Some r.1) }
+    // Both have a rank, and they are two, so that the one may go beside the other.
     ensures moved { IfOk result (λ r. IsOneOf (length state.now.machine.order) r.0.0) }
     ensures beside { IfOk result (λ r. IsOneOf (length state.now.machine.order) r.1.0) }
     ensures apart { IfOk result (λ r. r.0.0 ≢ r.1.0) }

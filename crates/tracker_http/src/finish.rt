@@ -72,13 +72,17 @@ pub fn finish<S: Source>(
     spans: RequestSpans,
     body_len: usize,
 ) -> Next
+    // A whole head that isn't refused is held, within the limits of head and body.
     requires within { len ≤ length held.old.items }
     requires taken { IsTaken (take len held.old.items) room.now spans body_len }
     requires len { len ≤ 8192 }
     requires size { body_len ≤ 65536 }
+    // Just what stands next among the bytes, held or still to be read, is taken, and that isn't
+    // their end.
     ensures bytes { TakesNext (prepend_known held.old.items (S.left source.old))
         (prepend_known held.new.items (S.left source.new)) result }
     ensures end { ¬ (result ≡ Next.End) }
+    // A source that is blamed has failed, and its count of that never falls.
     ensures failed { result ≡ Next.ReadFault → Rose (S.faults source.old) (S.faults source.new) }
     ensures later { S.faults source.old ≤ S.faults source.new }
 {

@@ -46,11 +46,15 @@ pub fn read_request<S: Source>(alloc: Global, source: &mut S, held: &mut Vec<u8>
 
 // Takes the request whose whole head is held.
 fn take_request<S: Source>(alloc: Global, source: &mut S, held: &mut Vec<u8>, len: usize) -> Next
+    // A whole head is held.
     requires within { len ≤ length held.old.items }
     requires whole { IsWholeHead (take len held.old.items) }
+    // Just what stands next among the bytes, held or still to be read, is taken, and that isn't
+    // their end.
     ensures bytes { TakesNext (prepend_known held.old.items (S.left source.old))
         (prepend_known held.new.items (S.left source.new)) result }
     ensures end { ¬ (result ≡ Next.End) }
+    // A source that is blamed has failed, and its count of that never falls.
     ensures failed { result ≡ Next.ReadFault → Rose (S.faults source.old) (S.faults source.new) }
     ensures later { S.faults source.old ≤ S.faults source.new }
 {

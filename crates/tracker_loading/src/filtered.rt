@@ -42,11 +42,14 @@ fn asked<L: Ledger>(
     at: Moment,
     blank: Blank,
 ) -> Result<Filters, Memory>
+    // The filters are such as are saved, and the issues stand by their numbers.
     requires saved { AreSaved filters.items }
     requires numbered { AreNumbered (histories_of issues.now) }
+    // The blank is the ledger's own, with all its parts.
     requires name { blank.name ≡ L.name }
     requires parts { blank.parts ≡ L.parts }
     requires some { 0 < L.parts }
+    // The filters are the same, and have seen these issues at that moment.
     ensures filters { IfOk result (λ asked. asked.filters ≡ filters.items) }
     ensures seen { IfOk result
         (HasSeen (histories_of issues.now) (surroundings_of context.now) at) }

@@ -61,10 +61,13 @@ pub fn serve_connection<S: Source, T: Sink, C: Clock, W: Teller>(
     clock: &mut C,
     teller: &mut W,
 ) -> ConnEnd
+    // The worker is the same, and the requests that are read have their calls made and get their
+    // responses, at most sixteen.
     ensures worker { W.worker teller.new ≡ W.worker teller.old }
     ensures serves { Serves W.events W.tells W.steps (W.worker teller.old) 16 (S.left source.old)
         (T.taken sink.old) (T.taken sink.new) (C.ahead clock.old) (C.ahead clock.new)
         teller.old teller.new result }
+    // What is blamed has failed, and the counts of source and sink never fall.
     ensures read_cause { result ≡ ConnEnd.ReadFault
         → Rose (S.faults source.old) (S.faults source.new) }
     ensures write_cause { result ≡ ConnEnd.WriteFault
@@ -95,10 +98,13 @@ fn serve_rest<S: Source, T: Sink, C: Clock, W: Teller>(
     left: u32,
 ) -> ConnEnd
     requires { 1 ≤ left }
+    // The worker is the same, and the requests that are read have their calls made and get their
+    // responses, at most as many as are left.
     ensures worker { W.worker teller.new ≡ W.worker teller.old }
     ensures serves { Serves W.events W.tells W.steps (W.worker teller.old) left
         (prepend_known held.old.items (S.left source.old)) (T.taken sink.old) (T.taken sink.new)
         (C.ahead clock.old) (C.ahead clock.new) teller.old teller.new result }
+    // What is blamed has failed, and the counts of source and sink never fall.
     ensures read_cause { result ≡ ConnEnd.ReadFault
         → Rose (S.faults source.old) (S.faults source.new) }
     ensures write_cause { result ≡ ConnEnd.WriteFault
@@ -123,12 +129,15 @@ fn serve_next<S: Source, T: Sink, C: Clock, W: Teller>(
     left: u32,
 ) -> Step
     requires { 1 ≤ left }
+    // The worker is the same, and a request that is read has its call made and gets its response.
+    // It goes on only where one more response may follow.
     ensures worker { W.worker teller.new ≡ W.worker teller.old }
     ensures serves { ServesNext W.events W.tells W.steps (W.worker teller.old) left
         (prepend_known held.old.items (S.left source.old))
         (prepend_known held.new.items (S.left source.new)) (T.taken sink.old) (T.taken sink.new)
         (C.ahead clock.old) (C.ahead clock.new) teller.old teller.new result }
     ensures goes { result ≡ Step.Goes → 2 ≤ left }
+    // What is blamed has failed, and the counts of source and sink never fall.
     ensures read_cause { result ≡ Step.Ends ConnEnd.ReadFault
         → Rose (S.faults source.old) (S.faults source.new) }
     ensures write_cause { result ≡ Step.Ends ConnEnd.WriteFault

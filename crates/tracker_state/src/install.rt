@@ -235,11 +235,14 @@ impl State {
 
 // Has the external id of a new issue lead to it, if it has one.
 fn put_external(externals: &mut ExternalIds, issue: IssueNo, external: Option<NewExternal>)
+    // The text is that of the id, for which there is room and which no issue has.
     requires same { IfSome external (λ e. string_bytes e.text ≡ e.id) }
     requires room { IfSome external (λ e. 1 ≤ externals.old.room) }
     requires free { IfSome external (λ e. external_named e.id externals.old.ids ≡ None) }
+    // The issue comes after all that have one.
     requires last { All (λ e. e.no.0 < issue.0) externals.old.ids }
     requires positive { 1 ≤ issue.0 }
+    // Then it leads to the new issue, where one is given.
     ensures { externals.new.ids ≡ with_external externals.old.ids issue (id_of external) }
 {
     if let Some(NewExternal { id, text }) = external {

@@ -402,17 +402,23 @@ impl State {
     /// Makes room for one more issue, its rank and its verdicts, or leaves all as it is but for the room for ranks and for verdicts,
     /// which may have grown. There is room for as many entries as before.
     pub fn reserve_issue(&mut self) -> Result<(), Memory>
+        // The tracker stays as it is.
         ensures machine { self.new.machine ≡ self.old.machine }
+        // Where memory sufficed, the issue, its rank and its verdicts find room.
         ensures room { OnOk result (1 ≤ self.new.room) }
         ensures ranks { OnOk result (length self.new.machine.order < self.new.ranks_room) }
         ensures cells { OnOk result (HasIssueRoom self.new.watched) }
+        // No room is lost that was there for entries and ranks.
         ensures rooms { self.new.rooms ≡ self.old.rooms }
         ensures more { self.old.ranks_room ≤ self.new.ranks_room }
+        // The filters and their verdicts stay, and so do the sprints' work and the room for phases
+        // and external ids.
         ensures table { self.new.watched.views.table ≡ self.old.watched.views.table }
         ensures filters { self.new.watched.filters ≡ self.old.watched.filters }
         ensures work { self.new.work ≡ self.old.work }
         ensures phases { self.new.phases_room ≡ self.old.phases_room }
         ensures externals { self.new.externals_room ≡ self.old.externals_room }
+        // For want of memory nothing changes but room for ranks and verdicts.
         ensures err { OnErr result (self.new
             ≡ record self.old { ranks_room = self.new.ranks_room; watched = self.new.watched }) }
     {
@@ -484,15 +490,20 @@ impl State {
     /// for as many entries of other issues, as before.
     pub fn reserve_entries(&mut self, place: usize, n: usize) -> Result<(), Memory>
         requires { place < length self.old.machine.histories }
+        // The tracker stays as it is.
         ensures machine { self.new.machine ≡ self.old.machine }
+        // Where memory sufficed, the entries find room, and other issues' entries have theirs as
+        // before.
         ensures room { OnOk result (slice_get self.new.rooms place ≡ Some n) }
         ensures rooms { OnOk result (self.new.rooms ≡ slice_set self.old.rooms place n) }
+        // All else stays, and so does each other room.
         ensures issues { self.new.room ≡ self.old.room }
         ensures ranks { self.new.ranks_room ≡ self.old.ranks_room }
         ensures watched { self.new.watched ≡ self.old.watched }
         ensures work { self.new.work ≡ self.old.work }
         ensures phases { self.new.phases_room ≡ self.old.phases_room }
         ensures externals { self.new.externals_room ≡ self.old.externals_room }
+        // For want of memory nothing changes at all.
         ensures err { OnErr result (self.new ≡ self.old) }
     {
         self.issues.reserve_entries(place, n)
