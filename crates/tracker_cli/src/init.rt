@@ -34,8 +34,8 @@ pub(crate) fn init<S: Source, T: Sink, P: Keeper + Drop>(
         → (T.taken out.new ≡ T.taken out.old) × IfSome (S.left input.old) (λ bytes.
         IsAtEnd (S.left input.new) × (length bytes ≤ setup_limit)
         × IsCreated P.keeps P.tells keeper result.1 bytes) }
-    // In all other cases the keeper has its rows as they were. What was written tells why, as far
-    // as it could be.
+    // In all other cases the keeper has its rows as they were, and if anything was written it's the
+    // cause.
     ensures read { result.0 ≡ 2
         → (T.taken out.new ≡ T.taken out.old) × HasItsRows P.keeps keeper result.1 }
     ensures written { result.0 ≡ 3 → GrewByFront (T.taken out.old) (T.taken out.new)
@@ -83,8 +83,8 @@ fn make<T: Sink, P: Keeper + Drop>(alloc: Global, text: &[u8], out: &mut T, keep
     // The text is a setup, a new tracker of it is kept, and nothing was written.
     ensures done { result.0 ≡ 0
         → (T.taken out.new ≡ T.taken out.old) × IsCreated P.keeps P.tells keeper result.1 text.now }
-    // In all other cases the keeper has its rows as they were. What was written tells why, as far
-    // as it could be.
+    // In all other cases the keeper has its rows as they were, and if anything was written it's the
+    // cause.
     ensures written { result.0 ≡ 3 → GrewByFront (T.taken out.old) (T.taken out.new)
         (IsInitText (HasSomeRow P.keeps P.tells keeper result.1) (Some text.now))
         × HasItsRows P.keeps keeper result.1 }

@@ -60,11 +60,11 @@ fn opened<P: Keeper>(alloc: Global, keeper: &mut P) -> Result<State, OpenFault>
         P.tells keeper.new → IsOpened BUILT_IN.now rows state.machine) }
     ensures rows { (rows : Rows) → P.keeps keeper.old rows → IfOk result (λ state.
         P.tells keeper.new → P.keeps keeper.new (rows_of state.machine)) }
-    // Where there is none the keeper has its rows as they were.
+    // At a fault the keeper has its rows as they were.
     ensures same { (rows : Rows) → P.keeps keeper.old rows →
         OnErr result (P.keeps keeper.new rows) }
-    // Then a crash leaves just that tracker's rows, and else those that were there or the ones that
-    // they were to become.
+    // Where it succeeds a crash leaves just that tracker's rows, and else those that were there or
+    // the ones that they were to become.
     ensures left_ok { (rows : Rows) → P.keeps keeper.old rows → P.leaves keeper.old rows rows →
         IfOk result (λ state. P.tells keeper.new
         → LeavesJustIts P.leaves keeper.new state.machine) }
@@ -130,8 +130,8 @@ fn resumed<P: Keeper>(alloc: Global, keeper: &mut P, rows: &[Row]) -> Result<Sta
     ensures told { P.tells keeper.new → P.tells keeper.old }
     ensures same { (kept : Rows) → P.keeps keeper.old kept →
         OnErr result (P.keeps keeper.new kept) }
-    // Then a crash leaves just that tracker's rows, and else those that were there or the ones of
-    // the second format.
+    // Where it succeeds a crash leaves just that tracker's rows, and else those that were there or
+    // the ones of the second format.
     ensures left_ok { (kept : Rows) → P.keeps keeper.old kept → P.leaves keeper.old kept kept →
         IsListing kept rows.now →
         IfOk result (λ state. LeavesJustIts P.leaves keeper.new state.machine) }
@@ -163,8 +163,8 @@ fn migrated<P: Keeper>(alloc: Global, keeper: &mut P, state: State) -> Result<St
     ensures told { P.tells keeper.new → P.tells keeper.old }
     ensures same { (kept : Rows) → P.keeps keeper.old kept →
         OnErr result (P.keeps keeper.new kept) }
-    // Then a crash leaves just the rows of the second format, and else those that were there or
-    // these.
+    // Where it succeeds a crash leaves just the rows of the second format, and else those that were
+    // there or these.
     ensures left_ok { (kept : Rows) → P.keeps keeper.old kept →
         OnOk result (P.leaves keeper.new (with_ops (migrating_ops state.machine) kept)
         (with_ops (migrating_ops state.machine) kept)) }
