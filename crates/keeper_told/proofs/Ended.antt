@@ -1,5 +1,5 @@
 -- What a run leaves for the next.
-use Rattle.std.proofs.Common.{◌≡◌, ◌⊎◌, inl, inr, Bool, Ok, Err, Result, OnOk, is_ok, IsTrue, sym, ap, subst}
+use Rattle.std.proofs.Common.{◌≡◌, ◌⊎◌, inl, inr, Bool, Ok, Err, Result, OnOk, is_ok, IsTrue}
 use Rattle.std.proofs.Math.Logic.{∥∥₁_map}
 use Rattle.std.specs.Prelude.{MatchBool}
 use Rattle.tracker_keeper.specs.Rows.{Rows}
@@ -10,13 +10,12 @@ use Rattle.sqlite_wal.specs.Recovery.{Image}
 use Rattle.sqlite_wal.specs.Files.{outcomes}
 use Rattle.sqlite_store.specs.declared.store.FileStore.{FileStore}
 use Rattle.sqlite_store.specs.FileStore as store
-use Rattle.sqlite.specs.Effect.{Database}
 use Rattle.sqlite.specs.State.{State, IsLive}
 use Rattle.sqlite.specs.Held.{Held, AreDatabases}
 use Rattle.sqlite.specs.Files.{file_state}
 use Rattle.sqlite.specs.Closing.{IsCopied}
 use Rattle.sqlite.proofs.Theorems.{opens_again}
-use Rattle.keeper_told.specs.Keeping.{HoldsRows, Keeps, IsKeeping}
+use Rattle.keeper_told.specs.Keeping.{IsKeeping}
 use Rattle.keeper_told.specs.Crash.{LeavesJust, LeavesOr, LeavesEither}
 use Rattle.keeper_told.specs.Reopening.{HoldsTold, AloneHas}
 use Rattle.keeper_told.proofs.Leaving.{committed_holds}

@@ -1,14 +1,13 @@
 -- What a crash may leave, from call to call.
-use Rattle.std.proofs.Common.{◌≡◌, inl, inr, Bool, true, false, ℕ, None, IsTrue, Ok, Err, Result, OnOk, OnErr, refl, sym, ap, subst, ◌∙◌}
+use Rattle.std.proofs.Common.{◌≡◌, inl, inr, Bool, true, false, ℕ, None, IsTrue, Ok, Err, Result, OnOk, OnErr, refl, sym, ap, subst}
 use Rattle.std.specs.Prelude.{◌⊎◌}
 use mathlib.Core.Path.{fun_ext}
 use Rattle.tracker_keeper.specs.Rows.{Rows, no_rows}
 use Rattle.sqlite_trees.specs.Tree.{Trees}
 use Rattle.sqlite.specs.Effect.{Database}
 use Rattle.sqlite.specs.State.{State, HasCleanDisk, IsLive}
-use Rattle.keeper_told.specs.Table.{no_schema}
-use Rattle.keeper_told.specs.Keeping.{Stores, IsBare, HoldsRows, Keeps, IsKeeping}
-use Rattle.keeper_told.specs.Crash.{LeavesJust, LeavesEither, IsLeaving, LeavesOr, LeavesOrMakes, LeavesAsBefore}
+use Rattle.keeper_told.specs.Keeping.{HoldsRows, Keeps, IsKeeping}
+use Rattle.keeper_told.specs.Crash.{LeavesJust, IsLeaving, LeavesOr, LeavesOrMakes, LeavesAsBefore}
 use Rattle.keeper_told.proofs.Making.{bare_of}
 
 -- a crash leaves the last commit alone, where the connection is open
