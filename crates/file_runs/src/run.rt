@@ -11,8 +11,8 @@ ghost use Rattle.file_runs.specs.Runs.{BeginsWith, HoldsTracker, LeavesItsRows, 
 
 use fields::BUILT_IN;
 use keeper_told::open_told;
-use sqlite::{Error, FileFrom, FileStore, Start};
 use request_lines::{Sink, Source};
+use sqlite::{Error, FileFrom, FileStore, Start};
 use tracker_cli::run;
 
 /// Carries out a command over the files at the path, which are made where there are none, and ends with nothing copied into the database

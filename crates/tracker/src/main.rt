@@ -36,9 +36,22 @@ fn main(rt: HostRuntime) -> ExitCode {
             return ExitCode::from(NO_MEMORY);
         }
     }
-    let status = match &store {
-        Some(name) if name.as_str() != ":memory:" => in_files(&rt, &words, name.as_str()),
-        _ => in_memory(&rt, &words),
+    let path = match &store {
+        Some(name) if name.as_str() != ":memory:" => Some(name.as_str()),
+        _ => None,
+    };
+    let status = match (path, is_serve(&words)) {
+        (Some(path), false) => in_files(&rt, &words, path),
+        (None, false) => in_memory(&rt, &words),
+        // The kit's runtime waits in `main` alone.
+        (Some(path), true) => match open_told(&rt, path, Unknown) {
+            Ok(keeper) => served(&rt, serve_port(&rt, &words, keeper)),
+            Err(error) => not_opened(&rt, error),
+        },
+        (None, true) => match MemoryKeeper::new(alloc, &[], Vec::new(alloc)) {
+            Ok(keeper) => served(&rt, serve_port(&rt, &words, keeper)),
+            Err(_) => NO_MEMORY,
+        },
     };
     ExitCode::from(status)
 }
@@ -48,9 +61,6 @@ fn in_memory(rt: &HostRuntime, words: &[String]) -> u8 {
     let Ok(keeper) = MemoryKeeper::new(rt.alloc(), &[], Vec::new(rt.alloc())) else {
         return NO_MEMORY;
     };
-    if is_serve(words) {
-        return served(rt, serve_port(rt, words, keeper));
-    }
     let mut input = Reading::new(rt.reader());
     let mut out = Writing::new(io::writer(rt));
     let (status, keeper) = run(rt.alloc(), words, &mut input, &mut out, keeper);
@@ -60,12 +70,6 @@ fn in_memory(rt: &HostRuntime, words: &[String]) -> u8 {
 
 // The same over an SQLite file, which is made where there is none.
 fn in_files(rt: &HostRuntime, words: &[String], path: &str) -> u8 {
-    if is_serve(words) {
-        return match open_told(rt, path, Unknown) {
-            Ok(keeper) => served(rt, serve_port(rt, words, keeper)),
-            Err(error) => not_opened(rt, error),
-        };
-    }
     let mut input = Reading::new(rt.reader());
     let mut out = Writing::new(io::writer(rt));
     match run_over_files(rt, words, path, Unknown, &mut input, &mut out) {

@@ -117,8 +117,17 @@ fn serve_desk<L: Ledger, R: Wait, K: Links, P: Keeper + Drop>(
     requests.is_tracker();
     let (end, links, requests) = serve_links(alloc, rt, links, requests);
     requests.is_tracker();
+    (status_of(end), links, requests.close())
+}
+
+// The status of why no further connection was served.
+fn status_of(end: LinksEnd) -> u8
+    ensures ended { result ≡ 0 → end ≡ LinksEnd.Ended }
+    ensures failed { result ≡ 2 → end ≡ LinksEnd.Failed }
+    ensures either { (result ≡ 0) ⊎ (result ≡ 2) }
+{
     match end {
-        LinksEnd::Ended => (0, links, requests.close()),
-        LinksEnd::Failed => (2, links, requests.close()),
+        LinksEnd::Ended => 0,
+        LinksEnd::Failed => 2,
     }
 }

@@ -4,17 +4,17 @@ use Rattle.setup_reading.specs.declared.built_in_text.TheConstants.{BUILT_IN}
 use Rattle.tracker_cli.proofs.Served.{served_opened}
 use Rattle.tracker_cli.proofs.serving.serve_desk.Goals as goal
 
-pub returns-in-Ended-clause-served : goal.returns-in-Ended-clause-served
-returns-in-Ended-clause-served g c = λ _.
+pub returns-clause-served : goal.returns-clause-served
+returns-clause-served g c = λ _.
     served_opened _ _ _ _ g.P.Keeper.keeps g.P.Keeper.tells g.P.Keeper.faults g.P.Keeper.leaves BUILT_IN.now c.args.keeper c.close.result
     c.in-Ok.desk c.new-requests.result c.serve_links-end.result.2
     c.in-Ok.ensures.opened c.in-Ok.ensures.rows c.in-Ok.ensures.left_ok c.in-Ok.ensures.later_ok c.new-requests.ensures c.serve_links-end.ensures.made c.close.ensures c.is_tracker.ensures c.is_tracker-2.ensures
 
-pub returns-in-Failed-clause-served : goal.returns-in-Failed-clause-served
-returns-in-Failed-clause-served g c = λ _.
-    served_opened _ _ _ _ g.P.Keeper.keeps g.P.Keeper.tells g.P.Keeper.faults g.P.Keeper.leaves BUILT_IN.now c.args.keeper c.close-in-Failed.result
-    c.in-Ok.desk c.new-requests.result c.serve_links-end.result.2
-    c.in-Ok.ensures.opened c.in-Ok.ensures.rows c.in-Ok.ensures.left_ok c.in-Ok.ensures.later_ok c.new-requests.ensures c.serve_links-end.ensures.made c.close-in-Failed.ensures c.is_tracker.ensures c.is_tracker-2.ensures
+pub returns-clause-ended : goal.returns-clause-ended
+returns-clause-ended g c = λ zero. c.serve_links-end.ensures.ended (c.status_of.ensures.ended zero)
+
+pub returns-clause-link_cause : goal.returns-clause-link_cause
+returns-clause-link_cause g c = λ two. c.serve_links-end.ensures.failed (c.status_of.ensures.failed two)
 
 pub returns-in-Err-BadRow-default-clause-bad : goal.returns-in-Err-BadRow-default-clause-bad
 returns-in-Err-BadRow-default-clause-bad g c = λ _.
