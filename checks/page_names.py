@@ -4,7 +4,7 @@
 usage: python3 checks/page_names.py
 
 - A link leads to a file of the repository, and its `#` to a heading there.
-- README.md has a link to each page of docs/, and the README.md of bench/, checks/ and tools/ names each file of its folder.
+- README.md has a link to each page of docs/, docs/ARCHITECTURE.md one to the page of each crate, and the README.md of bench/, checks/ and tools/ names each file of its folder.
 - The names in backticks of a link to a .rt or .antt file are defined in that file.
 - A path in backticks that begins with src/, specs/ or proofs/ is one of the page's crate, or with a crate's name in front one of that
   crate; .rt and .antt may be left out. One that begins with bench/, checks/, tools/ or docs/ is one of the repository.
@@ -118,6 +118,8 @@ def missing(page):
     text = page.read_text()
     if page == TOP / 'README.md':
         yield from (f'no link to docs/{it.name}' for it in sorted(TOP.glob('docs/*.md')) if f'](docs/{it.name})' not in text)
+    if page == TOP / 'docs/ARCHITECTURE.md':
+        yield from (f'no link to the page of {it.name}' for it in sorted(TOP.glob('crates/*/')) if f'](../crates/{it.name}/README.md)' not in text)
     if page.parent in FOLDERS:
         yield from (f'{it.name} is not named' for it in sorted(page.parent.iterdir()) if it.is_file() and it != page and f'`{it.name}`' not in text)
 
