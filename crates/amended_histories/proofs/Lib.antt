@@ -1,0 +1,10 @@
+pub mod Listed
+pub mod Values
+pub mod Alike
+pub mod Made
+pub mod Once
+pub mod Present
+pub mod SameMembers
+pub mod Shows
+pub mod Telling
+pub mod Amended

@@ -1,0 +1,3 @@
+pub mod Amended
+pub mod Amending
+pub mod Laws

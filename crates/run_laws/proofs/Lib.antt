@@ -1,0 +1,7 @@
+pub mod Listings
+pub mod Opened
+pub mod Doors
+pub mod Exports
+pub mod Records
+pub mod Twice
+pub mod Whole

@@ -1,0 +1,5 @@
+pub mod Doors
+pub mod Exports
+pub mod Records
+pub mod Twice
+pub mod Whole
