@@ -53,15 +53,15 @@ not_many all done within stops =
     omega (arith, few, both, more, many)
 
 no_limit : (Replies : List (List ℕ) → List ℕ → Type 0) (bytes text : List ℕ) → AreWithinLimits (lines bytes) → IsLimitText Replies bytes text → ⊥
-no_limit Replies bytes text within (inl (done, whole, stops, rest)) = not_long (lines bytes) done within stops
-no_limit Replies bytes text within (inr (done, whole, stops, rest)) = not_many (lines bytes) done within stops
+no_limit Replies bytes text within (inl (done, whole, stops, replies, is)) = not_long (lines bytes) done within stops
+no_limit Replies bytes text within (inr (done, whole, stops, replies, is)) = not_many (lines bytes) done within stops
 
 -- ---- rows
 
 no_bad : (setup_text : List ℕ) (rows : Rows) (m : Machine) (kind number : ℕ) → IsOpened setup_text rows m → IsBadIn rows kind number → ⊥
 no_bad setup_text rows m kind number (inl (list, is, (format, loads))) (some, (other, is_too, bad)) =
     loaded_have_no_bad format list m kind number loads (subst (λ l. IsFirstBad l kind number) (sym (one_listing rows list other is is_too)) bad)
-no_bad setup_text rows m kind number (inr (none, new)) ((at_kind, (at, (body, there))), rest) =
+no_bad setup_text rows m kind number (inr (none, new)) ((at_kind, at, body, there), rest) =
     none-some body (sym (none at_kind at) ∙ there)
 
 -- ---- answers
@@ -69,8 +69,8 @@ no_bad setup_text rows m kind number (inr (none, new)) ((at_kind, (at, (body, th
 answered_at : (m : Machine) (line : List ℕ) (mark : Mark) (xs : List Marked) → failures_at mark + failures_in xs ≡ 0
     → ((n : Machine) → failures_in xs ≡ 0 → AreAnswered n (map (λ x. x.line) xs) (text_of_run n xs) (end_of_run n xs))
     → AreAnswered m (line ∷ map (λ x. x.line) xs) (reply_line (marked_reply m line mark) ++ text_of_run (marked_next m line mark) xs) (end_of_run (marked_next m line mark) xs)
-answered_at m line plain xs none rest = inl (text_of_run (asked_next m (line_of line)) xs, (refl, rest (asked_next m (line_of line)) (omega (arith, none))))
-answered_at m line memory xs none rest = inr (text_of_run m xs, (refl, rest m (omega (arith, none))))
+answered_at m line plain xs none rest = inl (text_of_run (asked_next m (line_of line)) xs, refl, rest (asked_next m (line_of line)) (omega (arith, none)))
+answered_at m line memory xs none rest = inr (text_of_run m xs, refl, rest m (omega (arith, none)))
 answered_at m line keeper xs none rest = absurd (omega (arith, none))
 
 answered_run : (marked : List Marked) (m : Machine) → failures_in marked ≡ 0 → AreAnswered m (map (λ x. x.line) marked) (text_of_run m marked) (end_of_run m marked)
@@ -122,8 +122,12 @@ module _ {P : Type 0} (keeps : P → Rows → Type 0) (tells : P → Type 0) (fa
   replies_answered input text rows m exec had opened none (inr check) appends = absurd (not_both words exec check.0)
   replies_answered input text rows m exec had opened none (inl (is, (start, last, failures, begins, run, kept))) appends =
       let same : start ≡ m = opened_one setup_text rows start m (begins rows had.kept had.told) opened in
-      let no_failure : failures ≡ 0 = none_failed (faults old_keeper) (faults new_keeper) failures none kept.kept.counted in
-      (text, (last, (subst (λ (n : Machine). AreAnswered n (requests (lines input)) text last) same (answered start last (requests (lines input)) text failures no_failure run), appends)))
+      let no_failure : failures ≡ 0 = none_failed (faults old_keeper) (faults new_keeper) failures none kept.kept.counted in (
+        text,
+        last,
+        subst (λ (n : Machine). AreAnswered n (requests (lines input)) text last) same (answered start last (requests (lines input)) text failures no_failure run),
+        appends,
+      )
 
   pub ends_whole : (reads_before reads_now writes_before writes_now : ℕ) → (IsExec words → Ends) → AreCaused reads_before reads_now writes_before writes_now
       → EndsWhole (Had keeps tells old_keeper new_keeper) (NoneFailed reads_before reads_now writes_before writes_now (faults old_keeper) (faults new_keeper)) setup_text words status left old new
