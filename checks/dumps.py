@@ -3,7 +3,7 @@
 
 usage: python3 checks/dumps.py [PROGRAM] [ISSUES]
 
-A tracker with the calls of docs/tour.jsonl, one of `generate`, and where ISSUES is given one of so many: what restores its dump has the
+A tracker with the calls of docs/tour.jsonl, one of `generate`, and where ISSUES is given one of so many, up to 20,000 (bench/dumps.py has more): what restores its dump has the
 same rows, and the same dump. Then lines that are none, a cut line, a doubled row, rows out of order, an empty input, rows that are no
 tracker's and a store that has rows: each has its status and text, and no row is kept. The status is 1 where one is not ok.
 """

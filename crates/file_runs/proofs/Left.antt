@@ -21,7 +21,7 @@ use Rattle.file_runs.proofs.Ends.{ends_again, replies_again, cuts_again}
 
 module _ {P : Type 0} (keeps : P → Rows → Type 0) (tells : P → Type 0) (faults : P → ℕ) (leaves : P → Rows → Rows → Type 0) (may_leave : Image → Type 0) (setup_text : List ℕ)
     (first last : P) (rows : Rows) (has : keeps first rows) (left : leaves first rows rows) (told : tells last)
-    (abandoned : (one other : Rows) → leaves last one other → (image : Image) → may_leave image → ∥ (HoldsTold image one ⊎ HoldsTold image other) ∥₁) where
+    (ended : (one other : Rows) → leaves last one other → (image : Image) → may_leave image → ∥ (HoldsTold image one ⊎ HoldsTold image other) ∥₁) where
   holds : (m : Machine) (image : Image) → IsTracker m → HasSetup m → HoldsTold image (rows_of m) → HoldsTracker image m
   holds m image tracker setup held = record { tracker = tracker; setup = setup; held = held }
 
@@ -37,15 +37,15 @@ module _ {P : Type 0} (keeps : P → Rows → Type 0) (tells : P → Type 0) (fa
   leaves_tracker : (m : Machine) (all : List (List ℕ)) (failures : ℕ) → HasSetup m → HasRowsBehind keeps tells faults leaves first last all m failures → LeavesTracker may_leave all m failures
   leaves_tracker m all failures setup behind image may =
       let it = behind.left rows has left told in
-      ∥∥₁_map (abandoned (rows_of m) (rows_of it.0) it.3 image may) (λ e. elim e [
+      ∥∥₁_map (ended (rows_of m) (rows_of it.0) it.3 image may) (λ e. elim e [
         | inl one ↦ inl (holds m image behind.tracker setup one)
         | inr other ↦ later_held all m it.0 image it.1 setup it.2 other
       ])
 
   unopened_by : LeavesOpened leaves setup_text last rows → LeavesItsRows may_leave setup_text rows
-  unopened_by (inl same) image may = ∥∥₁_map (abandoned rows rows same image may) (λ e. elim e [ inl one ↦ inl one | inr other ↦ inl other ])
+  unopened_by (inl same) image may = ∥∥₁_map (ended rows rows same image may) (λ e. elim e [ inl one ↦ inl one | inr other ↦ inl other ])
   unopened_by (inr (m, opened, begun)) image may =
-      ∥∥₁_map (abandoned rows (rows_of m) begun image may) (λ e. elim e [ inl one ↦ inl one | inr other ↦ inr (m, opened, other) ])
+      ∥∥₁_map (ended rows (rows_of m) begun image may) (λ e. elim e [ inl one ↦ inl one | inr other ↦ inr (m, opened, other) ])
 
   unopened : StaysUnopened keeps tells leaves setup_text first last → LeavesItsRows may_leave setup_text rows
   unopened stays = unopened_by (stays.left rows has left told)

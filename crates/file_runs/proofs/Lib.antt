@@ -2,3 +2,4 @@ mod Setups
 mod Opened
 mod Ends
 mod Left
+mod Ended

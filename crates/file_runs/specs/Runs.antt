@@ -1,4 +1,4 @@
--- Runs over the files at a path, one after another: what a run begins in, and what a crash leaves of it for the next.
+-- Runs over the files at a path, one after another: what a run begins in, and what may be found of it by the next.
 use Rattle.std.specs.Prelude.{◌≡◌, ◌⊎◌, ℕ, List, [], Option}
 use Rattle.sqlite_wal.specs.Recovery.{Image}
 use Rattle.tracker_keeper.specs.Rows.{Rows, no_rows}
@@ -23,30 +23,30 @@ pub record HoldsTracker (image : Image) (m : Machine) : Type 0 where
   pub setup : IsSetupOf m.text m.setup
   pub held : HoldsTold image (rows_of m)
 
--- ---- what a crash leaves
+-- ---- what may be found
 
--- whatever it leaves of the files holds this tracker, or the tracker with one more of these lines
+-- whatever may be found of the files holds this tracker, or the tracker with one more of these lines
 abbrev pub LeavesTracker : (Image → Type 0) → List (List ℕ) → Machine → ℕ → Type 0
 LeavesTracker may_leave lines m failures =
     (image : Image) → may_leave image
     → ∥ (HoldsTracker image m
     ⊎ ((later : Machine) × IsWithLine lines m later × HoldsTracker image later)) ∥₁
 
--- whatever it leaves holds these rows still, or those of the tracker that they make
+-- whatever may be found holds these rows still, or those of the tracker that they make
 abbrev pub LeavesItsRows : (Image → Type 0) → List ℕ → Rows → Type 0
 LeavesItsRows may_leave setup_text rows =
     (image : Image) → may_leave image
     → ∥ (HoldsTold image rows
     ⊎ ((m : Machine) × IsOpened setup_text rows m × HoldsTold image (rows_of m))) ∥₁
 
--- whatever it leaves holds this tracker still
+-- whatever may be found holds this tracker still
 abbrev pub LeavesIt : (Image → Type 0) → Machine → Type 0
 LeavesIt may_leave m = (image : Image) → may_leave image → ∥ HoldsTracker image m ∥₁
 
 -- ---- a run
 
--- the lines of an input are answered, from the tracker that the run begins in, under some marks; whatever a crash leaves then holds the
--- tracker behind the answers, or that with one line more. `Unopened` says what it leaves where no line was answered, and `Bad` which
+-- the lines of an input are answered, from the tracker that the run begins in, under some marks; whatever may be found then holds the
+-- tracker behind the answers, or that with one line more. `Unopened` says what it is where no line was answered, and `Bad` which
 -- row is told as the first bad one
 abbrev pub RunEnds : (Image → Type 0) → (Machine → Type 0) → Type 0 → (ℕ → ℕ → Type 0)
     → List (List ℕ) → ℕ → Option (List ℕ) → Option (List ℕ) → Option (List ℕ) → Option (List ℕ)

@@ -1,16 +1,19 @@
 //! The tracker's command line: `tracker STORE WORDS..`, the request lines on standard input, the replies on
-//! standard output; or `tracker STORE serve PORT`, requests over HTTP. The status is that of the command.
+//! standard output; `tracker STORE dump` and `tracker STORE restore`, all rows out and in; or `tracker STORE serve PORT`, requests over
+//! HTTP. The status is that of the command.
 #![tactic(auto)]
 
-use file_runs::run_over_files;
+use file_ends::Ended;
+use file_runs::{end_run, run_over_files};
 use keeper_told::open_told;
-use sqlite::{Error, ErrorCode, Unknown};
+use sqlite::{Error, ErrorCode, FileFrom, Unknown};
 use std::alloc::Global;
 use std::net::{Net, TcpListener, TcpStream};
 use std::process::ExitCode;
 use std::sync::Wait;
 use std::time::Clock;
 use std::{env, io, mem};
+use tracker_backup::{back_up, is_backup};
 use tracker_cli::{PortLinks, Reading, Writing, run, serve};
 use tracker_keeper::{Keeper, MemoryKeeper};
 
@@ -45,11 +48,19 @@ fn main(rt: HostRuntime) -> ExitCode {
         (None, false) => in_memory(&rt, &words),
         // The kit's runtime waits in `main` alone.
         (Some(path), true) => match open_told(&rt, path, Unknown) {
-            Ok(keeper) => served(&rt, serve_port(&rt, &words, keeper)),
+            Ok(keeper) => {
+                let (status, keeper) = serve_port(&rt, &words, keeper);
+                leave(&rt, end_run(&rt, keeper));
+                served(&rt, status)
+            }
             Err(error) => not_opened(&rt, error),
         },
         (None, true) => match MemoryKeeper::new(alloc, &[], Vec::new(alloc)) {
-            Ok(keeper) => served(&rt, serve_port(&rt, &words, keeper)),
+            Ok(keeper) => {
+                let (status, keeper) = serve_port(&rt, &words, keeper);
+                mem::forget(keeper);
+                served(&rt, status)
+            }
             Err(_) => NO_MEMORY,
         },
     };
@@ -63,18 +74,49 @@ fn in_memory(rt: &HostRuntime, words: &[String]) -> u8 {
     };
     let mut input = Reading::new(rt.reader());
     let mut out = Writing::new(io::writer(rt));
-    let (status, keeper) = run(rt.alloc(), words, &mut input, &mut out, keeper);
+    let (status, keeper) = if is_backup(words) {
+        back_up(rt.alloc(), words, &mut input, &mut out, keeper)
+    } else {
+        run(rt.alloc(), words, &mut input, &mut out, keeper)
+    };
     mem::forget(keeper);
     status
 }
 
 // The same over an SQLite file, which is made where there is none.
 fn in_files(rt: &HostRuntime, words: &[String], path: &str) -> u8 {
+    if is_backup(words) {
+        return back_up_files(rt, words, path);
+    }
     let mut input = Reading::new(rt.reader());
     let mut out = Writing::new(io::writer(rt));
     match run_over_files(rt, words, path, Unknown, &mut input, &mut out) {
-        Ok((status, _store)) => status,
+        Ok((status, end)) => {
+            leave(rt, end);
+            status
+        }
         Err(error) => not_opened(rt, error),
+    }
+}
+
+// Writes the rows of a file as lines, or reads them into one.
+fn back_up_files(rt: &HostRuntime, words: &[String], path: &str) -> u8 {
+    let mut input = Reading::new(rt.reader());
+    let mut out = Writing::new(io::writer(rt));
+    match open_told(rt, path, Unknown) {
+        Ok(keeper) => {
+            let (status, keeper) = back_up(rt.alloc(), words, &mut input, &mut out, keeper);
+            leave(rt, end_run(rt, keeper));
+            status
+        }
+        Err(error) => not_opened(rt, error),
+    }
+}
+
+// Says where the database file isn't whole by itself: nothing is lost, but only file and log together hold the tracker then.
+fn leave(rt: &HostRuntime, end: Ended<FileFrom<Unknown>>) {
+    if !end.is_whole() {
+        let _ = eprintln!(rt; "log");
     }
 }
 
@@ -94,16 +136,16 @@ fn is_serve(words: &[String]) -> bool {
     }
 }
 
-// Serves HTTP on the port that the word behind `serve` names, until it is stopped.
-fn serve_port<R, P>(rt: &R, words: &[String], keeper: P) -> u8
+// Serves HTTP on the port that the word behind `serve` names, until it is stopped, and hands the keeper back.
+fn serve_port<R, P>(rt: &R, words: &[String], keeper: P) -> (u8, P)
 where
     R: Wait + Alloc<A = Global> + Net<Listener = TcpListener, Stream = TcpStream> + Clock,
     P: Keeper + Drop,
 {
     let port = words.get(1).map_or("", |word| word.as_str());
     let links = PortLinks::new(rt, port);
-    let (status, _links, _keeper) = serve(rt.alloc(), rt, words, links, keeper);
-    status
+    let (status, _links, keeper) = serve(rt.alloc(), rt, words, links, keeper);
+    (status, keeper)
 }
 
 // Says how the words are to be where they are none of a server's.

@@ -2,7 +2,7 @@ use Rattle.std.proofs.Common.{◌≡◌, inl, inr, sym, subst}
 use Rattle.sqlite_wal.specs.Files.{image_at}
 use Rattle.sqlite.specs.Files.{file_state}
 use Rattle.sqlite.specs.State.{HasCleanDisk}
-use Rattle.sqlite_store.specs.FileStore as store
+use Rattle.file_ends.specs.Ending.{MayBeFound}
 use Rattle.setup_reading.specs.declared.built_in_text.TheConstants.{BUILT_IN}
 use Rattle.tracker_keeper.specs.Rows.{Rows, no_rows}
 use Rattle.tracker_machine.specs.Kept.{rows_of}
@@ -19,9 +19,9 @@ returns-clause-begins g c = λ clean exec rows begins.
       | inl held ↦ told.kept early rows held
       | inr none ↦ subst (Keeps (file_state k.conn)) (sym none.1) (told.nothing early none.0)
     ] in
-    run_ends _ _ _ _ (store.state c.abandon.result).may_leave BUILT_IN.now k c.run-status.result.1 rows
-    (λ early opened. kept early) (λ early db may. inl (told.left early rows (kept early) db may)) (c.abandon.ensures.told clean)
-    (λ one other leaving image may. c.abandon.ensures.left clean one other (leaving (c.abandon.ensures.told clean)) image may)
+    run_ends _ _ _ _ (MayBeFound c.end_run.result) BUILT_IN.now k c.run-status.result.1 rows
+    (λ early opened. kept early) (λ early db may. inl (told.left early rows (kept early) db may)) (c.end_run.ensures.told clean)
+    (λ one other leaving image may. c.end_run.ensures.found clean one other (leaving (c.end_run.ensures.told clean)) image may)
     _ _ _ _ _ _ (c.run-status.ensures.lines (inl exec))
 
 pub returns-clause-goes_on : goal.returns-clause-goes_on

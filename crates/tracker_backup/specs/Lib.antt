@@ -1,0 +1,4 @@
+pub mod Ends
+pub mod Dumping
+pub mod Restoring
+pub mod Asking
