@@ -1,4 +1,0 @@
-pub mod KeptMembers
-pub mod Small
-pub mod Tried
-pub mod Opening
