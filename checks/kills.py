@@ -33,7 +33,12 @@ def rows_of(store):
         if not os.path.exists(f'{room}/rows'):
             return []
         with contextlib.closing(sqlite3.connect(f'{room}/rows')) as base:
-            if not base.execute("SELECT name FROM sqlite_master WHERE name = 'kept'").fetchall():
+            try:
+                tables = base.execute("SELECT name FROM sqlite_master WHERE name = 'kept'").fetchall()
+            except sqlite3.DatabaseError:
+                # (its first making was cut off: a file that SQLite doesn't read, and the tracker does)
+                return []
+            if not tables:
                 return []
             return base.execute('SELECT kind, no, body FROM kept ORDER BY kind, no').fetchall()
 

@@ -49,8 +49,18 @@ class FileTracker:
         except ValueError:
             reply = None
         if not isinstance(reply, dict):
+            if self.has_ended():
+                raise self.ended(came)
             raise Unreachable(f'{self.store}: {came.decode(errors="replace").strip()} is no reply of a tracker')
         return reply
+
+    def has_ended(self):
+        """Whether the program ends by itself behind what it wrote: it may be there for a moment more."""
+        try:
+            self.running.wait(timeout=1)
+        except subprocess.TimeoutExpired:
+            return False
+        return True
 
     def start(self):
         if self.store != ':memory:' and not os.path.exists(self.store):
