@@ -1,7 +1,5 @@
 pub mod Grouping
 pub mod Holding
-pub mod InOrder
 pub mod Means
 pub mod Ops
 pub mod Showing
-pub mod Writing

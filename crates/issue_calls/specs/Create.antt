@@ -1,5 +1,5 @@
 -- What a create comes to once its checks are made.
-use Rattle.std.specs.Prelude.{◌≡◌, ◌≢◌, ◌<◌, ◌≤◌, ℕ, true, List, length, Option, Some, Result, Ok, Err, ◌-◌}
+use Rattle.std.specs.Prelude.{◌≡◌, ◌<◌, ◌≤◌, ℕ, true, List, length, Option, Some, Result, Ok, Err, ◌-◌}
 use Rattle.field_values.specs.declared.numbers.ProjectNo.{ProjectNo}
 use Rattle.tracker_limits.specs.Limits.{most_issues, most_text_bytes, text_reserve}
 use Rattle.fields.specs.Naming.{name_at}
@@ -8,7 +8,6 @@ use Rattle.change_history.specs.History.{opening_value}
 use Rattle.workflow.specs.Laws.{AllFit}
 use Rattle.tracker_calls.specs.declared.reply.Answer.{Answer}
 use Rattle.tracker_calls.specs.declared.reply.Refusal.{Refusal}
-use Rattle.tracker_calls.specs.declared.reply.Refusal.TheVariants as refusal
 use Rattle.tracker_keeper.specs.Forms.{are_opening}
 use Rattle.tracker_machine.specs.Checks.{bytes_kept}
 use Rattle.tracker_machine.specs.Create.{created, filled}
@@ -16,10 +15,9 @@ use Rattle.tracker_machine.specs.Effect.{MayName}
 use Rattle.tracker_machine.specs.Known.{project_keys}
 use Rattle.tracker_machine.specs.Machine.{Machine}
 use Rattle.tracker_machine.specs.Meaning.{Meaning}
-use Rattle.tracker_machine.specs.Meaning.Meaning.{Refuses}
 use Rattle.tracker_machine.specs.Rank.{last_rank, with_given}
 use Rattle.tracker_machine.specs.Tracker.{AreNamed, AreSmall}
-use Rattle.tracker_state.specs.Plan.{told}
+use Rattle.tracker_state.specs.Plan.{told, IsRefused}
 use Rattle.wanted_values.specs.InSprints.{AreOfSprints}
 use Rattle.wanted_values.specs.Weight.{AreLight}
 use Rattle.issue_calls.specs.declared.due.Due.{Due}
@@ -52,12 +50,11 @@ created_last m caller external new =
 -- the answer is the one that is due, or the refusal, unless there was not enough memory
 abbrev pub IsTold : Meaning → Result Answer Refusal → Type 0
 IsTold due (Ok answer) = told due ≡ Some answer
-IsTold due (Err r) = (r ≢ refusal.Keeper) × (r ≢ refusal.Memory → due ≡ Refuses r)
+IsTold due (Err r) = IsRefused due r
 
 -- a create of this meaning comes to an answer, to a new issue that may come, or to its refusal
 abbrev pub ComesTo : Machine → ℕ → Option (List ℕ) → Meaning → Result Due Refusal → Type 0
 ComesTo m caller external due (Ok (Told answer)) = told due ≡ Some answer
 ComesTo m caller external due (Ok (New new)) =
     (due ≡ created_last m caller external new) × MayBegin m new × MayName m.externals external
-ComesTo m caller external due (Err r) =
-    (r ≢ refusal.Keeper) × (r ≢ refusal.Memory → due ≡ Refuses r)
+ComesTo m caller external due (Err r) = IsRefused due r

@@ -1,4 +1,3 @@
 pub mod Create
 pub mod Group
 pub mod Rows
-pub mod Written

@@ -19,7 +19,7 @@ use change_history::{Change, Issue};
 use fields::{FieldNo, ProjectNo, SprintNo, Text};
 use sprints::SprintState;
 use std::alloc::Global;
-use tracker_calls::{Limit, Refusal, SprintPhase, Thing};
+use tracker_calls::{Cause, Limit, Refusal, SprintPhase, Thing};
 use tracker_limits::{ENTRIES_RESERVE, MOST_ENTRIES, MOST_ISSUES, MOST_TEXT_BYTES, TEXT_RESERVE};
 use tracker_state::{State, unknown, unnumbered};
 use wanted_values::{
@@ -34,7 +34,7 @@ pub fn known_project(alloc: Global, state: &State, name: &str) -> Result<Project
     ensures there { IfOk result (λ no. no.0 < length state.now.machine.setup.project) }
     ensures check { Checks (unless_known
         (place_named name.now (project_keys state.now.machine.setup))
-        (Refusal.Unknown Thing.Project name.now)) result }
+        (Cause.Unknown Thing.Project name.now)) result }
 {
     match state.project_named(name) {
         Some(project) => Ok(project),
@@ -49,7 +49,7 @@ pub fn known_transition(alloc: Global, state: &State, name: &str) -> Result<usiz
     ensures there { IfOk result (λ place. place < length state.now.machine.setup.transition) }
     ensures check { Checks (unless_known
         (place_named name.now (transition_names state.now.machine.setup))
-        (Refusal.Unknown Thing.Transition name.now)) result }
+        (Cause.Unknown Thing.Transition name.now)) result }
 {
     match state.transition_named(name) {
         Some(place) => Ok(place),
@@ -96,9 +96,9 @@ fn check_sprint(state: &State, sprint: u32, issue: Option<&Issue>) -> Result<(),
         (option_map (λ i. i.now.history) issue.entry) sprint) result }
 {
     if is_closed(state, sprint) && !is_in(issue, sprint) {
-        return Err(Refusal::SprintIs {
+        return Err(Refusal::Cause(Cause::SprintIs {
             state: SprintPhase::Closed,
-        });
+        }));
     }
     Ok(())
 }
@@ -125,9 +125,9 @@ pub fn check_issues(state: &State) -> Result<(), Refusal>
     ensures check { Checks (issues_refusal state.now.machine) result }
 {
     if state.issue_count() >= MOST_ISSUES {
-        return Err(Refusal::Limit {
+        return Err(Refusal::Cause(Cause::Limit {
             limit: Limit::Issues,
-        });
+        }));
     }
     Ok(())
 }
@@ -138,9 +138,9 @@ pub fn check_entries(state: &State) -> Result<(), Refusal>
     ensures check { Checks (entries_refusal state.now.machine) result }
 {
     if state.entry_count() > MOST_ENTRIES - ENTRIES_RESERVE {
-        return Err(Refusal::Limit {
+        return Err(Refusal::Cause(Cause::Limit {
             limit: Limit::Entries,
-        });
+        }));
     }
     Ok(())
 }
@@ -151,20 +151,20 @@ pub fn check_bytes(state: &State) -> Result<(), Refusal>
     ensures check { Checks (bytes_refusal state.now.machine) result }
 {
     if state.byte_count() > MOST_TEXT_BYTES - TEXT_RESERVE {
-        return Err(Refusal::Limit {
+        return Err(Refusal::Cause(Cause::Limit {
             limit: Limit::TextBytes,
-        });
+        }));
     }
     Ok(())
 }
 
 // The refusal of a field whose value doesn't fit.
 fn unfit(alloc: Global, state: &State, field: FieldNo) -> Refusal
-    ensures { IsRefusal (Some (Refusal.Unfit (field_name state.now.machine.setup.field field.0)))
+    ensures { IsRefusal (Some (Cause.Unfit (field_name state.now.machine.setup.field field.0)))
         result }
 {
     match Text::copy_of(alloc, state.setup().field_name(field)) {
-        Ok(field) => Refusal::Unfit { field },
+        Ok(field) => Refusal::Cause(Cause::Unfit { field }),
         Err(_) => Refusal::Memory,
     }
 }

@@ -5,7 +5,7 @@ ghost use Rattle.field_forms.specs.Names.{place_named};
 ghost use Rattle.tracker_limits.specs.Limits.{most_issues, most_text_bytes, text_reserve};
 ghost use Rattle.fields.specs.SetupParts.{names_in};
 ghost use Rattle.workflow.specs.Laws.{AllFit};
-ghost use Rattle.tracker_calls.specs.Named.{is_external};
+ghost use Rattle.external_ids.specs.Form.{is_external};
 ghost use Rattle.tracker_machine.specs.Checks.{bytes_kept};
 ghost use Rattle.tracker_machine.specs.Create.{create_wants, create_refusal, create_or_tell, create_meaning, issue_called, new_issue_meaning, new_issue_refusal, filled};
 ghost use Rattle.tracker_machine.specs.Effect.{MayName};

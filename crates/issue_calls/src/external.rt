@@ -15,7 +15,7 @@ ghost use Rattle.issue_calls.specs.Create.{IsTold, key_of_project};
 use change_history::{Issue, project_of};
 use fields::{FieldNo, Memory, ProjectNo, Setup, Text, Value};
 use std::alloc::Global;
-use tracker_calls::{Answer, Refusal, ToldText};
+use tracker_calls::{Answer, Cause, Refusal, ToldText};
 use tracker_state::State;
 use wanted_values::Opening;
 use workflow::is_same;
@@ -76,13 +76,13 @@ fn told(alloc: Global, issue: &Issue) -> Result<Answer, Refusal>
 
 // The refusal of a create whose external id is that of another issue.
 fn another(alloc: Global, issue: &Issue, external: &str) -> Refusal
-    ensures { IsRefusal (Some (Refusal.ExternalIs external.now issue.now.history.key)) result }
+    ensures { IsRefusal (Some (Cause.ExternalIs external.now issue.now.history.key)) result }
 {
     let Ok(external) = Text::copy_of(alloc, external) else {
         return Refusal::Memory;
     };
     match Text::copy_of(alloc, issue.key().as_str()) {
-        Ok(kept) => Refusal::ExternalIs { external, kept },
+        Ok(kept) => Refusal::Cause(Cause::ExternalIs { external, kept }),
         Err(_) => Refusal::Memory,
     }
 }

@@ -23,7 +23,7 @@ use crate::group::{GroupCall, grouped};
 use change_history::{Change, Issue};
 use fields::{Memory, Permission, Setup, Transition, UserNo};
 use std::alloc::Global;
-use tracker_calls::{GivenField, Refusal};
+use tracker_calls::{Cause, GivenField, Refusal};
 use tracker_state::{Prepared, State, check_access, known_issue};
 use wanted_values::ResolvedSet;
 use workflow::{failing_condition, failing_validator, planned};
@@ -175,7 +175,7 @@ fn check_conditions(
         (Some transition.now)) result }
 {
     match failing_condition(state.setup(), issue, caller, transition) {
-        Some(index) => Err(Refusal::Condition { index }),
+        Some(index) => Err(Refusal::Cause(Cause::Condition { index })),
         None => Ok(()),
     }
 }
@@ -198,7 +198,7 @@ fn check_validators(
         inputs,
         state.moment(),
     ) {
-        Some(index) => Err(Refusal::Validator { index }),
+        Some(index) => Err(Refusal::Cause(Cause::Validator { index })),
         None => Ok(()),
     }
 }

@@ -1,2 +1,3 @@
 pub mod JsonData
 pub mod JsonTokens
+pub mod JsonMembers

@@ -5,8 +5,8 @@ use Rattle.field_values.specs.declared.rules.Permission.TheVariants as permissio
 use Rattle.field_forms.specs.Names.{is_title}
 use Rattle.rising_numbers.proofs.Free.{free_above, free_below, least_free}
 use Rattle.tracker_limits.specs.Limits.{most_boards}
-use Rattle.tracker_calls.specs.declared.reply.Refusal.TheVariants as refusal
-use Rattle.tracker_calls.specs.declared.reply.Limit.TheVariants as limit
+use Rattle.tracker_calls.specs.declared.cause.Cause.TheVariants as cause
+use Rattle.tracker_calls.specs.declared.cause.Limit.TheVariants as limit
 use Rattle.tracker_machine.specs.Machine.{Machine}
 use Rattle.tracker_machine.specs.Saved.{board_number, MayMake}
 use Rattle.tracker_machine.specs.Checks.{or_then, permission_refusal}
@@ -20,7 +20,7 @@ pub may_make : (m : Machine) (caller : ℕ) (name : List ℕ) (filter_no : Filte
     → MayMake m.filters m.boards (record { no = next_board m; name = name; filter = filter_no })
 may_make m caller name filter_no is titled passed =
     let rest = later_passes (unless_filter m filter_no) (or_then (permission_refusal m caller permission.Plan None) (boards_refusal m)) passed in
-    let few = few_passes (length m.boards) most_boards (refusal.Limit limit.Boards) (later_passes (permission_refusal m caller permission.Plan None) (boards_refusal m) rest) in
+    let few = few_passes (length m.boards) most_boards (cause.Limit limit.Boards) (later_passes (permission_refusal m caller permission.Plan None) (boards_refusal m) rest) in
     let least = free_above board_number 1 m.boards in
     let most = free_below board_number 1 m.boards in
     record {

@@ -14,8 +14,8 @@ use Rattle.rising_numbers.proofs.Free.{free_above, free_below}
 use Rattle.rising_numbers.proofs.ByNumber.{above}
 use Rattle.rising_numbers.proofs.Placed.{by_place}
 use Rattle.tracker_limits.specs.Limits.{most_filters}
-use Rattle.tracker_calls.specs.declared.reply.Refusal.TheVariants as refusal
-use Rattle.tracker_calls.specs.declared.reply.Limit.TheVariants as limit
+use Rattle.tracker_calls.specs.declared.cause.Cause.TheVariants as cause
+use Rattle.tracker_calls.specs.declared.cause.Limit.TheVariants as limit
 use Rattle.tracker_machine.specs.Machine.{Machine}
 use Rattle.tracker_machine.specs.Query.{Query, asked}
 use Rattle.tracker_machine.specs.Saved.{SavedFilter, filter_number, is_named, filter_named, IsFilter, MaySave}
@@ -50,12 +50,12 @@ module _ (setup : Parts) (fs : List SavedFilter) (owner : UserNo) (name text : L
   is_filter : (n : FilterNo) → n.0 < 2 ^ 32 → IsFilter setup (filter_of n)
   is_filter n small = record { small = small; owned = owned; named = titled; query = query; asks = asks }
 
-  may_save_as : (o : Option SavedFilter) → filter_named owner name fs ≡ o → only_if (is_some o || nat_lt (length fs) most_filters) (refusal.Limit limit.Filters) ≡ None
+  may_save_as : (o : Option SavedFilter) → filter_named owner name fs ≡ o → only_if (is_some o || nat_lt (length fs) most_filters) (cause.Limit limit.Filters) ≡ None
       → MaySave setup fs (filter_of (option_map_or (λ f. f.no) o (record { 0 = free_from filter_number 1 fs })))
   may_save_as None none room =
       let least = free_above filter_number 1 fs in
       let most = free_below filter_number 1 fs in
-      let less = few_passes (length fs) most_filters (refusal.Limit limit.Filters) room in
+      let less = few_passes (length fs) most_filters (cause.Limit limit.Filters) room in
       record {
         positive = omega (arith, least);
         filter = is_filter (record { 0 = free_from filter_number 1 fs }) (omega (arith, most, few));

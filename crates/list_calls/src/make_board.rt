@@ -10,7 +10,7 @@ use crate::rows::board_ops;
 use board::Board;
 use fields::{FilterNo, Permission, Text, UserNo};
 use std::alloc::Global;
-use tracker_calls::{Answer, Limit, Refusal};
+use tracker_calls::{Answer, Cause, Limit, Refusal};
 use tracker_limits::MOST_BOARDS;
 use tracker_state::{Plan, Prepared, State, check_permission};
 
@@ -61,7 +61,7 @@ fn check_boards(state: &State) -> Result<(), Refusal>
     if state.boards().len() < MOST_BOARDS {
         return Ok(());
     }
-    Err(Refusal::Limit {
+    Err(Refusal::Cause(Cause::Limit {
         limit: Limit::Boards,
-    })
+    }))
 }

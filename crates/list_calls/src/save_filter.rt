@@ -21,7 +21,7 @@ use fields::{FilterNo, Memory, Steps, Text, UserNo};
 use jql_bound::Bound;
 use std::alloc::Global;
 use std::sync::ledger::Ledger;
-use tracker_calls::{Answer, Limit, Refusal};
+use tracker_calls::{Answer, Cause, Limit, Refusal};
 use tracker_filters::{Filter, ReadyFilter};
 use tracker_limits::MOST_FILTERS;
 use tracker_state::{Plan, Prepared, State, asked};
@@ -61,9 +61,9 @@ fn check_filters(state: &State, caller: UserNo, name: &str) -> Result<(), Refusa
     if has_named(state, caller, name) || count(state) < MOST_FILTERS {
         return Ok(());
     }
-    Err(Refusal::Limit {
+    Err(Refusal::Cause(Cause::Limit {
         limit: Limit::Filters,
-    })
+    }))
 }
 
 // The user's filter of that name; `None` exactly where there is none.

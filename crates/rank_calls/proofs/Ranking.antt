@@ -10,7 +10,7 @@ use Rattle.change_history.specs.History.{History}
 use Rattle.rank_strings.specs.Rank.{RankParts}
 use Rattle.board.specs.declared.place.Place.{Place}
 use Rattle.board.specs.Moved.{Sides}
-use Rattle.tracker_calls.specs.declared.reply.Refusal.{Refusal}
+use Rattle.tracker_calls.specs.declared.cause.Cause.{Cause}
 use Rattle.tracker_machine.specs.Machine.{Machine}
 use Rattle.tracker_machine.specs.Known.{place_of_issue, history_named}
 use Rattle.tracker_machine.specs.Rank.{with_given, moved_rank, no_room, has_rank}
@@ -23,7 +23,7 @@ use Rattle.tracker_state.specs.Check.{room_refusal}
 -- ---- ranks that are given
 
 -- where none is left, the call is refused
-pub given_refused : (given : Result RankParts Sides) (due : RankParts → Meaning) (r : Refusal) → room_refusal given ≡ Some r
+pub given_refused : (given : Result RankParts Sides) (due : RankParts → Meaning) (r : Cause) → room_refusal given ≡ Some r
     → with_given given due ≡ Refuses r
 given_refused (Ok rank) due r is = absurd (none-some r is)
 given_refused (Err sides) due r is = ap Refuses (same_Some (no_room sides) r is)

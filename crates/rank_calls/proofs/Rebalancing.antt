@@ -10,7 +10,7 @@ use Rattle.rank_balancer.specs.Balance.{Agrees, IsInCircle, IsMoving, after_star
 use Rattle.rank_balancer.specs.Step.{Move, ArePicks, after_moves, left_in, ranks_left}
 use Rattle.rank_balancer.proofs.Keeps.{picks_keep_all}
 use Rattle.tracker_calls.specs.declared.reply.Answer.TheVariants as answer
-use Rattle.tracker_calls.specs.declared.reply.Refusal.{Refusal}
+use Rattle.tracker_calls.specs.declared.cause.Cause.{Cause}
 use Rattle.tracker_machine.specs.Rank.{no_room}
 use Rattle.tracker_machine.specs.Rebalance.{balance_refusal, started, stepped, with_planned}
 use Rattle.rank_balancer.specs.Planned.{planned}
@@ -35,7 +35,7 @@ starts_later (Moving from to) is = refl
 
 -- ---- a step
 
-pub plan_refused : (order : List Pair) (from : ℕ) (given : Result (List Move) Sides) (r : Refusal) → room_refusal given ≡ Some r
+pub plan_refused : (order : List Pair) (from : ℕ) (given : Result (List Move) Sides) (r : Cause) → room_refusal given ≡ Some r
     → with_planned order from given ≡ Refuses r
 plan_refused order from (Ok moves) r is = absurd (none-some r is)
 plan_refused order from (Err sides) r is = ap Refuses (same_Some (no_room sides) r is)

@@ -15,7 +15,7 @@ use crate::rows::step_ops;
 use fields::{Permission, UserNo};
 use rank_balancer::{Balance, StepPlan};
 use std::alloc::Global;
-use tracker_calls::{Answer, BalanceKept, BalanceState, Refusal};
+use tracker_calls::{Answer, BalanceKept, BalanceState, Cause, Refusal};
 use tracker_state::no_room::refusal_of;
 use tracker_state::{Plan, Prepared, State, check_permission, present_ops};
 
@@ -65,10 +65,10 @@ fn left_bucket(balance: Balance) -> u8
 fn other_balance(kept: Balance) -> Refusal
     ensures { result ≡ balance_refusal kept }
 {
-    Refusal::BalanceIs(match kept {
+    Refusal::Cause(Cause::BalanceIs(match kept {
         Balance::Idle(bucket) => BalanceKept::Idle(bucket),
         Balance::Moving { from, to } => BalanceKept::Moving { from, to },
-    })
+    }))
 }
 
 /// Prepares a step of the rebalancing with so many picks at most, or says why not.

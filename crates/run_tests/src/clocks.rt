@@ -1,5 +1,5 @@
+use request_lines::{Clock, ListClock};
 use std::test::Fail;
-use tracker_calls::{Clock, ListClock};
 
 /// The last second of the year 2099, behind which a clock doesn't go.
 const LAST: u64 = 4_102_444_799;

@@ -1,8 +1,8 @@
 use field_values::Text;
 use fields::BUILT_IN;
+use request_lines::{MemorySink, MemorySource};
 use std::alloc::{AllocError, Global};
 use std::test::Fail;
-use tracker_calls::{MemorySink, MemorySource};
 use tracker_cli::run;
 use tracker_keeper::{Keeper, MemoryKeeper, Row, RowOp};
 

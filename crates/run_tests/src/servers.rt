@@ -1,7 +1,7 @@
+use request_lines::{ListClock, MemorySink, MemorySource};
 use std::alloc::{AllocError, Global};
 use std::sync::Wait;
 use std::test::Fail;
-use tracker_calls::{ListClock, MemorySink, MemorySource};
 use tracker_cli::serve;
 use tracker_keeper::{Keeper, MemoryKeeper};
 use tracker_server::ListLinks;

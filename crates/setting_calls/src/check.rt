@@ -10,7 +10,7 @@ ghost use Rattle.tracker_state.specs.Check.{Checks};
 use fields::{GroupNo, SprintNo};
 use sprints::SprintState;
 use std::alloc::Global;
-use tracker_calls::{Refusal, Thing};
+use tracker_calls::{Cause, Refusal, Thing};
 use tracker_state::{State, unknown, unnumbered};
 
 /// The state of the sprint of that number.
@@ -32,7 +32,7 @@ pub fn known_group(alloc: Global, state: &State, name: &str) -> Result<GroupNo, 
     ensures there { IfOk result (λ no. no.0 ≤ length state.now.machine.setup.group) }
     ensures check { Checks
         (unless_known (place_named name.now (group_names state.now.machine.setup))
-        (Refusal.Unknown Thing.Group name.now)) result }
+        (Cause.Unknown Thing.Group name.now)) result }
 {
     match state.group_named(name) {
         Some(group) => Ok(group),

@@ -9,7 +9,7 @@ use crate::rows::sprint_ops;
 use fields::{Permission, SprintNo, Text, UserNo};
 use sprints::SprintState;
 use std::alloc::Global;
-use tracker_calls::{Answer, Limit, Refusal};
+use tracker_calls::{Answer, Cause, Limit, Refusal};
 use tracker_limits::MOST_SPRINTS;
 use tracker_state::{Plan, Prepared, State, check_permission};
 
@@ -53,9 +53,9 @@ fn check_sprints(state: &State) -> Result<(), Refusal>
     if state.work().count() < MOST_SPRINTS {
         return Ok(());
     }
-    Err(Refusal::Limit {
+    Err(Refusal::Cause(Cause::Limit {
         limit: Limit::Sprints,
-    })
+    }))
 }
 
 // The number behind those of all sprints.

@@ -14,7 +14,7 @@ use crate::check::known_group;
 use field_forms::name_form::is_among;
 use fields::{GroupNo, Memory, Permission, Sequence, Text, UserNo};
 use std::alloc::Global;
-use tracker_calls::{Answer, Refusal, Thing};
+use tracker_calls::{Answer, Cause, Refusal, Thing};
 use tracker_keeper::RowOp;
 use tracker_setting::copy_members;
 use tracker_state::{MembersPlan, Plan, Prepared, State, check_permission, members_op, unknown};
@@ -70,7 +70,7 @@ fn check_users(alloc: Global, state: &State, names: &[Text]) -> Result<(), Refus
 
 fn check_user(alloc: Global, state: &State, name: &str) -> Result<(), Refusal>
     ensures { Checks (unless_known (place_named name.now state.now.machine.setup.users)
-        (Refusal.Unknown Thing.User name.now)) result }
+        (Cause.Unknown Thing.User name.now)) result }
 {
     match state.user_named(name) {
         Some(_) => Ok(()),

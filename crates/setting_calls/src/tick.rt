@@ -4,7 +4,7 @@ ghost use Rattle.tracker_state.specs.Plan.{IsPrepared};
 
 use fields::Moment;
 use std::alloc::Global;
-use tracker_calls::{Answer, Refusal};
+use tracker_calls::{Answer, Cause, Refusal};
 use tracker_state::{Plan, Prepared, State, present_ops};
 
 /// Prepares that the present moment moves on, or refuses one that is earlier.
@@ -14,7 +14,7 @@ pub fn tick(alloc: Global, state: &State, to: Moment) -> Result<Prepared, Refusa
 {
     let kept = state.moment();
     if to < kept {
-        return Err(Refusal::Earlier { kept });
+        return Err(Refusal::Cause(Cause::Earlier { kept }));
     }
     let answer = Answer::Tick { moment: to };
     if to == kept {

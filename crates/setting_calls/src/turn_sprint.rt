@@ -14,7 +14,7 @@ use crate::rows::sprint_ops;
 use fields::{Memory, Permission, SprintNo, UserNo};
 use sprints::SprintState;
 use std::alloc::Global;
-use tracker_calls::{Answer, Refusal, SprintPhase};
+use tracker_calls::{Answer, Cause, Refusal, SprintPhase};
 use tracker_keeper::RowOp;
 use tracker_state::{Plan, Prepared, State, check_permission};
 
@@ -37,9 +37,9 @@ pub fn start_sprint(
                 change: state.change(),
             },
         ),
-        kept => Err(Refusal::SprintIs {
+        kept => Err(Refusal::Cause(Cause::SprintIs {
             state: phase_of(&kept),
-        }),
+        })),
     }
 }
 
@@ -64,9 +64,9 @@ pub fn close_sprint(
                 change: state.change(),
             },
         ),
-        kept => Err(Refusal::SprintIs {
+        kept => Err(Refusal::Cause(Cause::SprintIs {
             state: phase_of(&kept),
-        }),
+        })),
     }
 }
 

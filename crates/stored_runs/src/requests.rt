@@ -1,9 +1,11 @@
 // Request lines to a desk.
+use call_lines::read_line;
 use field_values::Steps;
+use reply_texts::reply_text;
 use std::alloc::Global;
 use std::str;
 use std::sync::ledger::Ledger;
-use tracker_calls::{Call, Reply, UserName, read_line, reply_text};
+use tracker_calls::{Call, Reply, UserName};
 use tracker_core::Desk;
 use tracker_keeper::NeverFails;
 

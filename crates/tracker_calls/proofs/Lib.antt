@@ -1,10 +1,1 @@
-pub mod Names
-pub mod Sorting
-pub mod AskedLines
 pub mod Twins
-pub mod WorkedReplies
-pub mod WorkedLines
-pub mod Taking
-pub mod Bodies
-pub mod WorkedBodies
-pub mod PlainLines

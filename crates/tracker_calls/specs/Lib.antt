@@ -1,12 +1,5 @@
 pub mod Given
 pub mod Part
 pub mod Named
-pub mod Asked
-pub mod Body
-pub mod Reply
 pub mod Seen
-pub mod Sorted
-pub mod Taken
 pub mod ToldText
-pub mod Plain
-pub mod Lent

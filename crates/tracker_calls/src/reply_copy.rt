@@ -1,15 +1,14 @@
 // Copies of replies.
 ghost use Rattle.std.specs.Prelude.{◌≡◌, IfOk, option_map};
 ghost use Rattle.tracker_calls.specs.declared.reply.Answer.TheVariants as answers;
-ghost use Rattle.tracker_calls.specs.declared.reply.Refusal.TheVariants as refusals;
 
 use crate::copied::{Copied, copy_all};
 use crate::reply::{
     Answer, BurnedRow, Column, Columns, RankedKey, RankedKeys, Refusal, Reply, Shown, ShownField,
-    ShownFields, Thing, ToldEntries, ToldEntry,
+    ShownFields, ToldEntries, ToldEntry,
 };
 use crate::told_text::ToldText;
-use field_values::{Memory, Moment, Names, Permission, Text};
+use field_values::{Memory, Moment, Names, Text};
 use std::alloc::Global;
 
 impl Reply {
@@ -306,82 +305,20 @@ fn shown_if_any(alloc: Global, shown: Option<&Shown>) -> Result<Option<Shown>, M
     }
 }
 
-// ---- refusals
-
 impl Refusal {
     /// Another refusal of the same.
     pub fn copy(&self, alloc: Global) -> Result<Self, Memory>
         ensures { IfOk result (λ r. r ≡ self.now) }
     {
         match self {
-            Refusal::Form { member } => {
-                let member = member.copy(alloc)?;
-                Ok(Refusal::Form { member })
+            Refusal::Cause(cause) => {
+                let cause = cause.copy(alloc)?;
+                Ok(Refusal::Cause(cause))
             }
-            Refusal::Unknown { kind, name } => copy_unknown(alloc, *kind, name),
-            Refusal::Forbidden {
-                permission,
-                project,
-            } => copy_forbidden(alloc, *permission, project.as_ref()),
-            Refusal::Condition { index } => Ok(Refusal::Condition { index: *index }),
-            Refusal::Validator { index } => Ok(Refusal::Validator { index: *index }),
-            Refusal::Unfit { field } => {
-                let field = field.copy(alloc)?;
-                Ok(Refusal::Unfit { field })
-            }
-            Refusal::Query { kind, place } => Ok(Refusal::Query {
-                kind: *kind,
-                place: *place,
-            }),
-            Refusal::NoRoom { low, high } => copy_no_room(alloc, low.as_ref(), high.as_ref()),
-            Refusal::SprintIs { state } => Ok(Refusal::SprintIs { state: *state }),
-            Refusal::Limit { limit } => Ok(Refusal::Limit { limit: *limit }),
-            Refusal::Earlier { kept } => Ok(Refusal::Earlier { kept: *kept }),
-            Refusal::BalanceIs(kept) => Ok(Refusal::BalanceIs(*kept)),
-            Refusal::ExternalIs { external, kept } => copy_external_is(alloc, external, kept),
             Refusal::Keeper => Ok(Refusal::Keeper),
             Refusal::Memory => Ok(Refusal::Memory),
         }
     }
-}
-
-fn copy_unknown(alloc: Global, kind: Thing, name: &Text) -> Result<Refusal, Memory>
-    ensures { IfOk result (λ r. r ≡ refusals.Unknown kind name.now) }
-{
-    let name = name.copy(alloc)?;
-    Ok(Refusal::Unknown { kind, name })
-}
-
-fn copy_forbidden(
-    alloc: Global,
-    permission: Permission,
-    project: Option<&Text>,
-) -> Result<Refusal, Memory>
-    ensures { IfOk result (λ r. r
-        ≡ refusals.Forbidden permission (option_map (λ t. t.now) project.entry)) }
-{
-    let project = text_if_any(alloc, project)?;
-    Ok(Refusal::Forbidden {
-        permission,
-        project,
-    })
-}
-
-fn copy_no_room(alloc: Global, low: Option<&Text>, high: Option<&Text>) -> Result<Refusal, Memory>
-    ensures { IfOk result (λ r. r ≡ refusals.NoRoom (option_map (λ t. t.now) low.entry)
-        (option_map (λ t. t.now) high.entry)) }
-{
-    let low = text_if_any(alloc, low)?;
-    let high = text_if_any(alloc, high)?;
-    Ok(Refusal::NoRoom { low, high })
-}
-
-fn copy_external_is(alloc: Global, external: &Text, kept: &Text) -> Result<Refusal, Memory>
-    ensures { IfOk result (λ r. r ≡ refusals.ExternalIs external.now kept.now) }
-{
-    let external = external.copy(alloc)?;
-    let kept = kept.copy(alloc)?;
-    Ok(Refusal::ExternalIs { external, kept })
 }
 
 /// A copy of a text, where there is one.

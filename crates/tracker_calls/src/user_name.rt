@@ -29,7 +29,7 @@ impl UserName {
     }
 
     /// The name that the text is.
-    pub(crate) fn of(name: ToldText) -> Self
+    pub fn of(name: ToldText) -> Self
         ensures { result ≡ name }
     {
         UserName { name }

@@ -4,7 +4,7 @@ use Rattle.std.specs.Prelude.{Result, IfOk, OnOk, OnErr}
 use Rattle.request_lines.specs.Run.{IsLooked}
 use Rattle.request_lines.specs.declared.responder.Looked.{Looked}
 use Rattle.request_lines.specs.declared.responder.Looked.TheVariants as looked
-use Rattle.tracker_calls.specs.Asked.{line_of, ErrUnlessMemory}
+use Rattle.call_lines.specs.Asked.{line_of, ErrUnlessMemory}
 use Rattle.tracker_calls.specs.declared.call.Call.TheVariants as call
 use Rattle.tracker_calls.specs.declared.reply.Refusal.{Refusal}
 use Rattle.tracker_calls.specs.declared.reply.Reply.{Reply}
@@ -12,8 +12,8 @@ use Rattle.tracker_calls.specs.declared.reply.Reply.TheVariants as reply
 use Rattle.tracker_core.specs.Desk.{DeskParts}
 use Rattle.tracker_keeper.specs.Rows.{Rows}
 use Rattle.tracker_machine.specs.Machine.{Machine}
-use Rattle.tracker_machine.specs.Run.{failures_at, is_blank, reply_line}
-use Rattle.tracker_machine.proofs.Replies.{AnswersLine-reply}
+use Rattle.tracker_runs.specs.Run.{failures_at, is_blank, reply_line}
+use Rattle.tracker_runs.proofs.Replies.{AnswersLine-reply}
 use Rattle.tracker_cli.specs.Answering.{AnswersKept, AsksFor, HasLine, IsAsked, IsReadReply}
 use Rattle.tracker_cli.specs.Serving.{MakesCall}
 use Rattle.tracker_cli.specs.declared.exec.Asked.{Asked}

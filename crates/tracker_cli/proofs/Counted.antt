@@ -1,16 +1,17 @@
 -- A keeper's count of faults, over the replies that tell of one.
 use Rattle.std.proofs.Common.{◌≡◌, ℕ, List, Ok, Err, refl, ap, subst, arith}
 use Rattle.std.specs.Prelude.{◌≤◌}
-use Rattle.tracker_calls.specs.Asked.{line_of, ErrUnlessMemory}
+use Rattle.call_lines.specs.Asked.{line_of, ErrUnlessMemory}
 use Rattle.tracker_calls.specs.declared.call.Call.{Call}
 use Rattle.tracker_calls.specs.declared.reply.Reply.{Reply}
 use Rattle.tracker_calls.specs.declared.reply.Reply.TheVariants as reply
+use Rattle.tracker_calls.specs.declared.cause.Cause.{Cause}
 use Rattle.tracker_calls.specs.declared.reply.Refusal.{Refusal}
 use Rattle.tracker_calls.specs.declared.reply.Refusal.TheVariants as refusal
 use Rattle.tracker_machine.specs.Machine.{Machine}
 use Rattle.tracker_machine.specs.Step.{IsStep}
-use Rattle.tracker_machine.specs.Run.{Mark, plain, memory, keeper, asked_reply, asked_next, marked_reply, failures_at}
-use Rattle.tracker_machine.proofs.Replies.{RepliesTo-step}
+use Rattle.tracker_runs.specs.Run.{Mark, plain, memory, keeper, asked_reply, asked_next, marked_reply, failures_at}
+use Rattle.tracker_runs.proofs.Replies.{RepliesTo-step}
 use Rattle.tracker_core.specs.Desk.{IsOwed}
 use Rattle.tracker_cli.specs.Answering.{RoseBy, IsReplied}
 pub use Rattle.tracker_import.proofs.Calls.{rose_again}
@@ -27,19 +28,7 @@ rose_at : (r : Reply) (a b : ℕ) → IsOwed r a b → RoseBy a b 0
 rose_at (reply.Ok x) a b owed = omega arith
 rose_at (reply.Refused refusal.Keeper) a b owed = omega arith
 rose_at (reply.Refused refusal.Memory) a b owed = omega arith
-rose_at (reply.Refused (refusal.Form f)) a b owed = omega arith
-rose_at (reply.Refused (refusal.Unknown k f)) a b owed = omega arith
-rose_at (reply.Refused (refusal.Forbidden p q)) a b owed = omega arith
-rose_at (reply.Refused (refusal.Condition k)) a b owed = omega arith
-rose_at (reply.Refused (refusal.Validator k)) a b owed = omega arith
-rose_at (reply.Refused (refusal.Unfit f)) a b owed = omega arith
-rose_at (reply.Refused (refusal.Query k p)) a b owed = omega arith
-rose_at (reply.Refused (refusal.Limit l)) a b owed = omega arith
-rose_at (reply.Refused (refusal.Earlier k)) a b owed = omega arith
-rose_at (reply.Refused (refusal.NoRoom l h)) a b owed = omega arith
-rose_at (reply.Refused (refusal.SprintIs p)) a b owed = omega arith
-rose_at (reply.Refused (refusal.BalanceIs k)) a b owed = omega arith
-rose_at (reply.Refused (refusal.ExternalIs x k)) a b owed = omega arith
+rose_at (reply.Refused (refusal.Cause c)) a b owed = omega arith
 
 rose_with : (m : Machine) (line : List ℕ) (mark : Mark) (r : Reply) (a b : ℕ) → r ≡ marked_reply m line mark → IsOwed r a b → RoseBy a b (failures_at mark)
 rose_with m line plain r a b is owed = rose_at r a b owed
@@ -54,25 +43,13 @@ replied_call old new line user c r a b asked step owed =
     record { replies = replies; counted = rose_with old line replies.mark r a b replies.reply_is owed }
 
 -- a line that can't be read asks no keeper
-form_replied : (old : Machine) (line : List ℕ) (r : Refusal) (a : ℕ) → Err r ≡ line_of line → IsReplied old line (reply.Refused r) old a a
-form_replied old line r a e = record {
+form_replied : (old : Machine) (line : List ℕ) (c : Cause) (a : ℕ) → Err c ≡ line_of line → IsReplied old line (reply.Refused (refusal.Cause c)) old a a
+form_replied old line c a e = record {
   replies = record { mark = plain; reply_is = ap (asked_reply old) e; new_is = ap (asked_next old) e };
   counted = rose_none a a refl;
 }
 
 pub replied_fault : (old : Machine) (line : List ℕ) (r : Refusal) (a : ℕ) → ErrUnlessMemory r (line_of line) → IsReplied old line (reply.Refused r) old a a
 replied_fault old line refusal.Memory a e = record { replies = record { mark = memory; reply_is = refl; new_is = refl }; counted = rose_none a a refl }
-replied_fault old line refusal.Keeper a e = form_replied old line refusal.Keeper a e
-replied_fault old line (refusal.Form f) a e = form_replied old line (refusal.Form f) a e
-replied_fault old line (refusal.Unknown k f) a e = form_replied old line (refusal.Unknown k f) a e
-replied_fault old line (refusal.Forbidden p q) a e = form_replied old line (refusal.Forbidden p q) a e
-replied_fault old line (refusal.Condition k) a e = form_replied old line (refusal.Condition k) a e
-replied_fault old line (refusal.Validator k) a e = form_replied old line (refusal.Validator k) a e
-replied_fault old line (refusal.Unfit f) a e = form_replied old line (refusal.Unfit f) a e
-replied_fault old line (refusal.Query k p) a e = form_replied old line (refusal.Query k p) a e
-replied_fault old line (refusal.Limit l) a e = form_replied old line (refusal.Limit l) a e
-replied_fault old line (refusal.Earlier k) a e = form_replied old line (refusal.Earlier k) a e
-replied_fault old line (refusal.NoRoom l h) a e = form_replied old line (refusal.NoRoom l h) a e
-replied_fault old line (refusal.SprintIs p) a e = form_replied old line (refusal.SprintIs p) a e
-replied_fault old line (refusal.BalanceIs k) a e = form_replied old line (refusal.BalanceIs k) a e
-replied_fault old line (refusal.ExternalIs x k) a e = form_replied old line (refusal.ExternalIs x k) a e
+replied_fault old line refusal.Keeper a e = absurd e
+replied_fault old line (refusal.Cause c) a e = form_replied old line c a e

@@ -12,8 +12,8 @@ use Rattle.request_lines.proofs.Known.{Appends-trans}
 use Rattle.request_lines.proofs.Progress.{Appends-nil}
 use Rattle.jql_print.specs.Check.{IsReply}
 use Rattle.tracker_machine.specs.Machine.{Machine}
-use Rattle.tracker_machine.specs.Run.{IsRun, IsFrontOfReply, requests}
-use Rattle.tracker_machine.proofs.Runs.{IsRun-nil, IsRun-line, front_of_reply}
+use Rattle.tracker_runs.specs.Run.{IsRun, IsFrontOfReply, requests}
+use Rattle.tracker_runs.proofs.Runs.{IsRun-nil, IsRun-line, front_of_reply}
 use Rattle.tracker_cli.specs.Outcome.{BeginsIn, HasRowsOf, IsExec, IsCheck, IsOfLines, AreReplies, AreCutReplies, AreChecked, AreCutChecks, IsFrontOfCheck, AreRepliesOf, AreCutRepliesOf, GrewBy, GrewByFront, IsInitText, IsKeptText, IsLimitText, IsCutLimitText, EndsRun, limit_line, limit_lines, setup_limit}
 use Rattle.tracker_keeper.specs.Rows.{Rows}
 use Rattle.tracker_core.specs.Desk.{DeskParts, IsOpened, IsOpenFault}

@@ -1,12 +1,12 @@
 -- A line that a desk answers, and what it has kept then.
 use Rattle.std.specs.Prelude.{◌≡◌, ℕ, List, false, Result, Ok, OnOk}
-use Rattle.tracker_calls.specs.Asked.{line_of}
+use Rattle.call_lines.specs.Asked.{line_of}
 use Rattle.tracker_core.specs.Desk.{DeskParts}
 use Rattle.tracker_keeper.specs.Rows.{Rows}
 use Rattle.tracker_machine.specs.Kept.{rows_of}
 use Rattle.tracker_calls.specs.declared.reply.Reply.{Reply}
 use Rattle.tracker_machine.specs.Machine.{Machine}
-use Rattle.tracker_machine.specs.Run.{AnswersLine, RepliesTo, failures_at, is_blank, reply_line}
+use Rattle.tracker_runs.specs.Run.{AnswersLine, RepliesTo, failures_at, is_blank, reply_line}
 use Rattle.tracker_cli.specs.declared.exec.Asked.{Asked}
 pub use Rattle.tracker_import.specs.Calls.{RoseBy}
 

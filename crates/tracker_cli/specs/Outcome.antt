@@ -13,7 +13,7 @@ use Rattle.jql_print.specs.Check.{IsReply}
 use Rattle.tracker_keeper.specs.Rows.{Rows, no_rows}
 use Rattle.tracker_machine.specs.Machine.{Machine, opening}
 use Rattle.tracker_machine.specs.Kept.{rows_of}
-use Rattle.tracker_machine.specs.Run.{IsRun, IsCutRun, requests}
+use Rattle.tracker_runs.specs.Run.{IsRun, IsCutRun, requests}
 use Rattle.tracker_core.specs.Desk.{HasNoRow, HasRow, IsOpened}
 use Rattle.tracker_cli.specs.Answering.{RoseBy}
 use Rattle.tracker_cli.specs.Numerals.{IsNumberOf}

@@ -1,7 +1,7 @@
 // The machine's own streams, which tell nothing of their content.
 
+use request_lines::{Failed, Sink, Source};
 use std::io::{Read, Write};
-use tracker_calls::{Failed, Sink, Source};
 
 /// A source over a reader, which counts each error.
 #[derive(Drop)]

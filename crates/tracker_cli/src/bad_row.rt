@@ -6,8 +6,8 @@ ghost use Rattle.tracker_cli.specs.Outcome.{GrewByFront};
 ghost use Rattle.tracker_cli.specs.Texts.{kept_line};
 
 use crate::texts::kept_line;
+use request_lines::{Failed, Sink, write_all};
 use std::alloc::Global;
-use tracker_calls::{Failed, Sink, write_all};
 
 /// Writes which row is bad: 5, or 3 where the sink failed on it, or 6 where there was no memory for it and nothing was written.
 pub(crate) fn tell_row<T: Sink>(alloc: Global, out: &mut T, kind: u8, no: u64) -> u8

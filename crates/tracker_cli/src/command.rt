@@ -12,8 +12,8 @@ use crate::init::init;
 use crate::lines::run_lines;
 use crate::words::{Command, command_in};
 use fields::BUILT_IN;
+use request_lines::{Failed, Sink, Source, write_all};
 use std::alloc::Global;
-use tracker_calls::{Failed, Sink, Source, write_all};
 use tracker_keeper::Keeper;
 
 /// Carries out a command, answers the status and hands the keeper back: 0 all was done; 1 the words are no command's; 2 the

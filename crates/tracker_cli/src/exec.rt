@@ -1,21 +1,23 @@
 // Request lines that a desk answers.
 ghost use Rattle.std.specs.Prelude.{◌≡◌, ◌++◌, ◌∷◌, [], List, ℕ, Ok, IfOk, OnOk};
-ghost use Rattle.tracker_machine.specs.Run.{is_blank, is_blank_byte};
+ghost use Rattle.tracker_runs.specs.Run.{is_blank, is_blank_byte};
 ghost use Rattle.request_lines.specs.Run.{IsLooked};
-ghost use Rattle.tracker_calls.specs.Asked.{line_of};
+ghost use Rattle.call_lines.specs.Asked.{line_of};
 ghost use Rattle.tracker_cli.specs.Answering.{AnswersKept, AsksFor, HasLine, IsAsked, IsReadReply};
 ghost use Rattle.tracker_cli.specs.Serving.{MakesCall};
 
+use call_lines::{AskedLine, Scratch, read_line_in};
 use fields::Steps;
 use request_lines::{Looked, Responder};
 use std::alloc::{AllocError, Global};
 use std::marker::Model;
 use std::sync::ledger::Ledger;
-use tracker_calls::{AskedLine, Call, Reply, Scratch, UserName, read_line_in};
+use tracker_calls::{Call, Reply, UserName};
 use tracker_core::Desk;
 use tracker_import::put_reply_line;
 use tracker_keeper::Keeper;
 use tracker_server::Maker;
+use written_shows::write_show;
 
 /// A call that a line asks for, and the name of who asks.
 #[derive(Drop)]
@@ -126,7 +128,7 @@ fn put_show<P: Keeper + Drop>(
     ensures { HasLine (λ reply. MakesCall P.keeps P.tells P.faults desk.now
         caller.now (Call.Show issue.now) reply desk.now) result answer.new.items }
 {
-    match desk.write_show(caller, issue, answer) {
+    match write_show(alloc, desk, caller, issue, answer) {
         Ok(()) => end_line(answer),
         Err(refusal) => put_reply_line(alloc, &Reply::Refused(refusal), answer),
     }

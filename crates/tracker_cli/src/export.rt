@@ -9,8 +9,8 @@ ghost use Rattle.tracker_cli.specs.Commands.{IsExported};
 
 use crate::bad_row::tell_row;
 use fields::BUILT_IN;
+use request_lines::Sink;
 use std::alloc::Global;
-use tracker_calls::Sink;
 use tracker_core::{Desk, OpenFault};
 use tracker_import::{ExportEnd, export_rows};
 use tracker_keeper::Keeper;

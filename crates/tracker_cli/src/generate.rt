@@ -10,10 +10,10 @@ ghost use Rattle.tracker_cli.specs.Commands.{HandsBack, IsBegun, IsBegunFrom, Is
 use crate::held::tell_held;
 use crate::texts::load_line;
 use fields::{BUILT_IN, Setup, Steps};
+use request_lines::{Failed, Sink, write_all};
 use std::alloc::Global;
 use std::marker::Brand;
 use std::sync::ledger::{Blank, Ledger};
-use tracker_calls::{Failed, Sink, write_all};
 use tracker_core::{Desk, OpenFault};
 use tracker_import::{LoadEnd, LoadSummary, make_load};
 use tracker_keeper::Keeper;

@@ -4,7 +4,7 @@ ghost use Rattle.std.specs.Io.KnownBytes.{Appends};
 ghost use Rattle.request_lines.specs.Causes.{Rose};
 ghost use Rattle.tracker_cli.specs.Outcome.{GrewByFront, held};
 
-use tracker_calls::{Failed, Sink, write_all};
+use request_lines::{Failed, Sink, write_all};
 
 /// Writes that the keeper has rows already: 9, or 3 where the sink failed on it.
 pub(crate) fn tell_held<T: Sink>(out: &mut T) -> u8

@@ -11,11 +11,11 @@ ghost use Rattle.tracker_cli.specs.Commands.{Stands, AreImported, AreCutImported
 use crate::bad_row::tell_row;
 use crate::texts::csv_line;
 use fields::{BUILT_IN, Steps};
-use request_lines::{InputFault, read_whole};
+use request_lines::{Failed, InputFault, Sink, Source, read_whole, write_all};
 use std::alloc::Global;
 use std::marker::Brand;
 use std::sync::ledger::{Blank, Ledger};
-use tracker_calls::{Failed, Sink, Source, UserName, write_all};
+use tracker_calls::UserName;
 use tracker_core::{Desk, OpenFault};
 use tracker_import::{ImportEnd, import_rows};
 use tracker_keeper::Keeper;

@@ -14,9 +14,8 @@ ghost use Rattle.tracker_cli.specs.Outcome.{held, limit_input, setup_limit, Grew
 use crate::held::tell_held;
 use crate::texts::setup_line;
 use fields::{Setup, SetupFault};
-use request_lines::{InputFault, read_whole};
+use request_lines::{Failed, InputFault, Sink, Source, read_whole, write_all};
 use std::alloc::Global;
-use tracker_calls::{Failed, Sink, Source, write_all};
 use tracker_core::{Desk, OpenFault};
 use tracker_keeper::Keeper;
 

@@ -10,11 +10,10 @@ use crate::bad_row::tell_row;
 use crate::check::Checks;
 use crate::exec::RequestLines;
 use fields::{BUILT_IN, Steps};
-use request_lines::{End, answer_lines};
+use request_lines::{End, Failed, Sink, Source, answer_lines, write_all};
 use std::alloc::Global;
 use std::marker::Brand;
 use std::sync::ledger::{Blank, Ledger};
-use tracker_calls::{Failed, Sink, Source, write_all};
 use tracker_core::{Desk, OpenFault};
 use tracker_keeper::Keeper;
 

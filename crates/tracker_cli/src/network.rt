@@ -3,10 +3,10 @@ ghost use Rattle.std.specs.Prelude.{◌≡◌};
 
 use crate::adapters::{Reading, Writing};
 use crate::number::port_of;
+use request_lines::Clock;
 use std::io;
 use std::net::{Net, TcpListener, TcpStream};
 use std::time::{Clock as SystemClock, SystemTime, UNIX_EPOCH};
-use tracker_calls::Clock;
 use tracker_server::{Links, NextLink};
 
 /// The last second of the year 2099.

@@ -3,9 +3,9 @@ use Rattle.std.proofs.Common.{◌≡◌, ◌≤◌, ◌&&◌, ℕ, nat_le, Bool,
 use Rattle.std.specs.Option.{option_copied}
 use Rattle.std.proofs.lemmas.Bool.{and_parts, cases_Bool}
 use Rattle.std.proofs.lemmas.Option.{none-some}
-use Rattle.tracker_calls.specs.Named.{is_external}
+use Rattle.external_ids.specs.Form.{is_external}
 use Rattle.tracker_calls.specs.declared.given.GivenField.{GivenField}
-use Rattle.tracker_calls.specs.declared.reply.Refusal.{Refusal}
+use Rattle.tracker_calls.specs.declared.cause.Cause.{Cause}
 use Rattle.tracker_machine.specs.Checks.{or_then, only_if, count_refusal, external_refusal, twins_refusal}
 use Rattle.tracker_state.proofs.Checked.{later_passes}
 
@@ -23,6 +23,6 @@ formed set external None is none = tt
 formed set external (Some id) is none =
     passed (is_external id.now) _ (subst (λ (e : Option (List ℕ)). external_refusal e ≡ None) (sym is) (later_passes (twins_refusal set) (external_refusal external) none))
   where
-    passed : (b : Bool) (r : Refusal) → only_if b r ≡ None → b ≡ true
+    passed : (b : Bool) (r : Cause) → only_if b r ≡ None → b ≡ true
     passed true r none = refl
     passed false r none = absurd (none-some r (sym none))

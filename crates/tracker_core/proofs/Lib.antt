@@ -3,4 +3,3 @@ pub mod Forms
 pub mod Kept
 pub mod Order
 pub mod Steps
-pub mod Shows

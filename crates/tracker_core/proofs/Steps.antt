@@ -1,5 +1,5 @@
 -- From what is prepared to a step of the tracker.
-use Rattle.std.proofs.Common.{◌≡◌, ◌≢◌, ◌+◌, ◌*◌, ◌≤◌, ℕ, List, Some, length, refl, sym, ap, ◌∙◌, subst, arith}
+use Rattle.std.proofs.Common.{◌≡◌, ◌+◌, ◌*◌, ◌≤◌, ℕ, List, Some, length, refl, sym, ap, ◌∙◌, subst, arith}
 use Rattle.std.proofs.lemmas.List.{length-map}
 use Rattle.tracker_calls.specs.declared.reply.Answer.{Answer}
 use Rattle.tracker_calls.specs.declared.reply.Refusal.{Refusal}
@@ -17,7 +17,7 @@ use Rattle.tracker_core.specs.Desk.{due_in}
 use Rattle.tracker_state.specs.declared.plan.Plan.{Plan}
 use Rattle.tracker_state.specs.declared.plan.Plan.TheVariants as plans
 use Rattle.tracker_state.specs.State.{Held, saved_as, saved_filters}
-use Rattle.tracker_state.specs.Plan.{told, effect_of, cost_of, cost_to_prepare}
+use Rattle.tracker_state.specs.Plan.{told, effect_of, cost_of, cost_to_prepare, IsRefused}
 
 -- as many filters as the abstract tracker has
 many : (s : Held) → s.machine.filters ≡ saved_filters s.watched.filters → length s.machine.filters ≡ length s.watched.filters
@@ -71,22 +71,10 @@ counted old s meant a plan before middle after machine table filters saved is fi
     omega (arith, first, second, adds_before)
 
 -- a refusal of what is prepared is the one that is due
-due_is : (due : Meaning) (r : Refusal) → r ≢ refusal.Keeper → (r ≢ refusal.Memory → due ≡ Refuses r) → IsDue due r
-due_is due refusal.Memory other is = tt
-due_is due refusal.Keeper other is = absurd (other refl)
-due_is due (refusal.Form f) other is = is (λ e. cc)
-due_is due (refusal.Unknown k f) other is = is (λ e. cc)
-due_is due (refusal.Forbidden p q) other is = is (λ e. cc)
-due_is due (refusal.Condition k) other is = is (λ e. cc)
-due_is due (refusal.Validator k) other is = is (λ e. cc)
-due_is due (refusal.Unfit f) other is = is (λ e. cc)
-due_is due (refusal.Query k p) other is = is (λ e. cc)
-due_is due (refusal.SprintIs phase) other is = is (λ e. cc)
-due_is due (refusal.Limit l) other is = is (λ e. cc)
-due_is due (refusal.Earlier k) other is = is (λ e. cc)
-due_is due (refusal.NoRoom a b) other is = is (λ e. cc)
-due_is due (refusal.BalanceIs b) other is = is (λ e. cc)
-due_is due (refusal.ExternalIs x k) other is = is (λ e. cc)
+due_is : (due : Meaning) (r : Refusal) → IsRefused due r → IsDue due r
+due_is due (refusal.Cause c) is = is.1 c refl
+due_is due refusal.Keeper is = absurd (is.0 refl)
+due_is due refusal.Memory is = tt
 
-pub refused_step : (due : Meaning) (r : Refusal) (old new : Machine) → r ≢ refusal.Keeper → (r ≢ refusal.Memory → due ≡ Refuses r) → new ≡ old → Performs due old (reply.Refused r) new
-refused_step due r old new other is same = (due_is due r other is, same)
+pub refused_step : (due : Meaning) (r : Refusal) (old new : Machine) → IsRefused due r → new ≡ old → Performs due old (reply.Refused r) new
+refused_step due r old new is same = (due_is due r is, same)

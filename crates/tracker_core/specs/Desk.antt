@@ -3,9 +3,6 @@ use Rattle.std.specs.Prelude.{◌≡◌, ◌≤◌, ◌⊎◌, ℕ, List, Some, 
 use Rattle.request_lines.specs.Causes.{Rose}
 use Rattle.filter_views.specs.Cell.{FilterCells}
 use Rattle.filter_views.specs.Counts.{due_among}
-use Rattle.tracker_calls.specs.Reply.{reply_text}
-use Rattle.tracker_calls.specs.declared.call.Call.{Call}
-use Rattle.tracker_calls.specs.declared.reply.Answer.{Answer}
 use Rattle.tracker_calls.specs.declared.reply.Reply.{Reply}
 use Rattle.tracker_calls.specs.declared.reply.Reply.TheVariants as reply
 use Rattle.tracker_calls.specs.declared.reply.Refusal.TheVariants as refusal
@@ -15,7 +12,6 @@ use Rattle.tracker_keeper.specs.declared.part.Format.{Format}
 use Rattle.tracker_keeper.specs.declared.row.Row.{Row}
 use Rattle.tracker_keeper.specs.Rows.{Rows, IsListing}
 use Rattle.tracker_machine.specs.Machine.{Machine, opening}
-use Rattle.tracker_machine.specs.Step.{IsStep}
 use Rattle.tracker_rows.specs.Loading.{Loads, IsFirstBad}
 use Rattle.tracker_core.specs.declared.desk.OpenFault.{OpenFault}
 use Rattle.tracker_core.specs.declared.desk.OpenFault.TheVariants.{Keeper, Held, BadRow, Memory}
@@ -34,12 +30,6 @@ due_in cells now = sum_by (λ l. due_among now l.cells) cells
 abbrev pub IsOwed : Reply → ℕ → ℕ → Type 0
 IsOwed (reply.Refused refusal.Keeper) old new = Rose old new
 IsOwed r old new = old ≤ new
-
--- this is the text of the reply to a call that is answered and leaves all as it is
-pub record IsReplyText (m : Machine) (caller : List ℕ) (c : Call) (text : List ℕ) : Type 0 where
-  pub answer : Answer
-  pub step : IsStep m caller c (reply.Ok answer) m
-  pub text_is : text ≡ reply_text (reply.Ok answer)
 
 -- there is a row
 abbrev pub HasRow : Rows → Type 0

@@ -10,19 +10,17 @@ ghost use Rattle.tracker_machine.specs.Meaning.Meaning.{Makes};
 ghost use Rattle.tracker_machine.specs.Kept.{rows_of, ops_of};
 ghost use Rattle.tracker_machine.specs.Step.{IsStep, evaluations, meaning};
 ghost use Rattle.tracker_core.specs.Desk.{IsOwed, IsKeepersOwn, IsCreateFault, HasRow, HasNoRow, due_in};
-ghost use Rattle.tracker_core.specs.Desk.{IsReplyText};
 ghost use Rattle.tracker_state.specs.Plan.{effect_of, cost_of, Fits};
 
 use crate::preparing::prepare;
 use fields::{Setup, Steps};
-use issue_calls::written_show::write_show;
 use std::alloc::Global;
 use std::marker::Model;
 use std::mem;
 use std::sync::ledger::Ledger;
-use tracker_calls::{Answer, Call, Refusal, Reply, Thing, UserName};
+use tracker_calls::{Answer, Call, Refusal, Reply, UserName};
 use tracker_keeper::{KeepFault, Keeper, Row, RowOp};
-use tracker_state::{Plan, Prepared, State, opening_ops, unknown};
+use tracker_state::{Plan, Prepared, State, opening_ops};
 
 /// What makes the calls, one at a time, and has kept what they leave. Contracts see it as the abstract tracker, the verdicts
 /// of its filters, and what keeps its rows.
@@ -133,22 +131,6 @@ impl<P: Keeper + Drop> Desk<P> {
                 make(&mut self.state, &mut self.keeper, plan, answer, rows, steps)
             }
         }
-    }
-
-    /// Puts the text of the reply to a show by that user in place of what `answer` held, in its room, which stays with it even
-    /// if the show is refused. The reply is that of `call`, and nothing that it tells is copied.
-    #[tactic(auto, using(crate::proofs::Shows::told_show, crate::proofs::Shows::refused_show, crate::proofs::Shows::refused_stranger))]
-    pub fn write_show(&self, caller: &str, issue: &str, answer: &mut Vec<u8>) -> Result<(), Refusal>
-        ensures told { OnOk result (IsReplyText self.now.machine caller.now
-            (Call.Show issue.now) answer.new.items) }
-        ensures refused { IfErr result (λ r. IsStep self.now.machine caller.now
-            (Call.Show issue.now) (Reply.Refused r) self.now.machine) }
-        ensures unasked { IfErr result (λ r. r ≢ Refusal.Keeper) }
-    {
-        let Some(user) = self.state.user_named(caller) else {
-            return Err(unknown(self.alloc, Thing::User, caller));
-        };
-        write_show(self.alloc, &self.state, user, issue, answer)
     }
 
     /// The state, lent.

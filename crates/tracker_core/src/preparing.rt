@@ -6,6 +6,7 @@ ghost use Rattle.tracker_machine.specs.Checks.{or_then, count_refusal, external_
 ghost use Rattle.tracker_machine.specs.Step.{meaning, meaning_for, form_refusal};
 ghost use Rattle.tracker_state.specs.Plan.{IsPrepared, cost_to_prepare};
 
+use external_ids::is_external;
 use field_forms::name_form::is_title;
 use fields::{Memory, Steps, Text, UserNo};
 use issue_calls::create::create;
@@ -31,8 +32,8 @@ use setting_calls::turn_sprint::{close_sprint, start_sprint};
 use std::alloc::Global;
 use std::sync::ledger::Ledger;
 use tracker_calls::{
-    Call, GivenField, MOST_ENTRIES, MOST_FROM, MOST_LISTED, MOST_MEMBERS, Part, Refusal, Thing,
-    UserName, has_twins, is_external,
+    Call, Cause, GivenField, MOST_ENTRIES, MOST_FROM, MOST_LISTED, MOST_MEMBERS, Part, Refusal,
+    Thing, UserName, has_twins,
 };
 use tracker_state::{Prepared, State, malformed, unknown};
 
@@ -161,7 +162,7 @@ fn part_fault(part: Part, most: u32) -> Option<&'static str>
 // Two names in `set` that differ in case alone, which no line gives.
 fn twins_fault(alloc: Global, set: &[GivenField]) -> Result<Option<&'static str>, Memory>
     ensures { IfOk result
-        (λ fault. option_map (λ name. Refusal.Form name.now) fault ≡ twins_refusal set.now) }
+        (λ fault. option_map (λ name. Cause.Form name.now) fault ≡ twins_refusal set.now) }
 {
     if has_twins(alloc, set)? {
         return Ok(Some("set"));
@@ -175,7 +176,7 @@ fn create_fault(
     set: &[GivenField],
     external: &Option<Text>,
 ) -> Result<Option<&'static str>, Memory>
-    ensures { IfOk result (λ fault. option_map (λ name. Refusal.Form name.now) fault
+    ensures { IfOk result (λ fault. option_map (λ name. Cause.Form name.now) fault
         ≡ or_then (twins_refusal set.now) (external_refusal external.now)) }
 {
     if has_twins(alloc, set)? {
@@ -186,7 +187,7 @@ fn create_fault(
 
 // An external id that isn't of its form, which no line gives.
 fn external_fault(external: &Option<Text>) -> Option<&'static str>
-    ensures { option_map (λ name. Refusal.Form name.now) result ≡ external_refusal external.now }
+    ensures { option_map (λ name. Cause.Form name.now) result ≡ external_refusal external.now }
 {
     match external {
         Some(id) if !is_external(id.as_str()) => Some("external"),
@@ -206,7 +207,7 @@ fn text_of(external: &Option<Text>) -> Option<&str>
 
 // More members than a call may name, which no line does.
 fn few_fault(members: &[Text]) -> Option<&'static str>
-    ensures { option_map (λ name. Refusal.Form name.now) result ≡ few_refusal members.now }
+    ensures { option_map (λ name. Cause.Form name.now) result ≡ few_refusal members.now }
 {
     if members.len() > MOST_MEMBERS {
         return Some("members");
@@ -216,7 +217,7 @@ fn few_fault(members: &[Text]) -> Option<&'static str>
 
 // An issue that is to go beside itself, which no line asks for.
 fn other_fault(issue: &str, other: &str) -> Option<&'static str>
-    ensures { option_map (λ name. Refusal.Form name.now) result
+    ensures { option_map (λ name. Cause.Form name.now) result
         ≡ other_refusal issue.now other.now }
 {
     if other == issue {
@@ -227,7 +228,7 @@ fn other_fault(issue: &str, other: &str) -> Option<&'static str>
 
 // A number of picks that is out of range, which no line gives.
 fn count_fault(count: u32) -> Option<&'static str>
-    ensures { option_map (λ name. Refusal.Form name.now) result ≡ count_refusal 1000 count }
+    ensures { option_map (λ name. Cause.Form name.now) result ≡ count_refusal 1000 count }
 {
     if count < 1 || MOST_LISTED < count {
         return Some("count");
@@ -237,7 +238,7 @@ fn count_fault(count: u32) -> Option<&'static str>
 
 // A name of a filter or a board that isn't of its form, which no line gives.
 fn title_fault(name: &str) -> Option<&'static str>
-    ensures { option_map (λ name. Refusal.Form name.now) result ≡ title_refusal name.now }
+    ensures { option_map (λ name. Cause.Form name.now) result ≡ title_refusal name.now }
 {
     if is_title(name) {
         return None;
@@ -249,7 +250,7 @@ fn title_fault(name: &str) -> Option<&'static str>
 #[tactic(auto, unfolding(tracker_machine::specs::Step::form_refusal))]
 fn fault_of_form(alloc: Global, call: &Call) -> Result<Option<&'static str>, Memory>
     ensures { IfOk result
-        (λ fault. option_map (λ name. Refusal.Form name.now) fault ≡ form_refusal call.now) }
+        (λ fault. option_map (λ name. Cause.Form name.now) fault ≡ form_refusal call.now) }
 {
     match call {
         Call::Create { set, external, .. } => create_fault(alloc, set.as_slice(), external),

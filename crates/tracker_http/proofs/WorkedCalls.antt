@@ -3,9 +3,9 @@ use Rattle.std.proofs.Common.{◌≡◌, ℕ, List, [], ◌∷◌, codes, Option
 use Rattle.std.specs.Str.{is_utf8, chars}
 use Rattle.std.specs.Str.Lossy.{utf8_lossy, utf8_valid_len, utf8_error_len}
 use Rattle.form_urlencoded.proofs.OnLiterals.{form_urlencoded_on_literals}
-use Rattle.tracker_calls.specs.Body.{body_of}
+use Rattle.call_lines.specs.Body.{body_of}
 use Rattle.tracker_calls.specs.declared.call.Call.TheVariants.{Show, History, Search, Filter, Board, Burndown}
-use Rattle.tracker_calls.specs.declared.reply.Refusal.TheVariants.{Form}
+use Rattle.tracker_calls.specs.declared.cause.Cause.TheVariants.{Form}
 use Rattle.tracker_http.specs.Calls.{asked_of}
 use Rattle.tracker_http.specs.Routes.{is_path, is_under, route_of}
 use Rattle.tracker_http.specs.declared.request.Request.{Request}

@@ -1,12 +1,12 @@
 -- Which call a request asks for.
 use Rattle.std.specs.Prelude.{ℕ, ◌+◌, List, [], ◌∷◌, length, drop, codes, Result, Ok, Err, Option, Some, None, option_and_then, if◌then◌else◌}
 use Rattle.std.specs.Str.{is_utf8}
-use Rattle.tracker_calls.specs.Asked.{Asked, need, no_other}
-use Rattle.tracker_calls.specs.Body.{body_of}
+use Rattle.call_lines.specs.Asked.{Asked, need, no_other}
+use Rattle.call_lines.specs.Body.{body_of}
 use Rattle.tracker_calls.specs.declared.call.Call.{Call}
 use Rattle.tracker_calls.specs.declared.call.Call.TheVariants as call
 use Rattle.tracker_calls.specs.declared.call.Part.{Part}
-use Rattle.tracker_calls.specs.declared.reply.Refusal.TheVariants.{Form}
+use Rattle.tracker_calls.specs.declared.cause.Cause.TheVariants.{Form}
 use Rattle.tracker_http.specs.Numbers.{number_within}
 use Rattle.tracker_http.specs.Query.{pairs_of, text_in, first_unknown, part_in}
 use Rattle.tracker_http.specs.Routes.{before, path_of, route_of}

@@ -5,7 +5,7 @@ use Rattle.std.specs.Ordering.{nat_cmp, is_lt}
 use Rattle.std.specs.Str.{bytes_eq}
 use Rattle.std.specs.Str.Lossy.{utf8_lossy}
 use Rattle.form_urlencoded.specs.Form.{decode, raw_pairs}
-use Rattle.tracker_calls.specs.Asked.{is_among}
+use Rattle.call_lines.specs.Asked.{is_among}
 use Rattle.tracker_calls.specs.declared.call.Part.{Part}
 use Rattle.tracker_http.specs.Numbers.{number_within}
 use Rattle.tracker_http.specs.declared.query.Pair.{Pair}

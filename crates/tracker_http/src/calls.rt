@@ -1,6 +1,6 @@
 // Which call a request asks for.
 ghost use Rattle.std.specs.Prelude.{◌≡◌, codes, Some};
-ghost use Rattle.tracker_calls.specs.Asked.{UnlessMemory, need};
+ghost use Rattle.call_lines.specs.Asked.{UnlessMemory, need};
 ghost use Rattle.tracker_http.specs.Calls.{user_of, query_of, got, path_call, asked_of};
 ghost use Rattle.tracker_http.specs.Query.{pairs_of};
 ghost use Rattle.tracker_http.specs.Routes.{path_of, route_of, verb_of, path_verb};
@@ -12,8 +12,9 @@ use crate::query::{Pair, pairs_of};
 use crate::request::Request;
 use crate::route::{Route, path_of, route_of};
 use crate::verb::Verb;
+use call_lines::{misses, read_body};
 use std::alloc::Global;
-use tracker_calls::{Call, Refusal, UserName, misses, read_body};
+use tracker_calls::{Call, Refusal, UserName};
 
 /// The user and the call of a request, or the first fault of its form.
 #[tactic(auto, unfolding(crate::specs::Calls::asked_of))]

@@ -6,7 +6,7 @@ use crate::route::{path_of, path_verb};
 use field_values::{Memory, Text};
 use std::alloc::{AllocError, Global};
 use std::test::Fail;
-use tracker_calls::{Call, Part, Refusal, UserName};
+use tracker_calls::{Call, Cause, Part, Refusal, UserName};
 
 fn put_number(out: &mut Vec<u8>, number: u32) -> Result<(), AllocError> {
     let mut buffer = itoa::Buffer::new();
@@ -69,7 +69,7 @@ fn put_asked(
             out.extend_from_slice(user.as_str().as_bytes())?;
             put_call(out, call)
         }
-        Err(Refusal::Form { member }) => put_text(out, member.as_str()),
+        Err(Refusal::Cause(Cause::Form { member })) => put_text(out, member.as_str()),
         Err(_) => out.extend_from_slice(b"?"),
     }
 }

@@ -1,13 +1,14 @@
 // The calls of paths that are got, each with its members in the order in which a fault is told.
 ghost use Rattle.std.specs.Prelude.{◌≡◌};
-ghost use Rattle.tracker_calls.specs.Asked.{UnlessMemory};
+ghost use Rattle.call_lines.specs.Asked.{UnlessMemory};
 ghost use Rattle.tracker_http.specs.Calls.{show_of, history_of, search_of, front_of, member_of, list_call, list_of};
 
 use crate::named::{issue_in, number_in};
 use crate::query::{Pair, first_unknown, part_in, text_in};
+use call_lines::misses;
 use field_values::{BoardNo, FilterNo, SprintNo, Text};
 use std::alloc::Global;
-use tracker_calls::{Call, MOST_ENTRIES, MOST_LISTED, Part, Refusal, ToldText, UserName, misses};
+use tracker_calls::{Call, MOST_ENTRIES, MOST_LISTED, Part, Refusal, ToldText, UserName};
 
 /// An issue's present values.
 pub fn show_of(

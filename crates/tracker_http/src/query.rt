@@ -3,10 +3,11 @@ ghost use Rattle.std.specs.Prelude.{◌≡◌, map, option_map, slice_get, lengt
 ghost use Rattle.tracker_http.specs.Query.{text_of, pair_of, pairs_of, values_of, once, text_in, number_or, from_in, count_in, lesser, first_unknown, part_in};
 
 use crate::numbers::number_within;
+use call_lines::is_among;
 use field_values::{Memory, Sequence, Text};
 use form_urlencoded::{decode, raw_pairs};
 use std::alloc::Global;
-use tracker_calls::{MOST_FROM, Part, is_among};
+use tracker_calls::{MOST_FROM, Part};
 
 /// A name and its value.
 #[derive(Drop)]

@@ -1,9 +1,9 @@
 // The statuses of replies.
 ghost use Rattle.std.specs.Prelude.{◌≡◌};
 ghost use Rattle.tracker_http.specs.Response.{IsStatus};
-ghost use Rattle.tracker_http.specs.Statuses.{refusal_status, status_of};
+ghost use Rattle.tracker_http.specs.Statuses.{cause_status, refusal_status, status_of};
 
-use tracker_calls::{Refusal, Reply};
+use tracker_calls::{Cause, Refusal, Reply};
 
 /// The status of the response that tells a reply.
 pub fn status_of(reply: &Reply) -> u16
@@ -21,20 +21,29 @@ fn refusal_status(refusal: &Refusal) -> u16
     ensures told { IsStatus result }
 {
     match refusal {
-        Refusal::Form { .. } => 400,
-        Refusal::Forbidden { .. } => 403,
-        Refusal::Unknown { .. } => 404,
-        Refusal::NoRoom { .. }
-        | Refusal::SprintIs { .. }
-        | Refusal::Earlier { .. }
-        | Refusal::BalanceIs(_)
-        | Refusal::ExternalIs { .. } => 409,
-        Refusal::Condition { .. }
-        | Refusal::Validator { .. }
-        | Refusal::Unfit { .. }
-        | Refusal::Query { .. }
-        | Refusal::Limit { .. } => 422,
+        Refusal::Cause(cause) => cause_status(cause),
         Refusal::Keeper => 503,
         Refusal::Memory => 507,
+    }
+}
+
+fn cause_status(cause: &Cause) -> u16
+    ensures status { result ≡ cause_status cause.now }
+    ensures told { IsStatus result }
+{
+    match cause {
+        Cause::Form { .. } => 400,
+        Cause::Forbidden { .. } => 403,
+        Cause::Unknown { .. } => 404,
+        Cause::NoRoom { .. }
+        | Cause::SprintIs { .. }
+        | Cause::Earlier { .. }
+        | Cause::BalanceIs(_)
+        | Cause::ExternalIs { .. } => 409,
+        Cause::Condition { .. }
+        | Cause::Validator { .. }
+        | Cause::Unfit { .. }
+        | Cause::Query { .. }
+        | Cause::Limit { .. } => 422,
     }
 }

@@ -7,13 +7,14 @@ use Rattle.request_lines.proofs.Progress.{Appends-nil}
 use Rattle.tracker_calls.specs.declared.call.Call.{Call}
 use Rattle.tracker_calls.specs.declared.reply.Reply.{Reply}
 use Rattle.tracker_calls.specs.declared.reply.Reply.TheVariants as reply
+use Rattle.tracker_calls.specs.declared.cause.Cause.{Cause}
 use Rattle.tracker_calls.specs.declared.reply.Refusal.{Refusal}
 use Rattle.tracker_calls.specs.declared.reply.Refusal.TheVariants as refusal
 use Rattle.tracker_keeper.specs.Rows.{Rows}
 use Rattle.tracker_machine.specs.Kept.{rows_of}
 use Rattle.tracker_machine.specs.Meaning.{reply_to, next_after, IsDue, Performs}
 use Rattle.tracker_machine.specs.Meaning.Meaning.{Refuses}
-use Rattle.tracker_machine.specs.Run.{plain, memory, keeper, reply_line}
+use Rattle.tracker_runs.specs.Run.{plain, memory, keeper, reply_line}
 use Rattle.tracker_machine.specs.Step.{meaning, reply_of, next_of, IsStep}
 use Rattle.tracker_core.specs.Desk.{DeskParts, IsOwed}
 use Rattle.issue_csv.specs.Reading.{Batch, all_done, bad_at, with_call}
@@ -51,28 +52,16 @@ module _ {P : Type 0} (keeps : P → Rows → Type 0) (tells : P → Type 0) (fa
     unfolding reply_of next_of
     plainly r is next later = record { mark = plain; reply_is = is; new_is = next; kept = kept_by 0 (later_none later) }
 
-    refused : (r : Refusal) → meaning old.machine caller c ≡ Refuses r → new.machine ≡ old.machine → faults old.keeper ≤ faults new.keeper
-        → IsMadeCall keeps tells faults caller old c (reply.Refused r) new
+    refused : (r : Cause) → meaning old.machine caller c ≡ Refuses r → new.machine ≡ old.machine → faults old.keeper ≤ faults new.keeper
+        → IsMadeCall keeps tells faults caller old c (reply.Refused (refusal.Cause r)) new
     refused r is same later =
-        plainly (reply.Refused r) (ap reply_to (sym is)) (same ∙ ap (λ d. next_after d old.machine) (sym is)) later
+        plainly (reply.Refused (refusal.Cause r)) (ap reply_to (sym is)) (same ∙ ap (λ d. next_after d old.machine) (sym is)) later
 
     unmarked : (r : Refusal) → IsDue (meaning old.machine caller c) r → new.machine ≡ old.machine → IsOwed (reply.Refused r) (faults old.keeper) (faults new.keeper)
         → IsMadeCall keeps tells faults caller old c (reply.Refused r) new
     unmarked refusal.Memory due same owed = record { mark = memory; reply_is = refl; new_is = same; kept = kept_by 0 (later_none owed) }
     unmarked refusal.Keeper due same owed = record { mark = keeper; reply_is = refl; new_is = same; kept = kept_by 1 owed }
-    unmarked (refusal.Form f) due same owed = refused (refusal.Form f) due same owed
-    unmarked (refusal.Unknown k f) due same owed = refused (refusal.Unknown k f) due same owed
-    unmarked (refusal.Forbidden p q) due same owed = refused (refusal.Forbidden p q) due same owed
-    unmarked (refusal.Condition k) due same owed = refused (refusal.Condition k) due same owed
-    unmarked (refusal.Validator k) due same owed = refused (refusal.Validator k) due same owed
-    unmarked (refusal.Unfit f) due same owed = refused (refusal.Unfit f) due same owed
-    unmarked (refusal.Query k p) due same owed = refused (refusal.Query k p) due same owed
-    unmarked (refusal.NoRoom l h) due same owed = refused (refusal.NoRoom l h) due same owed
-    unmarked (refusal.SprintIs p) due same owed = refused (refusal.SprintIs p) due same owed
-    unmarked (refusal.Limit l) due same owed = refused (refusal.Limit l) due same owed
-    unmarked (refusal.Earlier k) due same owed = refused (refusal.Earlier k) due same owed
-    unmarked (refusal.BalanceIs k) due same owed = refused (refusal.BalanceIs k) due same owed
-    unmarked (refusal.ExternalIs x k) due same owed = refused (refusal.ExternalIs x k) due same owed
+    unmarked (refusal.Cause r) due same owed = refused r due same owed
 
     performed : (r : Reply) → Performs (meaning old.machine caller c) old.machine r new.machine → IsOwed r (faults old.keeper) (faults new.keeper)
         → IsMadeCall keeps tells faults caller old c r new

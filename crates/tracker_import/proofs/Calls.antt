@@ -4,7 +4,7 @@ use Rattle.std.proofs.lemmas.List.{map-append}
 use Rattle.tracker_calls.specs.declared.call.Call.{Call}
 use Rattle.tracker_keeper.specs.Rows.{Rows}
 use Rattle.tracker_machine.specs.Machine.{Machine}
-use Rattle.tracker_machine.specs.Run.{Mark, failures_at, reply_line}
+use Rattle.tracker_runs.specs.Run.{Mark, failures_at, reply_line}
 use Rattle.tracker_core.specs.Desk.{DeskParts}
 use Rattle.tracker_import.specs.Calls.{MarkedCall, reply_under, next_under, text_of_calls, end_of_calls, failures_of, AreMade, AreCutCalls, RoseBy, HasKept}
 

@@ -4,6 +4,7 @@ use Rattle.std.proofs.lemmas.List.{length-append}
 use Rattle.tracker_calls.specs.declared.call.Call.{Call}
 use Rattle.tracker_calls.specs.declared.reply.Reply.{Reply}
 use Rattle.tracker_calls.specs.declared.reply.Reply.TheVariants as reply
+use Rattle.tracker_calls.specs.declared.cause.Cause.{Cause}
 use Rattle.tracker_calls.specs.declared.reply.Refusal.{Refusal}
 use Rattle.tracker_calls.specs.declared.reply.Refusal.TheVariants as refusal
 use Rattle.tracker_keeper.specs.Rows.{Rows}
@@ -43,7 +44,7 @@ module _ {P : Type 0} (keeps : P → Rows → Type 0) (tells : P → Type 0) (fa
     later_none : faults old.keeper ≤ faults new.keeper → HasKept keeps tells faults old new 0
     later_none later = kept_by 0 (omega arith)
 
-    refused : (r : Refusal) → meaning old.machine loader c ≡ Refuses r → new.machine ≡ old.machine → faults old.keeper ≤ faults new.keeper
+    refused : (r : Cause) → meaning old.machine loader c ≡ Refuses r → new.machine ≡ old.machine → faults old.keeper ≤ faults new.keeper
         → IsMadeInLoad keeps tells faults old c true new
     unfolding reply_of next_of
     refused r is same later = record {
@@ -56,19 +57,7 @@ module _ {P : Type 0} (keeps : P → Rows → Type 0) (tells : P → Type 0) (fa
         → MakesInLoad keeps tells faults old c (outcome_of (reply.Refused r)) new
     unmade refusal.Memory due same owed = record { machine_is = same; kept = later_none owed }
     unmade refusal.Keeper due same owed = record { machine_is = same; kept = kept_by 1 owed }
-    unmade (refusal.Form f) due same owed = refused (refusal.Form f) due same owed
-    unmade (refusal.Unknown k f) due same owed = refused (refusal.Unknown k f) due same owed
-    unmade (refusal.Forbidden p q) due same owed = refused (refusal.Forbidden p q) due same owed
-    unmade (refusal.Condition k) due same owed = refused (refusal.Condition k) due same owed
-    unmade (refusal.Validator k) due same owed = refused (refusal.Validator k) due same owed
-    unmade (refusal.Unfit f) due same owed = refused (refusal.Unfit f) due same owed
-    unmade (refusal.Query k p) due same owed = refused (refusal.Query k p) due same owed
-    unmade (refusal.NoRoom l h) due same owed = refused (refusal.NoRoom l h) due same owed
-    unmade (refusal.SprintIs p) due same owed = refused (refusal.SprintIs p) due same owed
-    unmade (refusal.Limit l) due same owed = refused (refusal.Limit l) due same owed
-    unmade (refusal.Earlier k) due same owed = refused (refusal.Earlier k) due same owed
-    unmade (refusal.BalanceIs k) due same owed = refused (refusal.BalanceIs k) due same owed
-    unmade (refusal.ExternalIs x k) due same owed = refused (refusal.ExternalIs x k) due same owed
+    unmade (refusal.Cause r) due same owed = refused r due same owed
 
     performed : (r : Reply) → Performs (meaning old.machine loader c) old.machine r new.machine → IsOwed r (faults old.keeper) (faults new.keeper)
         → MakesInLoad keeps tells faults old c (outcome_of r) new

@@ -16,10 +16,10 @@ use Rattle.rank_strings.specs.Choice.{chosen_between}
 use Rattle.board.specs.Moved.{rank_given}
 use Rattle.tracker_calls.specs.declared.call.Call.{Call}
 use Rattle.tracker_calls.specs.declared.call.Call.TheVariants.{Create}
-use Rattle.tracker_calls.specs.Reply.{reply_text}
+use Rattle.reply_texts.specs.Reply.{reply_text}
 use Rattle.tracker_machine.specs.Machine.{Machine, opening}
 use Rattle.tracker_machine.specs.Effect.{applied}
-use Rattle.tracker_machine.specs.Run.{Mark, plain, memory}
+use Rattle.tracker_runs.specs.Run.{Mark, plain, memory}
 use Rattle.tracker_machine.specs.Step.{meaning, meaning_for, form_refusal, reply_of, next_of}
 use Rattle.tracker_machine.specs.Wanted.{field_at_fault, changes_of}
 use Rattle.tracker_machine.proofs.WorkedRows.{setup, user}

@@ -7,7 +7,7 @@ use Rattle.tracker_calls.specs.declared.reply.Refusal.TheVariants as refusal
 use Rattle.tracker_keeper.specs.Rows.{Rows}
 use Rattle.tracker_machine.specs.Machine.{Machine}
 use Rattle.tracker_machine.specs.Kept.{rows_of}
-use Rattle.tracker_machine.specs.Run.{Mark, plain, memory, keeper, failures_at, reply_line}
+use Rattle.tracker_runs.specs.Run.{Mark, plain, memory, keeper, failures_at, reply_line}
 use Rattle.tracker_machine.specs.Step.{reply_of, next_of}
 use Rattle.tracker_core.specs.Desk.{DeskParts}
 

@@ -6,7 +6,7 @@ use Rattle.request_lines.specs.Causes.{Rose}
 use Rattle.tracker_calls.specs.declared.call.Call.{Call}
 use Rattle.tracker_calls.specs.declared.reply.Reply.{Reply}
 use Rattle.tracker_keeper.specs.Rows.{Rows}
-use Rattle.tracker_machine.specs.Run.{Mark, failures_at, reply_line}
+use Rattle.tracker_runs.specs.Run.{Mark, failures_at, reply_line}
 use Rattle.tracker_core.specs.Desk.{DeskParts}
 use Rattle.issue_csv.specs.Reading.{Batch, batch_in}
 use Rattle.tracker_import.specs.Calls.{reply_under, next_under, AreMade, AreCutCalls, HasKept}

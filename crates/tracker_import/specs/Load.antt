@@ -227,7 +227,7 @@ abbrev pub outcome_of : Reply → Result Bool LoadFault
 outcome_of (reply.Ok a) = Ok false
 outcome_of (reply.Refused refusal.Keeper) = Err fault.Keeper
 outcome_of (reply.Refused refusal.Memory) = Err fault.Memory
-outcome_of (reply.Refused r) = Ok true
+outcome_of (reply.Refused (refusal.Cause c)) = Ok true
 
 -- all of these calls were made, or only the first of them
 abbrev pub MakesEach : {P : Type 0} → (P → Rows → Type 0) → (P → Type 0) → (P → ℕ) → DeskParts P

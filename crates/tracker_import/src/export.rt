@@ -13,8 +13,8 @@ use crate::halt::Halt;
 use external_ids::ExternalId;
 use fields::Memory;
 use issue_csv::{write_header, write_issue};
+use request_lines::{Failed, Sink, write_all};
 use std::alloc::Global;
-use tracker_calls::{Failed, Sink, write_all};
 use tracker_core::{Desk, State};
 use tracker_keeper::Keeper;
 

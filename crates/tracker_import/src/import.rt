@@ -8,9 +8,10 @@ use crate::halt::Halt;
 use crate::reply_line::put_reply_line;
 use fields::Steps;
 use issue_csv::{ImportFault, RecordReader};
+use request_lines::{Failed, Sink, write_all};
 use std::alloc::Global;
 use std::sync::ledger::Ledger;
-use tracker_calls::{Call, Failed, Reply, Sink, UserName, write_all};
+use tracker_calls::{Call, Reply, UserName};
 use tracker_core::Desk;
 use tracker_keeper::Keeper;
 

@@ -151,7 +151,7 @@ fn outcome_of(reply: &Reply) -> Result<bool, LoadFault>
         Reply::Ok(_) => Ok(false),
         Reply::Refused(Refusal::Keeper) => Err(LoadFault::Keeper),
         Reply::Refused(Refusal::Memory) => Err(LoadFault::Memory),
-        Reply::Refused(_) => Ok(true),
+        Reply::Refused(Refusal::Cause(_)) => Ok(true),
     }
 }
 

@@ -1,10 +1,11 @@
 // The line of a reply.
 ghost use Rattle.std.specs.Prelude.{◌≡◌, ◌++◌, ◌∷◌, [], OnOk};
-ghost use Rattle.tracker_machine.specs.Run.{reply_line};
+ghost use Rattle.tracker_runs.specs.Run.{reply_line};
 
+use reply_texts::{KEEPER_TEXT, MEMORY_TEXT, reply_bytes};
 use std::alloc::{AllocError, Global};
 use std::mem;
-use tracker_calls::{KEEPER_TEXT, MEMORY_TEXT, Refusal, Reply, reply_bytes};
+use tracker_calls::{Refusal, Reply};
 
 /// Puts a reply's text and a line feed in place of what `answer` held. The refusals for want of memory
 /// and of a keeper that failed are copied from their constants, so that they find room where the

@@ -17,9 +17,11 @@ use Rattle.serde_json.specs.Data.{Data, null, boolean, number, string, array, ob
 use Rattle.serde_json.specs.Find.{get}
 use Rattle.tracker_keeper.specs.declared.part.Part.{Part}
 use Rattle.tracker_keeper.specs.declared.part.Part.TheVariants as part
-use Rattle.tracker_keeper.specs.Forms.{IsNumber, IsStamp, HasStamps, is_balance, is_external, is_user}
+use Rattle.external_ids.specs.Form.{is_external}
+use Rattle.tracker_keeper.specs.Forms.{IsNumber, IsStamp, HasStamps, is_balance, is_user}
 use Rattle.tracker_keeper.specs.Kept.{IsPart, IsPartAt}
-use Rattle.tracker_keeper.specs.Looking.{number_in, natural_of, whole_of, moment_of, small_of, text_at, title_at, moment_at, small_at, whole_at, bucket_of, balance_of, format_at, pair_of, stamp_of, state_by, state_at, present_like, external_like, sprint_like, board_like, user_at, filter_like}
+use Rattle.tracker_keeper.specs.Looking.{number_in, natural_of, whole_of, moment_of, small_of, moment_at, small_at, whole_at, bucket_of, balance_of, format_at, pair_of, stamp_of, state_by, state_at, present_like, external_like, sprint_like, board_like, user_at, filter_like}
+use Rattle.json_texts.specs.JsonMembers.{text_at, title_at}
 
 pub option_map_some : {A B P : Type 0} (f : A → B) (o : Option A) (y : B) → option_map f o ≡ Some y → ((x : A) → o ≡ Some x → f x ≡ y → P) → P
 option_map_some f None y e k = absurd (none-some y e)

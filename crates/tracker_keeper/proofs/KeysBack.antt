@@ -16,7 +16,8 @@ use Rattle.field_forms.proofs.RoundTrip.{place_is}
 use Rattle.fields.specs.Naming.{name_at}
 use Rattle.serde_json.specs.Data.{Data}
 use Rattle.tracker_keeper.specs.Forms.{IsNumber, IsIssueKey}
-use Rattle.tracker_keeper.specs.Looking.{number_in, text_at}
+use Rattle.tracker_keeper.specs.Looking.{number_in}
+use Rattle.json_texts.specs.JsonMembers.{text_at}
 use Rattle.tracker_keeper.specs.LookingAtValues.{key_number, key_like, key_at}
 use Rattle.tracker_keeper.proofs.Found.{numbered}
 use Rattle.tracker_keeper.proofs.Fits.{option_map_some, is_number}

@@ -1,12 +1,12 @@
 -- Which parts may be kept, and which rows are theirs.
 use Rattle.std.specs.Prelude.{◌≡◌, ℕ, ◌<◌, ◌≤◌, ◌^◌, ◌==◌, Bool, true, false, ◌&&◌, List, [], ◌∷◌, length, Some, is_some, nat_lt, if◌then◌else◌}
 use Rattle.std.specs.List.{All, list_all, slice_get}
-use Rattle.std.specs.Int.{is_in_range}
+use Rattle.external_ids.specs.Form.{is_external}
 use Rattle.field_values.specs.GroupMembers.{is_user_list}
 use Rattle.field_values.specs.declared.numbers.UserNo.{UserNo}
 use Rattle.field_values.specs.declared.value.Value.{Value}
 use Rattle.field_values.specs.declared.value.Value.TheVariants as value
-use Rattle.field_forms.specs.Names.{is_from_to, is_title}
+use Rattle.field_forms.specs.Names.{is_title}
 use Rattle.field_forms.specs.Known.{Names, form_of, fits}
 use Rattle.request_lines.specs.Readings.{last_moment}
 use Rattle.change_history.specs.declared.change.Change.{Change}
@@ -19,10 +19,6 @@ use Rattle.sprints.specs.declared.state.SprintState.TheVariants.{Future, Active,
 use Rattle.fields.specs.Naming.{field_numbers, key_of}
 
 -- ---- forms of texts and of numbers
-
--- an external id has 1 to 64 printable characters of ASCII, the space among them
-abbrev pub is_external : List ℕ → Bool
-is_external text = is_from_to 1 64 (length text) && list_all (λ b. is_in_range 32 126 b) text
 
 -- an issue, a sprint, a filter or a board is numbered from 1
 abbrev pub IsNumber : ℕ → Type 0

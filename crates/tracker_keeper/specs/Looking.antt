@@ -2,7 +2,8 @@
 -- afterwards, so nothing here looks for other members, other spellings or another order.
 use Rattle.std.specs.Prelude.{ℕ, ◌^◌, ◌==◌, ◌&&◌, List, Option, Some, None, codes, nat_le, nat_lt, option_map, option_and_then, if◌then◌else◌}
 use Rattle.field_values.specs.declared.numbers.UserNo.{UserNo}
-use Rattle.field_forms.specs.Names.{place_named, is_title}
+use Rattle.field_forms.specs.Names.{place_named}
+use Rattle.json_texts.specs.JsonMembers.{text_at, title_at}
 use Rattle.request_lines.specs.Readings.{last_moment}
 use Rattle.rank_balancer.specs.Balance.{next_bucket}
 use Rattle.rank_balancer.specs.declared.balance.Balance.{Balance}
@@ -10,12 +11,12 @@ use Rattle.rank_balancer.specs.declared.balance.Balance.TheVariants.{Idle, Movin
 use Rattle.sprints.specs.declared.state.SprintState.{SprintState}
 use Rattle.sprints.specs.declared.state.SprintState.TheVariants.{Future, Active, Closed}
 use Rattle.serde_json.specs.Data.{Data, null, array, no_items, item}
-use Rattle.serde_json.specs.Find.{get, as_number, as_u64, as_str}
+use Rattle.serde_json.specs.Find.{get, as_number, as_u64}
 use Rattle.tracker_keeper.specs.declared.part.Part.{Part}
 use Rattle.tracker_keeper.specs.declared.part.Part.TheVariants as part
 use Rattle.tracker_keeper.specs.declared.part.Format.{Format}
 use Rattle.tracker_keeper.specs.declared.part.Format.TheVariants.{First, Second}
-use Rattle.tracker_keeper.specs.Forms.{is_external}
+use Rattle.external_ids.specs.Form.{is_external}
 
 -- ---- numbers and texts
 
@@ -36,13 +37,6 @@ moment_of d = option_and_then (λ n. if nat_le n last_moment then Some n else No
 
 abbrev pub small_of : Data → Option ℕ
 small_of d = option_and_then (λ n. if nat_lt n (2 ^ 32) then Some n else None) (natural_of d)
-
-abbrev pub text_at : List ℕ → Data → Option (List ℕ)
-text_at name d = option_and_then as_str (get name d)
-
-abbrev pub title_at : List ℕ → Data → Option (List ℕ)
-title_at name d =
-    option_and_then (λ text. if is_title text then Some text else None) (text_at name d)
 
 abbrev pub whole_at : List ℕ → Data → Option ℕ
 whole_at name d = option_and_then whole_of (get name d)

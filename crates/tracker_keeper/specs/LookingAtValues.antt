@@ -19,7 +19,8 @@ use Rattle.serde_json.specs.Find.{get, at, as_str, as_null, as_array}
 use Rattle.tracker_keeper.specs.declared.part.Part.{Part}
 use Rattle.tracker_keeper.specs.declared.part.Part.TheVariants as part
 use Rattle.tracker_keeper.specs.Forms.{is_filled}
-use Rattle.tracker_keeper.specs.Looking.{number_in, natural_of, text_at, moment_at, user_at}
+use Rattle.tracker_keeper.specs.Looking.{number_in, natural_of, moment_at, user_at}
+use Rattle.json_texts.specs.JsonMembers.{text_at}
 
 -- ---- the members of a group
 

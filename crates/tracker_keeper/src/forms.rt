@@ -1,24 +1,9 @@
-// The forms of external ids and of balances.
+// The forms of balances.
 ghost use Rattle.std.specs.Prelude.{◌≡◌, ◌<◌};
-ghost use Rattle.std.specs.List.{list_all};
-ghost use Rattle.std.specs.Int.{is_in_range};
 ghost use Rattle.rank_balancer.specs.Balance.{next_bucket};
-ghost use Rattle.tracker_keeper.specs.Forms.{is_external, is_balance};
+ghost use Rattle.tracker_keeper.specs.Forms.{is_balance};
 
 use rank_balancer::Balance;
-
-fn has_printable_bytes(bytes: &[u8]) -> bool
-    ensures { result ≡ list_all (λ b. is_in_range 32 126 b) bytes.now }
-{
-    bytes.iter().all(|byte| 32 <= *byte && *byte <= 126)
-}
-
-/// Whether an issue may have that external id.
-pub(crate) fn is_external(text: &str) -> bool
-    ensures { result ≡ is_external text.now }
-{
-    1 <= text.len() && text.len() <= 64 && has_printable_bytes(text.as_bytes())
-}
 
 /// The next bucket in the circle 0, 1, 2, 0.
 pub(crate) fn next_bucket(bucket: u8) -> u8

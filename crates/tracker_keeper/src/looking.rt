@@ -4,14 +4,16 @@ ghost use Rattle.rank_balancer.specs.Balance.{next_bucket};
 ghost use Rattle.rank_balancer.specs.declared.balance.Balance.TheVariants.{Moving};
 ghost use Rattle.serde_json.specs.Read.{read};
 ghost use Rattle.serde_json.specs.View.{view};
-ghost use Rattle.tracker_keeper.specs.Looking.{number_in, text_at, title_at, moment_of, moment_at};
+ghost use Rattle.tracker_keeper.specs.Looking.{number_in, moment_of, moment_at};
+ghost use Rattle.json_texts.specs.JsonMembers.{text_at, title_at};
 ghost use Rattle.tracker_keeper.specs.Looking.{whole_of, whole_at, pair_of, stamp_of, state_by};
 ghost use Rattle.tracker_keeper.specs.Looking.{state_at, format_at, small_of, small_at, user_at};
 ghost use Rattle.tracker_keeper.specs.Looking.{bucket_of, balance_of, present_like, external_like};
 ghost use Rattle.tracker_keeper.specs.Looking.{filter_like, board_like, sprint_like};
 
-use crate::forms::{is_external, next_bucket};
+use crate::forms::next_bucket;
 use crate::part::{Format, Part};
+use external_ids::is_external;
 use field_forms::name_form::is_title;
 use field_values::{BoardNo, FilterNo, IssueNo, Memory, Moment, SprintNo, Text, UserNo};
 use fields::Setup;

@@ -21,7 +21,7 @@ pub(crate) fn asked(
 {
     match tracker_state::asked(alloc, setup, user, jql) {
         Ok(bound) => Ok(Some(bound)),
-        Err(Refusal::Memory) => Err(Memory),
-        Err(_) => Ok(None),
+        Err(Refusal::Cause(_)) => Ok(None),
+        Err(_) => Err(Memory),
     }
 }

@@ -13,7 +13,7 @@ use Rattle.jql_syntax.proofs.Fronts.{one_text_fault, not_query}
 use Rattle.jql_syntax.proofs.Total.{text_decided}
 use Rattle.jql_grammar.specs.Binding.{bound_in}
 use Rattle.jql_grammar.specs.Scope.{Scope, scope_by}
-use Rattle.tracker_calls.specs.declared.reply.Refusal.TheVariants as refusal
+use Rattle.tracker_calls.specs.declared.cause.Cause.TheVariants as cause
 use Rattle.tracker_machine.specs.Query.{asked, asked_by, bound_or_fault}
 
 abbrev scope : Parts → ℕ → Scope
@@ -27,11 +27,11 @@ query_is setup user text q keys (text_is p others is) given =
 query_is setup user text q keys (text_has place kind is) given = absurd (not_query text place kind q keys is given)
 
 fault_is : (setup : Parts) (user : ℕ) (text : List ℕ) (place : ℕ) (kind : Kind) (d : QueryOrFault text) → FirstFault text place kind
-    → asked_by setup user text d ≡ Err (refusal.Query (number_of_kind kind) place)
+    → asked_by setup user text d ≡ Err (cause.Query (number_of_kind kind) place)
 fault_is setup user text place kind (text_is q keys is) given = absurd (not_query text place kind q keys given is)
 fault_is setup user text place kind (text_has other sort is) given =
     let same = one_text_fault text other place sort kind is given in
-    ap (λ v. Err (refusal.Query (number_of_kind sort) v)) same.0 ∙ ap (λ v. Err (refusal.Query (number_of_kind v) place)) same.1
+    ap (λ v. Err (cause.Query (number_of_kind sort) v)) same.0 ∙ ap (λ v. Err (cause.Query (number_of_kind v) place)) same.1
 
 pub asked_query : (setup : Parts) (user : ℕ) (text : List ℕ) (q : Option Tree) (keys : List SortKey) → IsQuery text q keys
     → asked setup user text ≡ bound_or_fault (bound_in (scope setup user) q keys)
@@ -39,6 +39,6 @@ unfolding asked
 asked_query setup user text q keys given = query_is setup user text q keys (text_decided text) given
 
 pub asked_fault : (setup : Parts) (user : ℕ) (text : List ℕ) (place : ℕ) (kind : Kind) → FirstFault text place kind
-    → asked setup user text ≡ Err (refusal.Query (number_of_kind kind) place)
+    → asked setup user text ≡ Err (cause.Query (number_of_kind kind) place)
 unfolding asked
 asked_fault setup user text place kind given = fault_is setup user text place kind (text_decided text) given

@@ -9,8 +9,8 @@ use Rattle.field_values.specs.declared.numbers.IssueNo.{IssueNo}
 use Rattle.external_ids.specs.declared.external_id.ExternalId.{ExternalId}
 use Rattle.external_ids.specs.Ids.{external_number, external_named}
 use Rattle.external_ids.proofs.Added.{rise_put_last, own_put_last}
-use Rattle.tracker_calls.specs.Named.{is_external}
-use Rattle.tracker_calls.specs.declared.reply.Refusal.TheVariants as refusal
+use Rattle.external_ids.specs.Form.{is_external}
+use Rattle.tracker_calls.specs.declared.cause.Cause.TheVariants as cause
 use Rattle.tracker_machine.specs.Machine.{Machine}
 use Rattle.tracker_machine.specs.Checks.{external_refusal}
 use Rattle.tracker_machine.specs.Create.{issue_called}
@@ -65,7 +65,7 @@ pub free_external : (m : Machine) (external : Option (List ℕ)) → IsTracker m
     → MayName m.externals external
 free_external m None is formed none = tt
 free_external m (Some id) is formed none = (has_form (is_external id) formed, by (external_named id m.externals) refl none) where
-  has_form : (b : Bool) → (if b then None else Some (refusal.Form (codes "external"))) ≡ None → b ≡ true
+  has_form : (b : Bool) → (if b then None else Some (cause.Form (codes "external"))) ≡ None → b ≡ true
   has_form true passes = refl
   has_form false passes = cc
 

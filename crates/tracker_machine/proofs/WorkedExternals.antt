@@ -10,6 +10,7 @@ use Rattle.rank_strings.specs.Choice.{chosen_between}
 use Rattle.board.specs.Moved.{rank_given}
 use Rattle.tracker_calls.specs.declared.call.Call.TheVariants as call
 use Rattle.tracker_calls.specs.declared.reply.Answer.TheVariants as answer
+use Rattle.tracker_calls.specs.declared.cause.Cause.TheVariants as cause
 use Rattle.tracker_calls.specs.declared.reply.Refusal.TheVariants as refusal
 use Rattle.tracker_calls.specs.declared.reply.Reply.{Reply}
 use Rattle.tracker_calls.specs.declared.reply.Reply.TheVariants as reply
@@ -79,15 +80,15 @@ unfolding applied next_of meaning meaning_for form_refusal value_of value_in for
 nothing_changes = refl
 
 -- with another summary, another type or another project the call is refused
-pub created_otherwise : tells (codes "OPS") (codes "Task") (codes "Fix logout") ≡ reply.Refused (refusal.ExternalIs external (codes "OPS-2"))
+pub created_otherwise : tells (codes "OPS") (codes "Task") (codes "Fix logout") ≡ reply.Refused (refusal.Cause (cause.ExternalIs external (codes "OPS-2")))
 unfolding applied reply_of meaning meaning_for form_refusal value_of value_in form_of choices_of
 created_otherwise = refl
 
-pub created_of_another_type : tells (codes "OPS") (codes "Bug") (codes "Fix login") ≡ reply.Refused (refusal.ExternalIs external (codes "OPS-2"))
+pub created_of_another_type : tells (codes "OPS") (codes "Bug") (codes "Fix login") ≡ reply.Refused (refusal.Cause (cause.ExternalIs external (codes "OPS-2")))
 unfolding applied reply_of meaning meaning_for form_refusal value_of value_in form_of choices_of
 created_of_another_type = refl
 
-pub created_elsewhere : tells (codes "WEB") (codes "Task") (codes "Fix login") ≡ reply.Refused (refusal.ExternalIs external (codes "OPS-2"))
+pub created_elsewhere : tells (codes "WEB") (codes "Task") (codes "Fix login") ≡ reply.Refused (refusal.Cause (cause.ExternalIs external (codes "OPS-2")))
 unfolding applied reply_of meaning meaning_for form_refusal value_of value_in form_of choices_of
 created_elsewhere = refl
 

@@ -8,10 +8,11 @@ use Rattle.field_values.specs.declared.rules.Permission.TheVariants as permissio
 use Rattle.field_values.specs.Parts.{Parts}
 use Rattle.tracker_calls.specs.declared.call.Call.TheVariants as call
 use Rattle.tracker_calls.specs.declared.reply.Answer.TheVariants as answer
+use Rattle.tracker_calls.specs.declared.cause.Cause.TheVariants as cause
 use Rattle.tracker_calls.specs.declared.reply.Refusal.TheVariants as refusal
 use Rattle.tracker_calls.specs.declared.reply.Reply.{Reply}
 use Rattle.tracker_calls.specs.declared.reply.Reply.TheVariants as reply
-use Rattle.tracker_calls.specs.declared.reply.Thing.TheVariants as thing
+use Rattle.tracker_calls.specs.declared.cause.Thing.TheVariants as thing
 use Rattle.tracker_keeper.specs.declared.row.RowOp.TheVariants.{Put}
 use Rattle.tracker_keeper.specs.Bodies.{body_text, present_data, members_data}
 use Rattle.tracker_machine.specs.Machine.{Machine, opening}
@@ -114,19 +115,19 @@ pub row_of_an_empty_group : rows_of nobody 10 1 ≡ Some (codes "{\"members\":[]
 unfolding next_of meaning meaning_for form_refusal set_group_meaning applied rows_of part_at body_text members_data serde_json_on_literals
 row_of_an_empty_group = refl
 
-pub nobody_may_administer : tells nobody (codes "anna") (codes "team") (codes "anna" ∷ []) ≡ reply.Refused (refusal.Forbidden permission.Administer None)
+pub nobody_may_administer : tells nobody (codes "anna") (codes "team") (codes "anna" ∷ []) ≡ reply.Refused (refusal.Cause (cause.Forbidden permission.Administer None))
 unfolding reply_of next_of meaning meaning_for form_refusal set_group_meaning applied
 nobody_may_administer = refl
 
 -- the group is looked up first, then the members from left to right, and only then whether the caller may
-pub an_unknown_group : tells new (codes "anna") (codes "staff") (codes "zed" ∷ []) ≡ reply.Refused (refusal.Unknown thing.Group (codes "staff"))
+pub an_unknown_group : tells new (codes "anna") (codes "staff") (codes "zed" ∷ []) ≡ reply.Refused (refusal.Cause (cause.Unknown thing.Group (codes "staff")))
 unfolding reply_of meaning meaning_for form_refusal set_group_meaning
 an_unknown_group = refl
 
-pub an_unknown_user : tells new (codes "anna") (codes "team") (codes "bo" ∷ codes "zed" ∷ codes "cy" ∷ []) ≡ reply.Refused (refusal.Unknown thing.User (codes "zed"))
+pub an_unknown_user : tells new (codes "anna") (codes "team") (codes "bo" ∷ codes "zed" ∷ codes "cy" ∷ []) ≡ reply.Refused (refusal.Cause (cause.Unknown thing.User (codes "zed")))
 unfolding reply_of meaning meaning_for form_refusal set_group_meaning
 an_unknown_user = refl
 
-pub an_unknown_user_comes_first : tells nobody (codes "bo") (codes "team") (codes "zed" ∷ []) ≡ reply.Refused (refusal.Unknown thing.User (codes "zed"))
+pub an_unknown_user_comes_first : tells nobody (codes "bo") (codes "team") (codes "zed" ∷ []) ≡ reply.Refused (refusal.Cause (cause.Unknown thing.User (codes "zed")))
 unfolding reply_of next_of meaning meaning_for form_refusal set_group_meaning applied
 an_unknown_user_comes_first = refl

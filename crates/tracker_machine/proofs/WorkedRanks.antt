@@ -22,7 +22,8 @@ use Rattle.tracker_calls.specs.declared.call.Call.TheVariants as call
 use Rattle.tracker_calls.specs.declared.reply.RankedKey.{RankedKey}
 use Rattle.tracker_calls.specs.declared.reply.Answer.TheVariants as answer
 use Rattle.tracker_calls.specs.declared.reply.BalanceState.TheVariants as state
-use Rattle.tracker_calls.specs.declared.reply.BalanceKept.TheVariants as kept
+use Rattle.tracker_calls.specs.declared.cause.BalanceKept.TheVariants as kept
+use Rattle.tracker_calls.specs.declared.cause.Cause.TheVariants as cause
 use Rattle.tracker_calls.specs.declared.reply.Refusal.TheVariants as refusal
 use Rattle.tracker_calls.specs.declared.reply.Reply.{Reply}
 use Rattle.tracker_calls.specs.declared.reply.Reply.TheVariants as reply
@@ -175,11 +176,11 @@ pub ranks_at_the_end : tells (after moved_tracker (step 16)) all
 unfolding reply_of next_of meaning meaning_for form_refusal applied project_number planned rank_given chosen_between
 ranks_at_the_end = refl
 
-pub idle_refuses : tells (after moved_tracker (step 16)) (step 16) ≡ reply.Refused (refusal.BalanceIs (kept.Idle 1))
+pub idle_refuses : tells (after moved_tracker (step 16)) (step 16) ≡ reply.Refused (refusal.Cause (cause.BalanceIs (kept.Idle 1)))
 unfolding reply_of next_of meaning meaning_for form_refusal applied project_number planned rank_given chosen_between
 idle_refuses = refl
 
-pub moving_refuses : tells one_step call.RebalanceStart ≡ reply.Refused (refusal.BalanceIs (kept.Moving 0 1))
+pub moving_refuses : tells one_step call.RebalanceStart ≡ reply.Refused (refusal.Cause (cause.BalanceIs (kept.Moving 0 1)))
 unfolding reply_of next_of meaning meaning_for form_refusal applied project_number planned rank_given chosen_between
 moving_refuses = refl
 

@@ -20,11 +20,12 @@ use Rattle.tracker_calls.specs.declared.given.Given.TheVariants as given
 use Rattle.tracker_calls.specs.declared.given.GivenField.{GivenField}
 use Rattle.tracker_calls.specs.declared.reply.Answer.TheVariants as answer
 use Rattle.tracker_calls.specs.declared.reply.BurnedRow.{BurnedRow}
+use Rattle.tracker_calls.specs.declared.cause.Cause.TheVariants as cause
 use Rattle.tracker_calls.specs.declared.reply.Refusal.TheVariants as refusal
 use Rattle.tracker_calls.specs.declared.reply.Reply.{Reply}
 use Rattle.tracker_calls.specs.declared.reply.Reply.TheVariants as reply
 use Rattle.tracker_calls.specs.declared.reply.SprintPhase.TheVariants as phase
-use Rattle.tracker_calls.specs.declared.reply.Thing.TheVariants as thing
+use Rattle.tracker_calls.specs.declared.cause.Thing.TheVariants as thing
 use Rattle.tracker_keeper.specs.declared.row.RowOp.TheVariants.{Put}
 use Rattle.tracker_keeper.specs.Bodies.{body_text, sprint_data}
 use Rattle.tracker_machine.specs.Machine.{Machine}
@@ -82,22 +83,22 @@ pub one_starts : tells one (start 1) ≡ reply.Ok (answer.SprintPhase (sprint_no
 unfolding reply_of next_of meaning meaning_for form_refusal applied chars
 one_starts = refl
 
-pub unknown_one : tells one (start 2) ≡ reply.Refused (refusal.Unknown thing.Sprint (codes "2"))
+pub unknown_one : tells one (start 2) ≡ reply.Refused (refusal.Cause (cause.Unknown thing.Sprint (codes "2")))
 unfolding reply_of next_of meaning meaning_for form_refusal applied chars digits
 unknown_one = refl
 
-pub no_one_of_number_zero : tells one (start 0) ≡ reply.Refused (refusal.Unknown thing.Sprint (codes "0"))
+pub no_one_of_number_zero : tells one (start 0) ≡ reply.Refused (refusal.Cause (cause.Unknown thing.Sprint (codes "0")))
 unfolding reply_of next_of meaning meaning_for form_refusal applied chars digits
 no_one_of_number_zero = refl
 
-pub future_one_does_not_close : tells one (close 1) ≡ reply.Refused (refusal.SprintIs phase.Future)
+pub future_one_does_not_close : tells one (close 1) ≡ reply.Refused (refusal.Cause (cause.SprintIs phase.Future))
 unfolding reply_of next_of meaning meaning_for form_refusal applied chars
 future_one_does_not_close = refl
 
 abbrev active : Machine
 active = after one (start 1)
 
-pub active_one_does_not_start : tells active (start 1) ≡ reply.Refused (refusal.SprintIs phase.Active)
+pub active_one_does_not_start : tells active (start 1) ≡ reply.Refused (refusal.Cause (cause.SprintIs phase.Active))
 unfolding reply_of next_of meaning meaning_for form_refusal applied chars
 active_one_does_not_start = refl
 
@@ -114,7 +115,7 @@ abbrev edit : List ℕ → ℕ → Call
 edit issue n = call.Edit issue (with_sprint_of n)
 
 -- the sprint has to be there
-pub set_names_no_sprint : tells one (edit (codes "OPS-1") 2) ≡ reply.Refused (refusal.Unknown thing.Sprint (codes "2"))
+pub set_names_no_sprint : tells one (edit (codes "OPS-1") 2) ≡ reply.Refused (refusal.Cause (cause.Unknown thing.Sprint (codes "2")))
 unfolding reply_of next_of meaning meaning_for form_refusal applied field_named chars digits
 set_names_no_sprint = refl
 
@@ -129,11 +130,11 @@ comes_in = refl
 abbrev closed : Machine
 closed = after (after active put_in) (close 1)
 
-pub create_is_refused : tells closed (call.Create (codes "OPS") (codes "Task") (codes "Fix login") (with_sprint_of 1) None) ≡ reply.Refused (refusal.SprintIs phase.Closed)
+pub create_is_refused : tells closed (call.Create (codes "OPS") (codes "Task") (codes "Fix login") (with_sprint_of 1) None) ≡ reply.Refused (refusal.Cause (cause.SprintIs phase.Closed))
 unfolding reply_of next_of meaning meaning_for form_refusal applied field_named project_number field_at_fault fits form_of changes_of net_changes chars
 create_is_refused = refl
 
-pub edit_is_refused : tells closed (edit (codes "OPS-2") 1) ≡ reply.Refused (refusal.SprintIs phase.Closed)
+pub edit_is_refused : tells closed (edit (codes "OPS-2") 1) ≡ reply.Refused (refusal.Cause (cause.SprintIs phase.Closed))
 unfolding reply_of next_of meaning meaning_for form_refusal applied field_named project_number field_at_fault fits form_of changes_of net_changes chars
 edit_is_refused = refl
 

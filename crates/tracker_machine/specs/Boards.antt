@@ -19,10 +19,10 @@ use Rattle.tracker_calls.specs.declared.call.Part.{Part}
 use Rattle.tracker_calls.specs.declared.reply.Answer.{Answer}
 use Rattle.tracker_calls.specs.declared.reply.Answer.TheVariants as answer
 use Rattle.tracker_calls.specs.declared.reply.Column.{Column}
-use Rattle.tracker_calls.specs.declared.reply.Limit.TheVariants as limit
-use Rattle.tracker_calls.specs.declared.reply.Refusal.{Refusal}
-use Rattle.tracker_calls.specs.declared.reply.Refusal.TheVariants as refusal
-use Rattle.tracker_calls.specs.declared.reply.Thing.TheVariants as thing
+use Rattle.tracker_calls.specs.declared.cause.Limit.TheVariants as limit
+use Rattle.tracker_calls.specs.declared.cause.Cause.{Cause}
+use Rattle.tracker_calls.specs.declared.cause.Cause.TheVariants as cause
+use Rattle.tracker_calls.specs.declared.cause.Thing.TheVariants as thing
 use Rattle.tracker_machine.specs.Machine.{Machine}
 use Rattle.tracker_machine.specs.Saved.{board_number}
 use Rattle.tracker_machine.specs.Checks.{or_then, unless_known, only_if, permission_refusal}
@@ -38,17 +38,17 @@ abbrev pub board_numbered : Machine → BoardNo → Option Board
 board_numbered m board_no = by_number board_number board_no.0 m.boards
 
 -- it has to be there
-abbrev pub unless_board : Machine → BoardNo → Option Refusal
+abbrev pub unless_board : Machine → BoardNo → Option Cause
 unless_board m board_no =
-    unless_known (board_numbered m board_no) (refusal.Unknown thing.Board (decimal board_no.0))
+    unless_known (board_numbered m board_no) (cause.Unknown thing.Board (decimal board_no.0))
 
 -- ---- make_board
 
 -- there is room for one more board
-abbrev pub boards_refusal : Machine → Option Refusal
-boards_refusal m = only_if (nat_lt (length m.boards) most_boards) (refusal.Limit limit.Boards)
+abbrev pub boards_refusal : Machine → Option Cause
+boards_refusal m = only_if (nat_lt (length m.boards) most_boards) (cause.Limit limit.Boards)
 
-abbrev pub make_board_refusal : Machine → ℕ → FilterNo → Option Refusal
+abbrev pub make_board_refusal : Machine → ℕ → FilterNo → Option Cause
 make_board_refusal m caller filter =
     or_then (unless_filter m filter)
     (or_then (permission_refusal m caller permission.Plan None)
@@ -69,7 +69,7 @@ make_board_meaning m caller name filter =
 
 -- ---- drop_board
 
-abbrev pub drop_board_refusal : Machine → ℕ → BoardNo → Option Refusal
+abbrev pub drop_board_refusal : Machine → ℕ → BoardNo → Option Cause
 drop_board_refusal m caller board_no =
     or_then (unless_board m board_no) (permission_refusal m caller permission.Plan None)
 
@@ -114,7 +114,7 @@ board_answer m caller part b =
     (part_of part (by_rank m.order (board_issues m caller b)))) (length (board_issues m caller b))
 
 abbrev pub board_told : Machine → ℕ → BoardNo → Part → Option Board → Meaning
-board_told m caller board_no part None = Refuses (refusal.Unknown thing.Board (decimal board_no.0))
+board_told m caller board_no part None = Refuses (cause.Unknown thing.Board (decimal board_no.0))
 board_told m caller board_no part (Some b) = Tells (board_answer m caller part b)
 
 unfoldable pub board_meaning : Machine → ℕ → BoardNo → Part → Meaning

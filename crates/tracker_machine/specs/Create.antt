@@ -18,9 +18,9 @@ use Rattle.workflow.specs.Same.{is_empty, same_value}
 use Rattle.rank_strings.specs.Rank.{RankParts}
 use Rattle.tracker_calls.specs.declared.given.GivenField.{GivenField}
 use Rattle.tracker_calls.specs.declared.reply.Answer.TheVariants as answer
-use Rattle.tracker_calls.specs.declared.reply.Refusal.{Refusal}
-use Rattle.tracker_calls.specs.declared.reply.Refusal.TheVariants as refusal
-use Rattle.tracker_calls.specs.declared.reply.Thing.TheVariants as thing
+use Rattle.tracker_calls.specs.declared.cause.Cause.{Cause}
+use Rattle.tracker_calls.specs.declared.cause.Cause.TheVariants as cause
+use Rattle.tracker_calls.specs.declared.cause.Thing.TheVariants as thing
 use Rattle.tracker_machine.specs.declared.wanted.Wanted.{Wanted}
 use Rattle.tracker_machine.specs.declared.wanted.Wanted.TheVariants as wanted
 use Rattle.tracker_machine.specs.Machine.{Machine}
@@ -61,10 +61,10 @@ create_wants setup caller issue_type summary set n =
 
 -- ---- what may be refused before an external id is looked for
 
-abbrev pub create_refusal : Machine → ℕ → List ℕ → List GivenField → Option Refusal
+abbrev pub create_refusal : Machine → ℕ → List ℕ → List GivenField → Option Cause
 create_refusal m caller project set =
     or_then (unless_known (place_named project (project_keys m.setup))
-    (refusal.Unknown thing.Project project))
+    (cause.Unknown thing.Project project))
     (or_then (set_refusal m set)
     (or_then (permission_refusal m caller permission.Browse
     (place_named project (project_keys m.setup)))
@@ -96,12 +96,12 @@ is_created_as m project issue_type summary h =
 -- it is told where it was created as the same, and refuses the call where it was created as another one
 abbrev pub called_before : Bool → List ℕ → History → Meaning
 called_before true external h = Tells (answer.Create true h.change h.key)
-called_before false external h = Refuses (refusal.ExternalIs external h.key)
+called_before false external h = Refuses (cause.ExternalIs external h.key)
 
 -- ---- a new issue
 
 -- there is room for it, and each value fits
-abbrev pub new_issue_refusal : Machine → ℕ → List ℕ → List ℕ → List GivenField → Option Refusal
+abbrev pub new_issue_refusal : Machine → ℕ → List ℕ → List ℕ → List GivenField → Option Cause
 new_issue_refusal m caller issue_type summary set =
     or_then (issues_refusal m) (or_then (bytes_refusal m)
     (values_refusal m (create_wants m.setup caller issue_type summary set)))

@@ -8,9 +8,9 @@ use Rattle.workflow.specs.Net.{net_changes}
 use Rattle.tracker_calls.specs.declared.given.GivenField.{GivenField}
 use Rattle.tracker_calls.specs.declared.reply.Answer.{Answer}
 use Rattle.tracker_calls.specs.declared.reply.Answer.TheVariants as answer
-use Rattle.tracker_calls.specs.declared.reply.Refusal.{Refusal}
-use Rattle.tracker_calls.specs.declared.reply.Refusal.TheVariants as refusal
-use Rattle.tracker_calls.specs.declared.reply.Thing.TheVariants as thing
+use Rattle.tracker_calls.specs.declared.cause.Cause.{Cause}
+use Rattle.tracker_calls.specs.declared.cause.Cause.TheVariants as cause
+use Rattle.tracker_calls.specs.declared.cause.Thing.TheVariants as thing
 use Rattle.tracker_machine.specs.declared.wanted.Wanted.{Wanted}
 use Rattle.tracker_machine.specs.Machine.{Machine}
 use Rattle.tracker_machine.specs.Known.{place_of_issue, history_named}
@@ -27,9 +27,9 @@ set_wants m set n = wanted_in (names_in m.setup) n set
 abbrev pub set_changes : Machine → List GivenField → List Change
 set_changes m set = changes_of (names_in m.setup) (set_wants m set)
 
-abbrev pub edit_refusal : Machine → ℕ → List ℕ → List GivenField → Option Refusal
+abbrev pub edit_refusal : Machine → ℕ → List ℕ → List GivenField → Option Cause
 edit_refusal m caller issue set =
-    or_then (unless_known (place_of_issue issue m.histories) (refusal.Unknown thing.Issue issue))
+    or_then (unless_known (place_of_issue issue m.histories) (cause.Unknown thing.Issue issue))
     (or_then (set_refusal m set)
     (or_then (access_refusal m caller permission.Browse (history_named m issue))
     (or_then (access_refusal m caller permission.Edit (history_named m issue))

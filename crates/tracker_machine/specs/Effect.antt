@@ -23,7 +23,7 @@ use Rattle.rank_balancer.specs.Balance.{IsMoving, after_start, from_of, to_of}
 use Rattle.rank_balancer.specs.Step.{Move, ArePicks, after_move, after_moves}
 use Rattle.tracker_ranks.specs.Ranked.{IsGiven, IsNext, with_last, balance_moved}
 use Rattle.sprints.specs.declared.state.SprintState.{SprintState}
-use Rattle.tracker_calls.specs.Named.{is_external}
+use Rattle.external_ids.specs.Form.{is_external}
 use Rattle.tracker_machine.specs.Machine.{Machine}
 use Rattle.tracker_machine.specs.Saved.{SavedFilter, filter_number, board_number, without_boards_of, MaySave, MayMake}
 use Rattle.tracker_machine.specs.SprintRules.{with_future, in_state, MayMakeSprint, MayTurn}

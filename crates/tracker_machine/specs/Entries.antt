@@ -9,9 +9,9 @@ use Rattle.tracker_calls.specs.Part.{part_of}
 use Rattle.tracker_calls.specs.declared.call.Part.{Part}
 use Rattle.tracker_calls.specs.declared.reply.Answer.{Answer}
 use Rattle.tracker_calls.specs.declared.reply.Answer.TheVariants as answer
-use Rattle.tracker_calls.specs.declared.reply.Refusal.{Refusal}
-use Rattle.tracker_calls.specs.declared.reply.Refusal.TheVariants as refusal
-use Rattle.tracker_calls.specs.declared.reply.Thing.TheVariants as thing
+use Rattle.tracker_calls.specs.declared.cause.Cause.{Cause}
+use Rattle.tracker_calls.specs.declared.cause.Cause.TheVariants as cause
+use Rattle.tracker_calls.specs.declared.cause.Thing.TheVariants as thing
 use Rattle.tracker_calls.specs.declared.reply.ToldEntry.{ToldEntry}
 use Rattle.tracker_machine.specs.Machine.{Machine}
 use Rattle.fields.specs.Naming.{name_at, field_name}
@@ -33,9 +33,9 @@ told_entry names e = record {
   to = shown_value names e.field.0 e.to;
 }
 
-abbrev pub history_refusal : Machine → ℕ → List ℕ → Option Refusal
+abbrev pub history_refusal : Machine → ℕ → List ℕ → Option Cause
 history_refusal m caller issue =
-    or_then (unless_known (history_named m issue) (refusal.Unknown thing.Issue issue))
+    or_then (unless_known (history_named m issue) (cause.Unknown thing.Issue issue))
     (access_refusal m caller permission.Browse (history_named m issue))
 
 abbrev pub history_answer_of : Machine → Part → Option History → Answer

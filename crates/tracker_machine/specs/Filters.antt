@@ -13,10 +13,10 @@ use Rattle.tracker_calls.specs.Part.{part_of}
 use Rattle.tracker_calls.specs.declared.call.Part.{Part}
 use Rattle.tracker_calls.specs.declared.reply.Answer.{Answer}
 use Rattle.tracker_calls.specs.declared.reply.Answer.TheVariants as answer
-use Rattle.tracker_calls.specs.declared.reply.Limit.TheVariants as limit
-use Rattle.tracker_calls.specs.declared.reply.Refusal.{Refusal}
-use Rattle.tracker_calls.specs.declared.reply.Refusal.TheVariants as refusal
-use Rattle.tracker_calls.specs.declared.reply.Thing.TheVariants as thing
+use Rattle.tracker_calls.specs.declared.cause.Limit.TheVariants as limit
+use Rattle.tracker_calls.specs.declared.cause.Cause.{Cause}
+use Rattle.tracker_calls.specs.declared.cause.Cause.TheVariants as cause
+use Rattle.tracker_calls.specs.declared.cause.Thing.TheVariants as thing
 use Rattle.tracker_machine.specs.Machine.{Machine}
 use Rattle.tracker_machine.specs.Query.{Query, asked}
 use Rattle.tracker_machine.specs.Saved.{SavedFilter, filter_number, filter_named, saved_query}
@@ -31,17 +31,17 @@ abbrev pub filter_numbered : Machine → FilterNo → Option SavedFilter
 filter_numbered m filter_no = by_number filter_number filter_no.0 m.filters
 
 -- it has to be there
-abbrev pub unless_filter : Machine → FilterNo → Option Refusal
+abbrev pub unless_filter : Machine → FilterNo → Option Cause
 unless_filter m filter_no =
-    unless_known (filter_numbered m filter_no) (refusal.Unknown thing.Filter (decimal filter_no.0))
+    unless_known (filter_numbered m filter_no) (cause.Unknown thing.Filter (decimal filter_no.0))
 
 -- ---- save_filter
 
 -- a name that is new to the owner finds room
-abbrev pub filters_refusal : Machine → ℕ → List ℕ → Option Refusal
+abbrev pub filters_refusal : Machine → ℕ → List ℕ → Option Cause
 filters_refusal m caller name =
     only_if (is_some (filter_named (record { 0 = caller }) name m.filters)
-    || nat_lt (length m.filters) most_filters) (refusal.Limit limit.Filters)
+    || nat_lt (length m.filters) most_filters) (cause.Limit limit.Filters)
 
 -- the number of the caller's filter of that name, or the least one that is free
 abbrev pub number_for : Machine → ℕ → List ℕ → FilterNo
@@ -70,7 +70,7 @@ save_answer m caller name query =
     answer.SaveFilter (number_for m caller name) (length (found m caller query.condition))
 
 -- the filter is this one from now on; where it is already, nothing is done
-abbrev pub saved : Machine → ℕ → List ℕ → List ℕ → Result Query Refusal → Meaning
+abbrev pub saved : Machine → ℕ → List ℕ → List ℕ → Result Query Cause → Meaning
 saved m caller name text (Err r) = Refuses r
 saved m caller name text (Ok query) =
     if is_kept m caller name text then Finds (save_answer m caller name query)
@@ -83,12 +83,12 @@ save_filter_meaning m caller name text =
 -- ---- drop_filter
 
 -- the caller owns the filter, or may administer the tracker
-abbrev pub owner_refusal : Machine → ℕ → Option SavedFilter → Option Refusal
+abbrev pub owner_refusal : Machine → ℕ → Option SavedFilter → Option Cause
 owner_refusal m caller None = None
 owner_refusal m caller (Some f) =
     if f.owner.0 == caller then None else permission_refusal m caller permission.Administer None
 
-abbrev pub drop_filter_refusal : Machine → ℕ → FilterNo → Option Refusal
+abbrev pub drop_filter_refusal : Machine → ℕ → FilterNo → Option Cause
 drop_filter_refusal m caller filter_no =
     or_then (unless_filter m filter_no) (owner_refusal m caller (filter_numbered m filter_no))
 
@@ -119,7 +119,7 @@ filter_answer m caller part f =
 
 abbrev pub filter_told : Machine → ℕ → FilterNo → Part → Option SavedFilter → Meaning
 filter_told m caller filter_no part None =
-    Refuses (refusal.Unknown thing.Filter (decimal filter_no.0))
+    Refuses (cause.Unknown thing.Filter (decimal filter_no.0))
 filter_told m caller filter_no part (Some f) = Tells (filter_answer m caller part f)
 
 unfoldable pub filter_meaning : Machine → ℕ → FilterNo → Part → Meaning

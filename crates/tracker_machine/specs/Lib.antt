@@ -29,6 +29,4 @@ pub mod Filters
 pub mod Boards
 pub mod Sprints
 pub mod Step
-pub mod Run
 pub mod Laws
-pub mod RankLaws

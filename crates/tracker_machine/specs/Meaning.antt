@@ -1,6 +1,7 @@
 -- What a call means: a refusal, an answer, or an answer and an effect.
 use Rattle.std.specs.Prelude.{◌≡◌, ℕ, ◌*◌, length, Option, Some, None}
 use Rattle.tracker_calls.specs.declared.reply.Answer.{Answer}
+use Rattle.tracker_calls.specs.declared.cause.Cause.{Cause}
 use Rattle.tracker_calls.specs.declared.reply.Refusal.{Refusal}
 use Rattle.tracker_calls.specs.declared.reply.Refusal.TheVariants as refusal
 use Rattle.tracker_calls.specs.declared.reply.Reply.{Reply}
@@ -11,19 +12,19 @@ use Rattle.tracker_machine.specs.SprintRules.{sum_in_sprint}
 use Rattle.tracker_machine.specs.Effect.Effect.{NewMoment, NewIssue, NewGroup, NewState, NewFilter, NewMembers}
 
 pub data Meaning : Type 0 where
-  Refuses : Refusal → Meaning
+  Refuses : Cause → Meaning
   Tells : Answer → Meaning
   -- an answer for which each issue is asked once whether a query holds of it
   Finds : Answer → Meaning
   Makes : Answer → Effect → Meaning
 
 -- a refusal comes before what else the call would mean
-abbrev pub unless : Option Refusal → Meaning → Meaning
+abbrev pub unless : Option Cause → Meaning → Meaning
 unless None due = due
-unless (Some r) due = Refuses r
+unless (Some c) due = Refuses c
 
 abbrev pub reply_to : Meaning → Reply
-reply_to (Refuses r) = reply.Refused r
+reply_to (Refuses c) = reply.Refused (refusal.Cause c)
 reply_to (Tells a) = reply.Ok a
 reply_to (Finds a) = reply.Ok a
 reply_to (Makes a effect) = reply.Ok a
@@ -54,12 +55,12 @@ abbrev pub HasEffect : Meaning → Type 0
 HasEffect (Makes a effect) = Unit {0}
 HasEffect _ = ⊥
 
--- the refusal is the one that is due; want of memory may come in place of any reply, and a keeper's fault where there is
+-- the cause is the one that is due; want of memory may come in place of any reply, and a keeper's fault where there is
 -- something to keep
 abbrev pub IsDue : Meaning → Refusal → Type 0
-IsDue due refusal.Memory = Unit {0}
+IsDue due (refusal.Cause c) = due ≡ Refuses c
 IsDue due refusal.Keeper = HasEffect due
-IsDue due r = due ≡ Refuses r
+IsDue due refusal.Memory = Unit {0}
 
 -- a reply that is due and the state that it leads to; a refusal leaves all as it is
 abbrev pub Performs : Meaning → Machine → Reply → Machine → Type 0

@@ -11,9 +11,9 @@ use Rattle.setup_reading.specs.Reading.{setup_in}
 use Rattle.setup_reading.specs.Resolving.{members_in}
 use Rattle.tracker_calls.specs.declared.reply.Answer.{Answer}
 use Rattle.tracker_calls.specs.declared.reply.Answer.TheVariants as answer
-use Rattle.tracker_calls.specs.declared.reply.Refusal.{Refusal}
-use Rattle.tracker_calls.specs.declared.reply.Refusal.TheVariants as refusal
-use Rattle.tracker_calls.specs.declared.reply.Thing.TheVariants as thing
+use Rattle.tracker_calls.specs.declared.cause.Cause.{Cause}
+use Rattle.tracker_calls.specs.declared.cause.Cause.TheVariants as cause
+use Rattle.tracker_calls.specs.declared.cause.Thing.TheVariants as thing
 use Rattle.tracker_machine.specs.Machine.{Machine}
 use Rattle.tracker_machine.specs.Known.{known_place}
 use Rattle.tracker_machine.specs.Checks.{or_then, unless_known, permission_refusal}
@@ -32,17 +32,17 @@ pub record IsSetupOf (text : List ℕ) (setup : Parts) : Type 0 where
   pub groups : group_names setup ≡ group_names written
 
 -- the first of these names that is no user's
-abbrev pub stranger_refusal : List (List ℕ) → List (List ℕ) → Option Refusal
+abbrev pub stranger_refusal : List (List ℕ) → List (List ℕ) → Option Cause
 stranger_refusal users [] = None
 stranger_refusal users (name ∷ names) =
-    or_then (unless_known (place_named name users) (refusal.Unknown thing.User name))
+    or_then (unless_known (place_named name users) (cause.Unknown thing.User name))
     (stranger_refusal users names)
 
 -- the group is there, so is each user, and the caller may administer the tracker
-abbrev pub set_group_refusal : Machine → ℕ → List ℕ → List (List ℕ) → Option Refusal
+abbrev pub set_group_refusal : Machine → ℕ → List ℕ → List (List ℕ) → Option Cause
 set_group_refusal m caller group names =
     or_then (unless_known (place_named group (group_names m.setup))
-    (refusal.Unknown thing.Group group))
+    (cause.Unknown thing.Group group))
     (or_then (stranger_refusal m.setup.users names)
     (permission_refusal m caller permission.Administer None))
 

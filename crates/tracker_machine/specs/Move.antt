@@ -9,9 +9,9 @@ use Rattle.board.specs.declared.place.Place.{Place}
 use Rattle.board.specs.declared.place.Place.TheVariants.{Before, After}
 use Rattle.tracker_calls.specs.declared.reply.Answer.{Answer}
 use Rattle.tracker_calls.specs.declared.reply.Answer.TheVariants as answer
-use Rattle.tracker_calls.specs.declared.reply.Refusal.{Refusal}
-use Rattle.tracker_calls.specs.declared.reply.Refusal.TheVariants as refusal
-use Rattle.tracker_calls.specs.declared.reply.Thing.TheVariants as thing
+use Rattle.tracker_calls.specs.declared.cause.Cause.{Cause}
+use Rattle.tracker_calls.specs.declared.cause.Cause.TheVariants as cause
+use Rattle.tracker_calls.specs.declared.cause.Thing.TheVariants as thing
 use Rattle.tracker_machine.specs.Machine.{Machine}
 use Rattle.tracker_machine.specs.Known.{place_of_issue, history_named}
 use Rattle.tracker_machine.specs.Checks.{or_then, unless_known}
@@ -21,10 +21,10 @@ use Rattle.tracker_machine.specs.Rank.{with_given, moved_rank, has_rank}
 use Rattle.tracker_machine.specs.Meaning.{Meaning, unless}
 use Rattle.tracker_machine.specs.Meaning.Meaning.{Tells, Makes}
 
-abbrev pub move_refusal : Machine → ℕ → List ℕ → List ℕ → Option Refusal
+abbrev pub move_refusal : Machine → ℕ → List ℕ → List ℕ → Option Cause
 move_refusal m caller issue other =
-    or_then (unless_known (place_of_issue issue m.histories) (refusal.Unknown thing.Issue issue))
-    (or_then (unless_known (place_of_issue other m.histories) (refusal.Unknown thing.Issue other))
+    or_then (unless_known (place_of_issue issue m.histories) (cause.Unknown thing.Issue issue))
+    (or_then (unless_known (place_of_issue other m.histories) (cause.Unknown thing.Issue other))
     (or_then (access_refusal m caller permission.Browse (history_named m issue))
     (or_then (access_refusal m caller permission.Rank (history_named m issue))
     (access_refusal m caller permission.Browse (history_named m other)))))

@@ -10,15 +10,15 @@ use Rattle.board.specs.declared.place.Place.TheVariants.{Last}
 use Rattle.board.specs.Order.{Pair, rank_in}
 use Rattle.board.specs.Moved.{Sides}
 use Rattle.tracker_ranks.specs.Ranked.{rank_for}
-use Rattle.tracker_calls.specs.declared.reply.Refusal.{Refusal}
-use Rattle.tracker_calls.specs.declared.reply.Refusal.TheVariants as refusal
+use Rattle.tracker_calls.specs.declared.cause.Cause.{Cause}
+use Rattle.tracker_calls.specs.declared.cause.Cause.TheVariants as cause
 use Rattle.tracker_machine.specs.Machine.{Machine}
 use Rattle.tracker_machine.specs.Meaning.{Meaning}
 use Rattle.tracker_machine.specs.Meaning.Meaning.{Refuses}
 
 -- no rank is left between these
-abbrev pub no_room : Sides → Refusal
-no_room sides = refusal.NoRoom (option_map rank_text sides.0) (option_map rank_text sides.1)
+abbrev pub no_room : Sides → Cause
+no_room sides = cause.NoRoom (option_map rank_text sides.0) (option_map rank_text sides.1)
 
 -- what comes of a rank that is given; where none is left, the call is refused
 abbrev pub with_given : Result RankParts Sides → (RankParts → Meaning) → Meaning

@@ -10,11 +10,11 @@ use Rattle.rank_balancer.specs.Step.{Move, after_moves, left_in}
 use Rattle.rank_balancer.specs.Planned.{planned}
 use Rattle.tracker_calls.specs.declared.reply.BalanceState.{BalanceState}
 use Rattle.tracker_calls.specs.declared.reply.BalanceState.TheVariants as state
-use Rattle.tracker_calls.specs.declared.reply.BalanceKept.TheVariants as kept
+use Rattle.tracker_calls.specs.declared.cause.BalanceKept.TheVariants as kept
 use Rattle.tracker_calls.specs.declared.reply.Answer.{Answer}
 use Rattle.tracker_calls.specs.declared.reply.Answer.TheVariants as answer
-use Rattle.tracker_calls.specs.declared.reply.Refusal.{Refusal}
-use Rattle.tracker_calls.specs.declared.reply.Refusal.TheVariants as refusal
+use Rattle.tracker_calls.specs.declared.cause.Cause.{Cause}
+use Rattle.tracker_calls.specs.declared.cause.Cause.TheVariants as cause
 use Rattle.tracker_machine.specs.Machine.{Machine}
 use Rattle.tracker_machine.specs.Checks.{permission_refusal}
 use Rattle.tracker_machine.specs.Effect.Effect.{NewBalance, NewRanks}
@@ -23,9 +23,9 @@ use Rattle.tracker_machine.specs.Meaning.{Meaning, unless}
 use Rattle.tracker_machine.specs.Meaning.Meaning.{Refuses, Tells, Makes}
 
 -- the balance is another one than the call is for
-abbrev pub balance_refusal : Balance → Refusal
-balance_refusal (Idle bucket) = refusal.BalanceIs (kept.Idle bucket)
-balance_refusal (Moving from to) = refusal.BalanceIs (kept.Moving from to)
+abbrev pub balance_refusal : Balance → Cause
+balance_refusal (Idle bucket) = cause.BalanceIs (kept.Idle bucket)
+balance_refusal (Moving from to) = cause.BalanceIs (kept.Moving from to)
 
 -- ---- a start
 

@@ -9,7 +9,7 @@ use Rattle.field_values.specs.Parts.{Parts}
 use Rattle.field_forms.specs.Names.{is_title}
 use Rattle.tracker_limits.specs.Limits.{most_boards, most_filters}
 use Rattle.board.specs.declared.board.Board.{Board}
-use Rattle.tracker_calls.specs.declared.reply.Refusal.{Refusal}
+use Rattle.tracker_calls.specs.declared.cause.Cause.{Cause}
 use Rattle.tracker_machine.specs.Query.{Query, asked}
 
 -- a saved filter, with its text as it was given
@@ -45,7 +45,7 @@ HaveOwnNames (f ∷ fs) = (filter_named f.owner f.name fs ≡ None) × HaveOwnNa
 -- ---- what is asked for
 
 -- what a text asks for that is read and bound; what is saved always is
-abbrev pub query_in : Result Query Refusal → Query
+abbrev pub query_in : Result Query Cause → Query
 query_in (Ok query) = query
 query_in (Err r) = record { condition = None; keys = [] }
 

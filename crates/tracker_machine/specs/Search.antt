@@ -20,7 +20,7 @@ use Rattle.tracker_calls.specs.Part.{part_of}
 use Rattle.tracker_calls.specs.declared.call.Part.{Part}
 use Rattle.tracker_calls.specs.declared.reply.Answer.{Answer}
 use Rattle.tracker_calls.specs.declared.reply.Answer.TheVariants as answer
-use Rattle.tracker_calls.specs.declared.reply.Refusal.{Refusal}
+use Rattle.tracker_calls.specs.declared.cause.Cause.{Cause}
 use Rattle.tracker_machine.specs.Machine.{Machine}
 use Rattle.tracker_machine.specs.SprintRules.{phase_of}
 use Rattle.tracker_machine.specs.Query.{Query, asked}
@@ -69,7 +69,7 @@ search_answer m caller part query =
     (length (found m caller query.condition))
 
 -- the issues that a query finds, or its fault
-abbrev pub searched : Machine → ℕ → Part → Result Query Refusal → Meaning
+abbrev pub searched : Machine → ℕ → Part → Result Query Cause → Meaning
 searched m caller part (Err r) = Refuses r
 searched m caller part (Ok query) = Finds (search_answer m caller part query)
 

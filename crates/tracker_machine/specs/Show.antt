@@ -11,12 +11,12 @@ use Rattle.civil_dates.specs.DateText.{date_text}
 use Rattle.change_history.specs.History.{History, present, updated}
 use Rattle.tracker_calls.specs.declared.reply.Answer.{Answer}
 use Rattle.tracker_calls.specs.declared.reply.Answer.TheVariants as answer
-use Rattle.tracker_calls.specs.declared.reply.Refusal.{Refusal}
-use Rattle.tracker_calls.specs.declared.reply.Refusal.TheVariants as refusal
+use Rattle.tracker_calls.specs.declared.cause.Cause.{Cause}
+use Rattle.tracker_calls.specs.declared.cause.Cause.TheVariants as cause
 use Rattle.tracker_calls.specs.declared.reply.Shown.{Shown}
 use Rattle.tracker_calls.specs.declared.reply.Shown.TheVariants as shown
 use Rattle.tracker_calls.specs.declared.reply.ShownField.{ShownField}
-use Rattle.tracker_calls.specs.declared.reply.Thing.TheVariants as thing
+use Rattle.tracker_calls.specs.declared.cause.Thing.TheVariants as thing
 use Rattle.tracker_machine.specs.Machine.{Machine}
 use Rattle.fields.specs.Naming.{name_at, field_name, field_numbers}
 use Rattle.tracker_machine.specs.Known.{history_named}
@@ -53,9 +53,9 @@ shown_fields names h (n ∷ ns) =
 unfoldable pub shown_issue : Names → History → List ShownField
 shown_issue names h = shown_fields names h (field_numbers names.fields)
 
-abbrev pub show_refusal : Machine → ℕ → List ℕ → Option Refusal
+abbrev pub show_refusal : Machine → ℕ → List ℕ → Option Cause
 show_refusal m caller issue =
-    or_then (unless_known (history_named m issue) (refusal.Unknown thing.Issue issue))
+    or_then (unless_known (history_named m issue) (cause.Unknown thing.Issue issue))
     (access_refusal m caller permission.Browse (history_named m issue))
 
 abbrev pub show_answer_of : Machine → Option History → Answer

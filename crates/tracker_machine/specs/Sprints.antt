@@ -15,12 +15,12 @@ use Rattle.tracker_calls.specs.declared.call.Part.{Part}
 use Rattle.tracker_calls.specs.declared.reply.Answer.{Answer}
 use Rattle.tracker_calls.specs.declared.reply.Answer.TheVariants as answer
 use Rattle.tracker_calls.specs.declared.reply.BurnedRow.{BurnedRow}
-use Rattle.tracker_calls.specs.declared.reply.Limit.TheVariants as limit
-use Rattle.tracker_calls.specs.declared.reply.Refusal.{Refusal}
-use Rattle.tracker_calls.specs.declared.reply.Refusal.TheVariants as refusal
+use Rattle.tracker_calls.specs.declared.cause.Limit.TheVariants as limit
+use Rattle.tracker_calls.specs.declared.cause.Cause.{Cause}
+use Rattle.tracker_calls.specs.declared.cause.Cause.TheVariants as cause
 use Rattle.tracker_calls.specs.declared.reply.SprintPhase.{SprintPhase}
 use Rattle.tracker_calls.specs.declared.reply.SprintPhase.TheVariants as phase
-use Rattle.tracker_calls.specs.declared.reply.Thing.TheVariants as thing
+use Rattle.tracker_calls.specs.declared.cause.Thing.TheVariants as thing
 use Rattle.tracker_machine.specs.Machine.{Machine}
 use Rattle.tracker_machine.specs.Known.{key_numbered}
 use Rattle.tracker_machine.specs.Checks.{or_then, unless_known, only_if, permission_refusal}
@@ -35,23 +35,23 @@ told_phase (Active at change) = phase.Active
 told_phase (Closed start_at start_change at change) = phase.Closed
 
 -- the sprint has to be there
-abbrev pub unless_sprint : Machine → SprintNo → Option Refusal
+abbrev pub unless_sprint : Machine → SprintNo → Option Cause
 unless_sprint m sprint =
-    unless_known (state_of m.sprints sprint.0) (refusal.Unknown thing.Sprint (decimal sprint.0))
+    unless_known (state_of m.sprints sprint.0) (cause.Unknown thing.Sprint (decimal sprint.0))
 
 -- it is there, and the caller may plan
-abbrev pub plan_sprint_refusal : Machine → ℕ → SprintNo → Option Refusal
+abbrev pub plan_sprint_refusal : Machine → ℕ → SprintNo → Option Cause
 plan_sprint_refusal m caller sprint =
     or_then (unless_sprint m sprint) (permission_refusal m caller permission.Plan None)
 
 -- ---- make_sprint
 
 -- fewer than 1,000 sprints are kept
-abbrev pub sprints_refusal : Machine → Option Refusal
-sprints_refusal m = only_if (nat_lt (length m.sprints) most_sprints) (refusal.Limit limit.Sprints)
+abbrev pub sprints_refusal : Machine → Option Cause
+sprints_refusal m = only_if (nat_lt (length m.sprints) most_sprints) (cause.Limit limit.Sprints)
 
 -- the caller may plan, and one more sprint finds room
-abbrev pub make_sprint_refusal : Machine → ℕ → Option Refusal
+abbrev pub make_sprint_refusal : Machine → ℕ → Option Cause
 make_sprint_refusal m caller =
     or_then (permission_refusal m caller permission.Plan None) (sprints_refusal m)
 
@@ -70,7 +70,7 @@ make_sprint_meaning m caller name =
 abbrev pub turned : SprintNo → SprintState → Option SprintState → Meaning
 turned sprint kept (Some next) =
     Makes (answer.SprintPhase sprint (told_phase next)) (NewState sprint next)
-turned sprint kept None = Refuses (refusal.SprintIs (told_phase kept))
+turned sprint kept None = Refuses (cause.SprintIs (told_phase kept))
 
 abbrev pub start_sprint_meaning : Machine → ℕ → SprintNo → Meaning
 start_sprint_meaning m caller sprint =

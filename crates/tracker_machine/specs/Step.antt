@@ -2,7 +2,7 @@
 use Rattle.std.specs.Prelude.{ℕ, List, Option, None}
 use Rattle.tracker_calls.specs.declared.call.Call.{Call}
 use Rattle.tracker_calls.specs.declared.call.Call.TheVariants as call
-use Rattle.tracker_calls.specs.declared.reply.Refusal.{Refusal}
+use Rattle.tracker_calls.specs.declared.cause.Cause.{Cause}
 use Rattle.tracker_calls.specs.declared.reply.Reply.{Reply}
 use Rattle.tracker_machine.specs.Machine.{Machine}
 use Rattle.tracker_machine.specs.Known.{known_place}
@@ -53,7 +53,7 @@ meaning_for m user (call.SetGroup group members) = set_group_meaning m user grou
 meaning_for m user (call.Burndown sprint part) = burndown_meaning m user sprint part
 
 -- the fault of a call's form; a call that was read from a line has none
-unfoldable pub form_refusal : Call → Option Refusal
+unfoldable pub form_refusal : Call → Option Cause
 form_refusal (call.Create project issue_type summary set external) =
     or_then (twins_refusal set) (external_refusal external)
 form_refusal (call.Edit issue set) = twins_refusal set

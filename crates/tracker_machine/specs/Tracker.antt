@@ -23,7 +23,7 @@ use Rattle.field_values.specs.declared.parts.Group.{Group as UserGroup}
 use Rattle.tracker_limits.specs.Limits.{most_entries, most_issues, most_text_bytes}
 use Rattle.external_ids.specs.declared.external_id.ExternalId.{ExternalId}
 use Rattle.external_ids.specs.Ids.{external_number, HaveOwnIds}
-use Rattle.tracker_calls.specs.Named.{is_external}
+use Rattle.external_ids.specs.Form.{is_external}
 use Rattle.tracker_machine.specs.Machine.{Machine}
 use Rattle.tracker_machine.specs.Saved.{AreSaved}
 use Rattle.tracker_machine.specs.SprintRules.{OpensInSprints, BringsSprints, AreSprints}

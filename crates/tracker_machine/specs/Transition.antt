@@ -12,9 +12,9 @@ use Rattle.workflow.specs.Plan.{planned}
 use Rattle.tracker_calls.specs.declared.given.GivenField.{GivenField}
 use Rattle.tracker_calls.specs.declared.reply.Answer.{Answer}
 use Rattle.tracker_calls.specs.declared.reply.Answer.TheVariants as answer
-use Rattle.tracker_calls.specs.declared.reply.Refusal.{Refusal}
-use Rattle.tracker_calls.specs.declared.reply.Refusal.TheVariants as refusal
-use Rattle.tracker_calls.specs.declared.reply.Thing.TheVariants as thing
+use Rattle.tracker_calls.specs.declared.cause.Cause.{Cause}
+use Rattle.tracker_calls.specs.declared.cause.Cause.TheVariants as cause
+use Rattle.tracker_calls.specs.declared.cause.Thing.TheVariants as thing
 use Rattle.tracker_machine.specs.Machine.{Machine}
 use Rattle.tracker_machine.specs.Known.{place_of_issue, history_named}
 use Rattle.tracker_machine.specs.Checks.{or_then, unless_known, set_refusal, closed_refusal, entries_refusal, bytes_refusal, values_refusal}
@@ -33,32 +33,32 @@ transition_named m name =
     (place_named name (transition_names m.setup))
 
 -- its conditions hold of the issue and the caller
-abbrev pub condition_refusal : Machine → ℕ → Option History → Option Transition → Option Refusal
+abbrev pub condition_refusal : Machine → ℕ → Option History → Option Transition → Option Cause
 condition_refusal m caller (Some h) (Some t) =
-    option_map refusal.Condition (failing_condition m.setup h (record { 0 = caller }) t)
+    option_map cause.Condition (failing_condition m.setup h (record { 0 = caller }) t)
 condition_refusal m caller _ _ = None
 
 -- its validators hold of the issue after the inputs
 abbrev pub validator_refusal : Machine → ℕ → List Change → Option History → Option Transition
-    → Option Refusal
+    → Option Cause
 validator_refusal m caller inputs (Some h) (Some t) =
-    option_map refusal.Validator (failing_validator m.setup h
+    option_map cause.Validator (failing_validator m.setup h
     (record { 0 = caller }) t inputs m.moment)
 validator_refusal m caller inputs _ _ = None
 
 -- the conditions, then what is given, then the validators
 abbrev pub plan_refusal : Machine → ℕ → List GivenField → Option History → Option Transition
-    → Option Refusal
+    → Option Cause
 plan_refusal m caller set h t =
     or_then (condition_refusal m caller h t)
     (or_then (values_refusal m (set_wants m set))
     (validator_refusal m caller (set_changes m set) h t))
 
-abbrev pub transition_refusal : Machine → ℕ → List ℕ → List ℕ → List GivenField → Option Refusal
+abbrev pub transition_refusal : Machine → ℕ → List ℕ → List ℕ → List GivenField → Option Cause
 transition_refusal m caller issue transition set =
-    or_then (unless_known (place_of_issue issue m.histories) (refusal.Unknown thing.Issue issue))
+    or_then (unless_known (place_of_issue issue m.histories) (cause.Unknown thing.Issue issue))
     (or_then (unless_known (place_named transition (transition_names m.setup))
-    (refusal.Unknown thing.Transition transition))
+    (cause.Unknown thing.Transition transition))
     (or_then (set_refusal m set)
     (or_then (access_refusal m caller permission.Browse (history_named m issue))
     (or_then (access_refusal m caller permission.Transition (history_named m issue))

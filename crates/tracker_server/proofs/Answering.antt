@@ -1,9 +1,10 @@
 -- What is answered to a request.
 use Rattle.std.proofs.Common.{◌≡◌, ℕ, List, [], Bool, Option, inl, inr, refl, sym, subst, append-nil}
 use Rattle.std.specs.Prelude.{Ok, Err}
-use Rattle.tracker_calls.specs.Asked.{Asked, UnlessMemory}
+use Rattle.call_lines.specs.Asked.{Asked, UnlessMemory}
 use Rattle.tracker_calls.specs.declared.call.Call.{Call}
 use Rattle.tracker_calls.specs.declared.reply.Refusal.{Refusal}
+use Rattle.tracker_calls.specs.declared.cause.Cause.{Cause}
 use Rattle.tracker_calls.specs.declared.reply.Refusal.TheVariants as refusal
 use Rattle.tracker_calls.specs.declared.reply.Reply.{Reply}
 use Rattle.tracker_calls.specs.declared.reply.Reply.TheVariants as reply
@@ -13,26 +14,15 @@ use Rattle.tracker_server.specs.Exchanges.{IsAnswered, Answers, response_to, IsE
 use Rattle.tracker_server.specs.declared.event.Event.{Event}
 
 -- a refusal is answered, and nothing else is done
-refused_answer : (worker : ℕ) (ahead : Option (List ℕ)) (asked : Asked) (f : Refusal) → Err f ≡ asked
-    → IsAnswered worker asked ahead ahead [] (reply.Refused f)
-refused_answer worker ahead asked f e = subst (λ (a : Asked). IsAnswered worker a ahead ahead [] (reply.Refused f)) e (refl, refl, refl)
+refused_answer : (worker : ℕ) (ahead : Option (List ℕ)) (asked : Asked) (c : Cause) → Err c ≡ asked
+    → IsAnswered worker asked ahead ahead [] (reply.Refused (refusal.Cause c))
+refused_answer worker ahead asked c e =
+    subst (λ (a : Asked). IsAnswered worker a ahead ahead [] (reply.Refused (refusal.Cause c))) e (refl, refl, refl)
 
 refused_answers : (worker : ℕ) (ahead : Option (List ℕ)) (r : Request) (f : Refusal) → UnlessMemory {T = List ℕ × Call} (Err f) (asked_of r)
     → Answers worker ahead ahead (record { request = r; entered = []; reply = reply.Refused f })
-refused_answers worker ahead r (refusal.Form m) e = inl (refused_answer worker ahead (asked_of r) (refusal.Form m) e)
-refused_answers worker ahead r (refusal.Unknown k n) e = inl (refused_answer worker ahead (asked_of r) (refusal.Unknown k n) e)
-refused_answers worker ahead r (refusal.Forbidden p k) e = inl (refused_answer worker ahead (asked_of r) (refusal.Forbidden p k) e)
-refused_answers worker ahead r (refusal.Condition i) e = inl (refused_answer worker ahead (asked_of r) (refusal.Condition i) e)
-refused_answers worker ahead r (refusal.Validator i) e = inl (refused_answer worker ahead (asked_of r) (refusal.Validator i) e)
-refused_answers worker ahead r (refusal.Unfit f) e = inl (refused_answer worker ahead (asked_of r) (refusal.Unfit f) e)
-refused_answers worker ahead r (refusal.Query k p) e = inl (refused_answer worker ahead (asked_of r) (refusal.Query k p) e)
-refused_answers worker ahead r (refusal.NoRoom l h) e = inl (refused_answer worker ahead (asked_of r) (refusal.NoRoom l h) e)
-refused_answers worker ahead r (refusal.SprintIs s) e = inl (refused_answer worker ahead (asked_of r) (refusal.SprintIs s) e)
-refused_answers worker ahead r (refusal.Limit l) e = inl (refused_answer worker ahead (asked_of r) (refusal.Limit l) e)
-refused_answers worker ahead r (refusal.Earlier k) e = inl (refused_answer worker ahead (asked_of r) (refusal.Earlier k) e)
-refused_answers worker ahead r (refusal.BalanceIs k) e = inl (refused_answer worker ahead (asked_of r) (refusal.BalanceIs k) e)
-refused_answers worker ahead r (refusal.ExternalIs x k) e = inl (refused_answer worker ahead (asked_of r) (refusal.ExternalIs x k) e)
-refused_answers worker ahead r refusal.Keeper e = inl (refused_answer worker ahead (asked_of r) refusal.Keeper e)
+refused_answers worker ahead r (refusal.Cause c) e = inl (refused_answer worker ahead (asked_of r) c e)
+refused_answers worker ahead r refusal.Keeper e = absurd e
 refused_answers worker ahead r refusal.Memory e = inr (refl, refl, refl)
 
 -- a request whose call can't be read

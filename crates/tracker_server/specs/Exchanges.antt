@@ -1,11 +1,12 @@
 -- An exchange: a request, the events that it made, and the reply to it.
 use Rattle.std.specs.Prelude.{◌≡◌, ◌⊎◌, ℕ, List, [], ◌∷◌, ◌++◌, Bool, true, false, Option, Some, None, Ok, Err}
 use Rattle.request_lines.specs.Readings.{Reads}
-use Rattle.tracker_calls.specs.Asked.{Asked}
-use Rattle.tracker_calls.specs.Reply.{reply_text}
+use Rattle.call_lines.specs.Asked.{Asked}
+use Rattle.reply_texts.specs.Reply.{reply_text}
 use Rattle.tracker_calls.specs.declared.call.Call.{Call}
 use Rattle.tracker_calls.specs.declared.call.Call.TheVariants as call
 use Rattle.tracker_calls.specs.declared.reply.Refusal.{Refusal}
+use Rattle.tracker_calls.specs.declared.cause.Cause.TheVariants as cause
 use Rattle.tracker_calls.specs.declared.reply.Refusal.TheVariants as refusal
 use Rattle.tracker_calls.specs.declared.reply.Reply.{Reply}
 use Rattle.tracker_calls.specs.declared.reply.Reply.TheVariants as reply
@@ -22,7 +23,7 @@ pub record Exchange : Type 0 where
   pub reply : Reply
 
 abbrev pub is_earlier : Refusal → Bool
-is_earlier (refusal.Earlier kept) = true
+is_earlier (refusal.Cause (cause.Earlier kept)) = true
 is_earlier r = false
 
 -- After this reply to the tick that comes before a call, the call is made: the tick was done, or the clock stands before the

@@ -5,9 +5,10 @@ ghost use Rattle.tracker_server.specs.Exchanges.{is_earlier, lets_through, respo
 
 use crate::teller::Teller;
 use field_values::{Memory, Moment};
+use reply_texts::reply_text;
 use request_lines::Clock;
 use std::alloc::Global;
-use tracker_calls::{Call, Refusal, Reply, UserName, reply_text};
+use tracker_calls::{Call, Cause, Refusal, Reply, UserName};
 use tracker_http::{Request, call_of, response_bytes, status_of};
 
 /// Has a request's call made, and the response to it.
@@ -62,7 +63,7 @@ fn lets_through(reply: &Reply) -> bool
 fn is_earlier(refusal: &Refusal) -> bool
     ensures { result ≡ is_earlier refusal.now }
 {
-    matches!(refusal, Refusal::Earlier { .. })
+    matches!(refusal, Refusal::Cause(Cause::Earlier { .. }))
 }
 
 // The response that tells a reply.

@@ -6,7 +6,7 @@ use field_values::{Memory, Names, Text};
 use request_lines::{ListClock, MemorySink, MemorySource};
 use std::alloc::{AllocError, Global};
 use std::test::Fail;
-use tracker_calls::{Answer, Call, Refusal, Reply, Thing, UserName};
+use tracker_calls::{Answer, Call, Cause, Refusal, Reply, Thing, UserName};
 
 // Finds one of two issues, and knows no issue by its key.
 #[derive(Drop)]
@@ -46,10 +46,10 @@ fn first_issue(alloc: Global) -> Result<Names, Memory> {
 
 fn unknown(alloc: Global, issue: &str) -> Reply {
     match Text::copy_of(alloc, issue) {
-        Ok(name) => Reply::Refused(Refusal::Unknown {
+        Ok(name) => Reply::Refused(Refusal::Cause(Cause::Unknown {
             kind: Thing::Issue,
             name,
-        }),
+        })),
         Err(_) => Reply::Refused(Refusal::Memory),
     }
 }

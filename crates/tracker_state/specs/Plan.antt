@@ -1,6 +1,7 @@
 -- What a prepared call has ready.
 use Rattle.std.specs.Prelude.{◌≡◌, ◌≢◌, ◌≤◌, ◌<◌, ℕ, List, length, sum_by, string_bytes, slice_get, option_map, IfSome, Option, Some, None, Result, Ok, Err}
 use Rattle.tracker_calls.specs.declared.reply.Answer.{Answer}
+use Rattle.tracker_calls.specs.declared.cause.Cause.{Cause}
 use Rattle.tracker_calls.specs.declared.reply.Refusal.{Refusal}
 use Rattle.tracker_calls.specs.declared.reply.Refusal.TheVariants as refusal
 use Rattle.tracker_keeper.specs.declared.row.RowOp.{RowOp}
@@ -140,8 +141,12 @@ told (Tells a) = Some a
 told (Finds a) = Some a
 told _ = None
 
+-- it is refused for the cause that is due, or for want of memory; nothing that prepares a call asks a keeper
+abbrev pub IsRefused : Meaning → Refusal → Type 0
+IsRefused due r = (r ≢ refusal.Keeper) × ((c : Cause) → r ≡ refusal.Cause c → due ≡ Refuses c)
+
 -- what a call means is prepared, or there was not enough memory
 abbrev pub IsPrepared : Meaning → Held → Result Prepared Refusal → Type 0
 IsPrepared due s (Ok (Tell answer)) = told due ≡ Some answer
 IsPrepared due s (Ok (Make plan answer rows)) = IsReady due s plan answer rows.items
-IsPrepared due s (Err r) = (r ≢ refusal.Keeper) × (r ≢ refusal.Memory → due ≡ Refuses r)
+IsPrepared due s (Err r) = IsRefused due r

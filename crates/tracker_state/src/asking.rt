@@ -13,7 +13,7 @@ use jql_bound::Bound;
 use jql_grammar::{BindFault, bind};
 use jql_syntax::{JqlFault, Query, parse};
 use std::alloc::Global;
-use tracker_calls::Refusal;
+use tracker_calls::{Cause, Refusal};
 
 /// What the text asks for when that user asks it.
 pub fn asked(alloc: Global, setup: &Setup, caller: UserNo, jql: &str) -> Result<Bound, Refusal>
@@ -32,7 +32,7 @@ fn refusal_of(fault: JqlFault) -> Refusal
     ensures { result ≡ text_refusal fault }
 {
     match fault {
-        JqlFault::Bad { place, kind } => Refusal::Query { kind, place },
+        JqlFault::Bad { place, kind } => Refusal::Cause(Cause::Query { kind, place }),
         JqlFault::Memory => Refusal::Memory,
     }
 }
@@ -49,7 +49,7 @@ fn bound(alloc: Global, setup: &Setup, caller: UserNo, query: Query) -> Result<B
     drop(query);
     match bound {
         Ok(bound) => Ok(bound),
-        Err(BindFault::Bad { place, kind }) => Err(Refusal::Query { kind, place }),
+        Err(BindFault::Bad { place, kind }) => Err(Refusal::Cause(Cause::Query { kind, place })),
         Err(BindFault::Memory) => Err(Refusal::Memory),
     }
 }

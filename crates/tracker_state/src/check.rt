@@ -9,24 +9,24 @@ ghost use Rattle.tracker_state.specs.Check.{Checks, IsRefusal};
 use crate::state::State;
 use fields::{Permission, ProjectNo, Text, UserNo};
 use std::alloc::Global;
-use tracker_calls::{Refusal, Thing};
+use tracker_calls::{Cause, Refusal, Thing};
 
 /// The refusal of a member that is not of its form.
 pub fn malformed(alloc: Global, member: &str) -> Refusal
-    ensures { IsRefusal (Some (Refusal.Form member.now)) result }
+    ensures { IsRefusal (Some (Cause.Form member.now)) result }
 {
     match Text::copy_of(alloc, member) {
-        Ok(member) => Refusal::Form { member },
+        Ok(member) => Refusal::Cause(Cause::Form { member }),
         Err(_) => Refusal::Memory,
     }
 }
 
 /// The refusal of a name that nothing of that kind has.
 pub fn unknown(alloc: Global, kind: Thing, name: &str) -> Refusal
-    ensures { IsRefusal (Some (Refusal.Unknown kind name.now)) result }
+    ensures { IsRefusal (Some (Cause.Unknown kind name.now)) result }
 {
     match Text::copy_of(alloc, name) {
-        Ok(name) => Refusal::Unknown { kind, name },
+        Ok(name) => Refusal::Cause(Cause::Unknown { kind, name }),
         Err(_) => Refusal::Memory,
     }
 }
@@ -38,7 +38,7 @@ pub fn known_issue(alloc: Global, state: &State, name: &str) -> Result<usize, Re
     ensures there { IfOk result (λ place. place < length state.now.machine.histories) }
     ensures check { Checks (unless_known
         (place_of_issue name.now state.now.machine.histories)
-        (Refusal.Unknown Thing.Issue name.now)) result }
+        (Cause.Unknown Thing.Issue name.now)) result }
 {
     match state.place_of_issue(name) {
         Some(place) => Ok(place),
@@ -48,13 +48,13 @@ pub fn known_issue(alloc: Global, state: &State, name: &str) -> Result<usize, Re
 
 /// The refusal of a number that nothing of that kind has.
 pub fn unnumbered(alloc: Global, kind: Thing, number: u32) -> Refusal
-    ensures { IsRefusal (Some (Refusal.Unknown kind (decimal number))) result }
+    ensures { IsRefusal (Some (Cause.Unknown kind (decimal number))) result }
 {
     match format!(in alloc; "{number}") {
-        Ok(digits) => Refusal::Unknown {
+        Ok(digits) => Refusal::Cause(Cause::Unknown {
             kind,
             name: Text::of(digits),
-        },
+        }),
         Err(_) => Refusal::Memory,
     }
 }
@@ -66,21 +66,21 @@ fn forbidden(
     permission: Permission,
     project: Option<ProjectNo>,
 ) -> Refusal
-    ensures { IsRefusal (Some (Refusal.Forbidden permission
+    ensures { IsRefusal (Some (Cause.Forbidden permission
         (option_map (name_at (project_keys state.now.machine.setup))
         (option_map (λ no. no.0) project)))) result }
 {
     let Some(project) = project else {
-        return Refusal::Forbidden {
+        return Refusal::Cause(Cause::Forbidden {
             permission,
             project: None,
-        };
+        });
     };
     match Text::copy_of(alloc, state.project_key(project)) {
-        Ok(key) => Refusal::Forbidden {
+        Ok(key) => Refusal::Cause(Cause::Forbidden {
             permission,
             project: Some(key),
-        },
+        }),
         Err(_) => Refusal::Memory,
     }
 }

@@ -10,7 +10,7 @@ ghost use Rattle.tracker_state.specs.Check.{IsRefusal, room_refusal};
 use fields::{Memory, Text};
 use rank_strings::{Rank, RankFault};
 use std::alloc::Global;
-use tracker_calls::Refusal;
+use tracker_calls::{Cause, Refusal};
 
 // The text of a rank, if it is one.
 fn text_of(alloc: Global, rank: &Option<Rank>) -> Result<Option<Text>, Memory>
@@ -43,7 +43,7 @@ pub fn no_room(alloc: Global, low: &Option<Rank>, high: &Option<Rank>) -> Refusa
     ensures { IsRefusal (Some (no_room (low.now, high.now))) result }
 {
     match texts_of(alloc, low, high) {
-        Ok((low, high)) => Refusal::NoRoom { low, high },
+        Ok((low, high)) => Refusal::Cause(Cause::NoRoom { low, high }),
         Err(_) => Refusal::Memory,
     }
 }

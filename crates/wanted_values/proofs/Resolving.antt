@@ -7,9 +7,9 @@ use Rattle.field_forms.specs.Known.{field_named}
 use Rattle.field_forms.specs.Values.{is_before}
 use Rattle.tracker_calls.specs.declared.given.Given.{Given}
 use Rattle.tracker_calls.specs.declared.given.GivenField.{GivenField}
-use Rattle.tracker_calls.specs.declared.reply.Refusal.{Refusal}
-use Rattle.tracker_calls.specs.declared.reply.Refusal.TheVariants as refusal
-use Rattle.tracker_calls.specs.declared.reply.Thing.TheVariants as thing
+use Rattle.tracker_calls.specs.declared.cause.Cause.{Cause}
+use Rattle.tracker_calls.specs.declared.cause.Cause.TheVariants as cause
+use Rattle.tracker_calls.specs.declared.cause.Thing.TheVariants as thing
 use Rattle.tracker_machine.specs.Known.{names_field}
 use Rattle.tracker_machine.specs.Wanted.{given_for, sprint_number}
 use Rattle.sprints.specs.declared.sprint.Sprint.{Sprint}
@@ -56,7 +56,7 @@ last_given_is fields n names set resolved =
 -- ---- names that are refused
 
 by_field : (missing : Option ℕ) (name : List ℕ) (field : Option ℕ)
-    → (if is_some field then (if option_map_or (λ k. k == 13) field false then sprint_refusal missing else None) else Some (refusal.Unknown thing.Field name)) ≡ refusal_of missing (name, field)
+    → (if is_some field then (if option_map_or (λ k. k == 13) field false then sprint_refusal missing else None) else Some (cause.Unknown thing.Field name)) ≡ refusal_of missing (name, field)
 by_field missing name None = refl
 by_field missing name (Some n) = refl
 
@@ -148,7 +148,7 @@ none_refused : (missing : Option ℕ) (found : Option NamedField) (names : List 
     → option_and_then (refusal_of missing) (first_of missing found names) ≡ None → (found ≡ None) × NoneIsRefused missing names
 none_refused missing None [] before passed = (refl, tt)
 none_refused missing (Some found) [] before passed = absurd (some_not_none (refusal_of missing found) before passed) where
-  some_not_none : (o : Option Refusal) → is_some o ≡ true → o ≡ None → ⊥
+  some_not_none : (o : Option Cause) → is_some o ≡ true → o ≡ None → ⊥
   some_not_none None there gone = cc
   some_not_none (Some r) there gone = cc
 none_refused missing found (named ∷ names) before passed =

@@ -8,9 +8,9 @@ use Rattle.field_forms.specs.Known.{field_named}
 use Rattle.field_forms.specs.Values.{is_before}
 use Rattle.tracker_calls.specs.declared.given.Given.{Given}
 use Rattle.tracker_calls.specs.declared.given.GivenField.{GivenField}
-use Rattle.tracker_calls.specs.declared.reply.Refusal.{Refusal}
-use Rattle.tracker_calls.specs.declared.reply.Refusal.TheVariants as refusal
-use Rattle.tracker_calls.specs.declared.reply.Thing.TheVariants as thing
+use Rattle.tracker_calls.specs.declared.cause.Cause.{Cause}
+use Rattle.tracker_calls.specs.declared.cause.Cause.TheVariants as cause
+use Rattle.tracker_calls.specs.declared.cause.Thing.TheVariants as thing
 use Rattle.tracker_machine.specs.Checks.{sprint_refusal}
 use Rattle.wanted_values.specs.declared.resolved.ResolvedName.{ResolvedName}
 
@@ -46,8 +46,8 @@ last_given n before (r ∷ rs) = last_given n (if is_of n r then Some r.given.no
 -- ---- names that are refused
 
 -- a name is a field's, and where it is the sprint field's, no sprint is missing
-abbrev pub refusal_of : Option ℕ → NamedField → Option Refusal
-refusal_of missing (name, None) = Some (refusal.Unknown thing.Field name)
+abbrev pub refusal_of : Option ℕ → NamedField → Option Cause
+refusal_of missing (name, None) = Some (cause.Unknown thing.Field name)
 refusal_of missing (name, Some n) = if n == number.SPRINT.0 then sprint_refusal missing else None
 
 -- of one that was found before, if there is one, and another the one that comes first in byte order

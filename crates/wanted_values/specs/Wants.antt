@@ -3,9 +3,9 @@ use Rattle.std.specs.Prelude.{ℕ, List, Option, Some, None, decimal}
 use Rattle.field_values.specs.Parts.{Parts}
 use Rattle.fields.specs.SetupParts.{names_in}
 use Rattle.tracker_calls.specs.declared.given.GivenField.{GivenField}
-use Rattle.tracker_calls.specs.declared.reply.Refusal.{Refusal}
-use Rattle.tracker_calls.specs.declared.reply.Refusal.TheVariants as refusal
-use Rattle.tracker_calls.specs.declared.reply.Thing.TheVariants as thing
+use Rattle.tracker_calls.specs.declared.cause.Cause.{Cause}
+use Rattle.tracker_calls.specs.declared.cause.Cause.TheVariants as cause
+use Rattle.tracker_calls.specs.declared.cause.Thing.TheVariants as thing
 use Rattle.tracker_machine.specs.declared.wanted.Wanted.{Wanted}
 use Rattle.tracker_machine.specs.Wanted.{wanted_in}
 use Rattle.tracker_machine.specs.Create.{create_wants}
@@ -20,6 +20,6 @@ wants_of setup set (Some opening) n =
     create_wants setup opening.caller.0 opening.issue_type.now opening.summary.now set n
 
 -- the refusal of a name in `set` that stands for nothing
-abbrev pub unknown_name_refusal : UnknownName → Refusal
-unknown_name_refusal (unknown_name.Field name) = refusal.Unknown thing.Field name.now
-unknown_name_refusal (unknown_name.Sprint k) = refusal.Unknown thing.Sprint (decimal k)
+abbrev pub unknown_name_refusal : UnknownName → Cause
+unknown_name_refusal (unknown_name.Field name) = cause.Unknown thing.Field name.now
+unknown_name_refusal (unknown_name.Sprint k) = cause.Unknown thing.Sprint (decimal k)

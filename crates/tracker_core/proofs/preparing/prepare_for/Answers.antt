@@ -1,7 +1,7 @@
 use Rattle.std.proofs.Common.{◌≡◌, ℕ, Bool, true, false, List, None, codes, refl, sym, subst}
 use Rattle.std.proofs.lemmas.Option.{none-some}
 use Rattle.field_forms.specs.Names.{is_title}
-use Rattle.tracker_calls.specs.declared.reply.Refusal.TheVariants as refusal
+use Rattle.tracker_calls.specs.declared.cause.Cause.TheVariants as cause
 use Rattle.tracker_machine.specs.Step.{meaning_for, form_refusal}
 use Rattle.tracker_machine.specs.Checks.{only_if, other_refusal, title_refusal}
 use Rattle.tracker_machine.proofs.Placed.{apart}
@@ -29,9 +29,9 @@ rebalance_step-requires g c = in_range 1_000 c.in-RebalanceStep.count (subst (λ
 is_named : (name : List ℕ) → title_refusal name ≡ None → is_title name ≡ true
 is_named name none = by (is_title name) none
   where
-    by : (b : Bool) → only_if b (refusal.Form (codes "name")) ≡ None → b ≡ true
+    by : (b : Bool) → only_if b (cause.Form (codes "name")) ≡ None → b ≡ true
     by true none = refl
-    by false none = absurd (none-some (refusal.Form (codes "name")) (sym none))
+    by false none = absurd (none-some (cause.Form (codes "name")) (sym none))
 
 pub save_filter-requires-clause-title : goal.save_filter-requires-clause-title
 unfolding form_refusal

@@ -1,12 +1,12 @@
 use Rattle.std.proofs.Common.{◌≡◌, [], ◌∷◌, ◌++◌, ap, sym, ◌∙◌, codes, subst}
 use Rattle.std.specs.Prelude.{OnOk}
-use Rattle.tracker_calls.specs.Reply.{reply_text}
+use Rattle.reply_texts.specs.Reply.{reply_text}
 use Rattle.tracker_calls.specs.declared.reply.Reply.{Reply}
 use Rattle.tracker_calls.specs.declared.reply.Reply.TheVariants as reply
 use Rattle.tracker_calls.specs.declared.reply.Refusal.{Refusal}
 use Rattle.tracker_calls.specs.declared.reply.Refusal.TheVariants as refusal
-use Rattle.tracker_machine.specs.Run.{reply_line}
-use Rattle.tracker_machine.proofs.Replies.{memory_text, keeper_text}
+use Rattle.tracker_runs.specs.Run.{reply_line}
+use Rattle.reply_texts.proofs.Numbers.{memory_text, keeper_text}
 use Rattle.tracker_import.proofs.reply_line.put_reply_line.Goals as goal
 
 memory_line : (r : Reply) (inner : Refusal) → r ≡ reply.Refused inner → inner ≡ refusal.Memory → codes "{\"refused\":{\"no\":15}}" ++ 10 ∷ [] ≡ reply_line r

@@ -1,0 +1,8 @@
+use Rattle.std.proofs.Common.{◌≡◌, map, string_bytes}
+use Rattle.serde_json.specs.View.{members_view}
+use Rattle.call_lines.specs.Asked.{names_of}
+use Rattle.call_lines.specs.Body.{first_unknown}
+use Rattle.call_lines.proofs.body.unknown_among.Given as goal
+
+abbrev pub invariant-loop-name : goal.invariant-loop-name
+invariant-loop-name l = first_unknown l.kind (names_of (members_view l.members.entries)) ≡ first_unknown l.kind (map string_bytes l.name-iterator)

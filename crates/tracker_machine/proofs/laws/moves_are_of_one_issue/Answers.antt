@@ -1,5 +1,0 @@
-use Rattle.tracker_machine.proofs.MovedIssue.{moves_are_of_one_issue}
-use Rattle.tracker_machine.proofs.laws.moves_are_of_one_issue.Goals as goal
-
-pub returns : goal.returns
-returns c = moves_are_of_one_issue

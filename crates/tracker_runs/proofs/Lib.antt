@@ -1,0 +1,12 @@
+pub mod Runs
+pub mod Replies
+pub mod Plain
+pub mod RunRanks
+pub mod MovedIssue
+pub mod Alike
+pub mod SameMeaning
+pub mod AlikeCalls
+pub mod Rebalanced
+pub mod OtherLines
+pub mod RoomForSteps
+pub mod RebalancingsEnd
