@@ -12,7 +12,6 @@ use Rattle.field_values.specs.declared.rules.Permission.{Permission}
 use Rattle.field_values.specs.declared.rules.CallerTest.{CallerTest}
 use Rattle.field_values.specs.declared.rules.CallerTest.TheVariants.{InGroup, HasPermission}
 use Rattle.field_values.specs.declared.rules.Condition.{Condition}
-use Rattle.field_values.specs.declared.rules.Condition.TheVariants.{Test, AnyOf}
 use Rattle.field_values.specs.declared.rules.Validator.{Validator}
 use Rattle.field_values.specs.declared.rules.Validator.TheVariants.{Required, Changed, Permission as PermissionOf}
 use Rattle.field_values.specs.declared.rules.PostFunction.{PostFunction}
@@ -22,7 +21,7 @@ use Rattle.field_forms.specs.Cuts.{cut_at, pieces_at}
 use Rattle.field_forms.specs.Names.{place_named}
 use Rattle.field_forms.specs.BuiltIn.{built_in_no}
 use Rattle.field_forms.specs.Known.{Names, own_field, own_field_named, field_named, form_of, choices_of, value_of, may_be_empty, fits_form, fits}
-use Rattle.field_forms.specs.Rules.{after_colon, permission_of, named_test, test_of, all_tests, any_of, named_condition, condition_of, named_validator, validator_of, is_settable, settable_named, setting_of, assignee_of, named_post, post_of}
+use Rattle.field_forms.specs.Rules.{after_colon, permission_of, named_test, test_of, all_tests, any_of, tests_of, condition_of, named_validator, validator_of, is_settable, settable_named, setting_of, assignee_of, named_post, post_of}
 use Rattle.field_forms.specs.SoundRules.{test_is_sound, condition_is_sound, is_field, validator_is_sound, post_is_sound}
 use Rattle.field_forms.proofs.Fits.{named_inside, read_fits}
 
@@ -97,32 +96,34 @@ module _ (names : Names) where
   all_tests_sound [] = refl
   all_tests_sound (text ∷ texts) = one_more_test (test_of names text) (all_tests names texts) (test_sound text) (all_tests_sound texts)
 
-  abbrev sound : Condition → Bool
-  sound condition = condition_is_sound (length names.groups) condition
-
-  any_sound : (tests : Option (List CallerTest)) → passes tests_are_sound tests ≡ true → passes sound (option_map AnyOf tests) ≡ true
-  any_sound None each = refl
-  any_sound (Some ts) each = each
-
-  alone_sound : (test : Option CallerTest) → passes (test_is_sound (length names.groups)) test ≡ true → passes sound (option_map Test test) ≡ true
+  alone_sound : (test : Option CallerTest) → passes (test_is_sound (length names.groups)) test ≡ true → passes tests_are_sound (option_map (λ t. t ∷ []) test) ≡ true
   alone_sound None one = refl
-  alone_sound (Some t) one = one
+  alone_sound (Some t) one = grind (arith, one)
 
-  named_condition_sound : (word rest : List ℕ) → passes sound (named_condition names word rest) ≡ true
-  named_condition_sound word rest = elim (cases_Bool (bytes_eq word (codes "any"))) [
-    | inl any ↦ rw any (any_sound (all_tests names (pieces_at 124 rest)) (all_tests_sound (pieces_at 124 rest)))
+  any_of_sound : (word rest : List ℕ) → passes tests_are_sound (any_of names word rest) ≡ true
+  any_of_sound word rest = elim (cases_Bool (bytes_eq word (codes "any"))) [
+    | inl any ↦ rw any (all_tests_sound (pieces_at 124 rest))
     | inr other ↦ rw other (alone_sound (named_test names word rest) (named_test_sound word rest))
+  ]
+
+  tests_sound : (text : List ℕ) → passes tests_are_sound (tests_of names text) ≡ true
+  unfolding tests_of
+  tests_sound text = elim (cases_Bool (bytes_eq text (codes "assignee"))) [
+    | inl assignee ↦ rw assignee refl
+    | inr other ↦ elim (cases_Bool (bytes_eq text (codes "reporter"))) [
+      | inl reporter ↦ rw (other, reporter) refl
+      | inr none ↦ rw (other, none) (after_passes (any_of names) tests_are_sound any_of_sound text)
+    ]
   ]
 
   pub condition_sound : (text : List ℕ) (condition : Condition) → condition_of names text ≡ Some condition → condition_is_sound (length names.groups) condition ≡ true
   unfolding condition_of
-  condition_sound text condition e = passes_some sound (condition_of names text) condition (elim (cases_Bool (bytes_eq text (codes "assignee"))) [
-    | inl assignee ↦ rw assignee refl
-    | inr other ↦ elim (cases_Bool (bytes_eq text (codes "reporter"))) [
-      | inl reporter ↦ rw (other, reporter) refl
-      | inr none ↦ rw (other, none) (after_passes (named_condition names) sound named_condition_sound text)
-    ]
-  ]) e
+  condition_sound text condition e = by_tests (tests_of names text) (tests_sound text) e where
+    by_tests : (tests : Option (List CallerTest)) → passes tests_are_sound tests ≡ true → option_map (λ ts. let made : Condition = record { any_of = ts } in made) tests ≡ Some condition → condition_is_sound (length names.groups) condition ≡ true
+    by_tests None h is = absurd (cc)
+    by_tests (Some ts) h is =
+        let same : (let made : Condition = record { any_of = ts } in made) ≡ condition = cc in
+        subst (λ (c : Condition). condition_is_sound (length names.groups) c ≡ true) same h
 
 -- the numbers of the fields that every tracker has
 abbrev IsBuiltIn : ℕ → Type 0

@@ -3,11 +3,10 @@ use Rattle.std.specs.Prelude.{ℕ, ◌+◌, ◌==◌, Bool, not, ◌||◌, List,
 use Rattle.std.specs.Str.{bytes_eq, str_eq_ignore_ascii_case}
 use Rattle.field_values.specs.declared.numbers.TheConstants.FieldNo as number
 use Rattle.field_values.specs.declared.rules.Permission.{Permission}
-use Rattle.field_values.specs.declared.rules.Permission.TheVariants.{Browse, Create, Edit, Transition, Rank, Plan, Administer}
+use Rattle.field_values.specs.declared.rules.Permission.TheVariants.{Browse, Create, Edit, Transition, Rank}
 use Rattle.field_values.specs.declared.rules.CallerTest.{CallerTest}
 use Rattle.field_values.specs.declared.rules.CallerTest.TheVariants.{IsAssignee, IsReporter, InGroup, HasPermission}
 use Rattle.field_values.specs.declared.rules.Condition.{Condition}
-use Rattle.field_values.specs.declared.rules.Condition.TheVariants.{Test, AnyOf}
 use Rattle.field_values.specs.declared.rules.Validator.{Validator}
 use Rattle.field_values.specs.declared.rules.Validator.TheVariants.{Required, Changed, Due, Permission as PermissionOf}
 use Rattle.field_values.specs.declared.rules.PostFunction.{PostFunction}
@@ -30,16 +29,6 @@ permission_of name =
     else if str_eq_ignore_ascii_case name (codes "rank") then Some Rank
     else None
 
--- the word of a permission
-abbrev pub permission_name : Permission → List ℕ
-permission_name Browse = codes "browse"
-permission_name Create = codes "create"
-permission_name Edit = codes "edit"
-permission_name Transition = codes "transition"
-permission_name Rank = codes "rank"
-permission_name Plan = codes "plan"
-permission_name Administer = codes "administer"
-
 abbrev pub named_test : Names → List ℕ → List ℕ → Option CallerTest
 named_test names word rest =
     if bytes_eq word (codes "group")
@@ -61,21 +50,20 @@ all_tests names (text ∷ texts) =
     option_and_then (λ test. option_map (λ rest. test ∷ rest) (all_tests names texts))
     (test_of names text)
 
--- one or more tests with `|` between them
-abbrev pub any_of : Names → List ℕ → Option Condition
-any_of names text = option_map AnyOf (all_tests names (pieces_at 124 text))
-
-abbrev pub named_condition : Names → List ℕ → List ℕ → Option Condition
-named_condition names word rest =
-    if bytes_eq word (codes "any") then any_of names rest
-    else option_map Test (named_test names word rest)
+abbrev pub any_of : Names → List ℕ → List ℕ → Option (List CallerTest)
+any_of names word rest =
+    if bytes_eq word (codes "any") then all_tests names (pieces_at 124 rest)
+    else option_map (λ test. test ∷ []) (named_test names word rest)
 
 -- one such test, or `any:` and one or more of them with `|` between
+unfoldable pub tests_of : Names → List ℕ → Option (List CallerTest)
+tests_of names text =
+    if bytes_eq text (codes "assignee") then Some (IsAssignee ∷ [])
+    else if bytes_eq text (codes "reporter") then Some (IsReporter ∷ [])
+    else after_colon (any_of names) text
+
 unfoldable pub condition_of : Names → List ℕ → Option Condition
-condition_of names text =
-    if bytes_eq text (codes "assignee") then Some (Test IsAssignee)
-    else if bytes_eq text (codes "reporter") then Some (Test IsReporter)
-    else after_colon (named_condition names) text
+condition_of names text = option_map (λ tests. record { any_of = tests }) (tests_of names text)
 
 abbrev pub named_validator : Names → List ℕ → List ℕ → Option Validator
 named_validator names word rest =

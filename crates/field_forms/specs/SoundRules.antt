@@ -7,7 +7,6 @@ use Rattle.field_values.specs.declared.value.Value.TheVariants.{Empty}
 use Rattle.field_values.specs.declared.rules.CallerTest.{CallerTest}
 use Rattle.field_values.specs.declared.rules.CallerTest.TheVariants.{InGroup}
 use Rattle.field_values.specs.declared.rules.Condition.{Condition}
-use Rattle.field_values.specs.declared.rules.Condition.TheVariants.{Test, AnyOf}
 use Rattle.field_values.specs.declared.rules.Validator.{Validator}
 use Rattle.field_values.specs.declared.rules.Validator.TheVariants.{Required, Changed}
 use Rattle.field_values.specs.declared.rules.PostFunction.{PostFunction}
@@ -27,8 +26,7 @@ test_is_sound count (InGroup group) = is_group count group
 test_is_sound count _ = true
 
 abbrev pub condition_is_sound : ℕ → Condition → Bool
-condition_is_sound count (Test test) = test_is_sound count test
-condition_is_sound count (AnyOf tests) = list_all (test_is_sound count) tests
+condition_is_sound count condition = list_all (test_is_sound count) condition.any_of
 
 -- there is such a field
 abbrev pub is_field : List Field → ℕ → Bool

@@ -1,8 +1,8 @@
 // The texts of conditions, validators and post functions.
-ghost use Rattle.std.specs.Prelude.{◌≡◌, IfOk, option_map};
+ghost use Rattle.std.specs.Prelude.{◌≡◌, ◌∷◌, [], IfOk, option_map};
 ghost use Rattle.field_forms.specs.Known.{names_of, AreFew};
-ghost use Rattle.field_forms.specs.Rules.{permission_of, permission_name, named_test, test_of, all_tests, any_of};
-ghost use Rattle.field_forms.specs.Rules.{named_condition, condition_of, named_validator, validator_of};
+ghost use Rattle.field_forms.specs.Rules.{permission_of, named_test, test_of, all_tests, any_of};
+ghost use Rattle.field_forms.specs.Rules.{tests_of, condition_of, named_validator, validator_of};
 ghost use Rattle.field_forms.specs.Rules.{is_settable, settable_named, setting_of, assignee_of};
 ghost use Rattle.field_forms.specs.Rules.{named_post, post_of};
 
@@ -31,21 +31,6 @@ fn permission_of(name: &str) -> Option<Permission>
         Some(Permission::Rank)
     } else {
         None
-    }
-}
-
-/// The word of a permission.
-pub fn permission_name(permission: Permission) -> &'static str
-    ensures { result.now ≡ permission_name permission }
-{
-    match permission {
-        Permission::Browse => "browse",
-        Permission::Create => "create",
-        Permission::Edit => "edit",
-        Permission::Transition => "transition",
-        Permission::Rank => "rank",
-        Permission::Plan => "plan",
-        Permission::Administer => "administer",
     }
 }
 
@@ -104,33 +89,50 @@ fn all_tests(
     Ok(Some(tests))
 }
 
-/// The condition of several tests, of which each piece between `|` is one.
-fn any_of(alloc: Global, known: &Known<'_>, text: &str) -> Result<Option<Condition>, Memory>
-    requires { AreFew (names_of known.now) }
-    ensures { IfOk result (λ condition. condition ≡ any_of (names_of known.now) text.now) }
+fn one_test(alloc: Global, test: CallerTest) -> Result<Sequence<CallerTest>, Memory>
+    ensures { IfOk result (λ tests. tests ≡ test ∷ []) }
 {
-    let pieces = pieces_at(alloc, text, '|')?;
-    match all_tests(alloc, known, pieces.as_slice())? {
-        Some(tests) => Ok(Some(Condition::AnyOf(tests))),
-        None => Ok(None),
-    }
+    let mut tests = Sequence::new(alloc);
+    tests.push(test)?;
+    Ok(tests)
 }
 
-fn named_condition(
+fn any_of(
     alloc: Global,
     known: &Known<'_>,
     word: &str,
     rest: &str,
-) -> Result<Option<Condition>, Memory>
+) -> Result<Option<Sequence<CallerTest>>, Memory>
     requires { AreFew (names_of known.now) }
-    ensures { IfOk result
-        (λ condition. condition ≡ named_condition (names_of known.now) word.now rest.now) }
+    ensures { IfOk result (λ tests. tests ≡ any_of (names_of known.now) word.now rest.now) }
 {
     if word == "any" {
-        return any_of(alloc, known, rest);
+        let pieces = pieces_at(alloc, rest, '|')?;
+        return all_tests(alloc, known, pieces.as_slice());
     }
     match named_test(known, word, rest) {
-        Some(test) => Ok(Some(Condition::Test(test))),
+        Some(test) => Ok(Some(one_test(alloc, test)?)),
+        None => Ok(None),
+    }
+}
+
+#[tactic(auto, unfolding(crate::specs::Rules::tests_of))]
+fn tests_of(
+    alloc: Global,
+    known: &Known<'_>,
+    text: &str,
+) -> Result<Option<Sequence<CallerTest>>, Memory>
+    requires { AreFew (names_of known.now) }
+    ensures { IfOk result (λ tests. tests ≡ tests_of (names_of known.now) text.now) }
+{
+    if text == "assignee" {
+        return Ok(Some(one_test(alloc, CallerTest::IsAssignee)?));
+    }
+    if text == "reporter" {
+        return Ok(Some(one_test(alloc, CallerTest::IsReporter)?));
+    }
+    match cut_at(text, ':') {
+        Some((word, rest)) => any_of(alloc, known, word, rest),
         None => Ok(None),
     }
 }
@@ -145,14 +147,8 @@ pub fn condition_of(
     requires { AreFew (names_of known.now) }
     ensures { IfOk result (λ condition. condition ≡ condition_of (names_of known.now) text.now) }
 {
-    if text == "assignee" {
-        return Ok(Some(Condition::Test(CallerTest::IsAssignee)));
-    }
-    if text == "reporter" {
-        return Ok(Some(Condition::Test(CallerTest::IsReporter)));
-    }
-    match cut_at(text, ':') {
-        Some((word, rest)) => named_condition(alloc, known, word, rest),
+    match tests_of(alloc, known, text)? {
+        Some(any_of) => Ok(Some(Condition { any_of })),
         None => Ok(None),
     }
 }

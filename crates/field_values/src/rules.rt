@@ -27,13 +27,10 @@ pub enum CallerTest {
     HasPermission(Permission),
 }
 
-/// A condition of a transition.
+/// A condition of a transition, which holds where one of its tests does. There is at least one.
 #[derive(Drop)]
-pub enum Condition {
-    /// It holds where this test passes.
-    Test(CallerTest),
-    /// It holds where one of these passes. There is at least one.
-    AnyOf(Sequence<CallerTest>),
+pub struct Condition {
+    pub any_of: Sequence<CallerTest>,
 }
 
 /// What a validator of a transition asks of the issue after the inputs.

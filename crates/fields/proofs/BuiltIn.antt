@@ -4,7 +4,7 @@ use Rattle.std.specs.Str.{chars}
 use Rattle.toml.proofs.OnLiterals.{toml_on_literals}
 use Rattle.field_forms.specs.Known.{field_named, form_of, choices_of, value_of, fits}
 use Rattle.field_forms.specs.Values.{value_in}
-use Rattle.field_forms.specs.Rules.{test_of, condition_of, validator_of, post_of}
+use Rattle.field_forms.specs.Rules.{test_of, tests_of, condition_of, validator_of, post_of}
 use Rattle.setup_drafts.specs.declared.fault.SetupFault.{SetupFault}
 use Rattle.setup_drafts.specs.declared.fault.SetupFault.TheVariants.{BadToml, Missing, Duplicate, Unknown, TooMany, BadValue, Memory}
 use Rattle.setup_drafts.specs.Drafts.{head_fault, head_of, lists_fault, lists_of, rights_fault, rights_of, groups_fault, groups_of, projects_fault, projects_of, statuses_fault, statuses_of, transitions_fault, transitions_of, fields_fault, fields_of, tables_fault, tables_of, draft_fault, draft_of}
@@ -24,7 +24,7 @@ use Rattle.fields.proofs.Sound.{ok_is}
 
 -- the parts that its text reads to
 pub built_in_reads : setup_in BUILT_IN.now ≡ Ok built_in_parts
-unfolding chars toml_on_literals field_named form_of choices_of value_of fits value_in test_of condition_of validator_of post_of head_fault head_of lists_fault lists_of rights_fault rights_of groups_fault groups_of projects_fault projects_of statuses_fault statuses_of transitions_fault transitions_of fields_fault fields_of tables_fault tables_of draft_fault draft_of group_fault group_draft project_fault project_draft status_fault status_of transition_fault transition_draft offsets_fault offsets_in unknown_in_tables key_fault group_unknown project_unknown transition_unknown rights_unknown tables_unknown resolve_fault_by resolve_fault first_fault parts_in parts_or_fault setup_in group_resolved project_resolved transition_resolved rights_resolved tables_resolved resolved_by resolved field_fault field_of offset_fault offset_of built_in_parts
+unfolding chars toml_on_literals field_named form_of choices_of value_of fits value_in test_of tests_of condition_of validator_of post_of head_fault head_of lists_fault lists_of rights_fault rights_of groups_fault groups_of projects_fault projects_of statuses_fault statuses_of transitions_fault transitions_of fields_fault fields_of tables_fault tables_of draft_fault draft_of group_fault group_draft project_fault project_draft status_fault status_of transition_fault transition_draft offsets_fault offsets_in unknown_in_tables key_fault group_unknown project_unknown transition_unknown rights_unknown tables_unknown resolve_fault_by resolve_fault first_fault parts_in parts_or_fault setup_in group_resolved project_resolved transition_resolved rights_resolved tables_resolved resolved_by resolved field_fault field_of offset_fault offset_of built_in_parts
 built_in_reads = refl
 
 pub reads_to : (parts : Parts) → setup_in BUILT_IN.now ≡ Ok parts → parts ≡ built_in_parts

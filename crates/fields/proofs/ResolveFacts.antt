@@ -9,13 +9,12 @@ use Rattle.std.proofs.lemmas.List.Folds.{list_all-map}
 use Rattle.field_values.specs.declared.numbers.UserNo.{UserNo}
 use Rattle.field_values.specs.declared.rules.CallerTest.{CallerTest}
 use Rattle.field_values.specs.declared.rules.Condition.{Condition}
-use Rattle.field_values.specs.declared.rules.Condition.TheVariants.{Test, AnyOf}
 use Rattle.field_values.specs.declared.status.Status.{Status}
 use Rattle.field_values.specs.GroupMembers.{is_user_list}
 use Rattle.field_forms.specs.Cuts.{cut_at, pieces_at, onto_first}
 use Rattle.field_forms.specs.Known as known
 use Rattle.field_forms.specs.Names.{is_among}
-use Rattle.field_forms.specs.Rules.{named_test, test_of, all_tests, any_of, named_condition, condition_of, validator_of, post_of}
+use Rattle.field_forms.specs.Rules.{named_test, test_of, all_tests, any_of, tests_of, condition_of, validator_of, post_of}
 use Rattle.field_forms.specs.SoundRules.{is_group, condition_is_sound, validator_is_sound, post_is_sound, rules_are_sound}
 use Rattle.field_forms.proofs.SoundRules.{all_made, condition_sound, validator_sound, post_sound}
 use Rattle.setup_drafts.specs.declared.draft.Draft.{Draft}
@@ -151,42 +150,46 @@ as_many_tests names (text ∷ texts) tests e = by_test (test_of names text) (all
       let counted : length more ≡ length texts = counts more rest_is in
       grind (arith, all, counted)
 
--- there is a condition that asks for something, or none
-abbrev asks_for_some : Option Condition → Bool
-asks_for_some condition = option_map_or has_tests condition true
+-- there is at least one
+abbrev are_some : Option (List CallerTest) → Bool
+are_some tests = option_map_or (λ ts. nat_lt 0 (length ts)) tests true
 
-any_has_some : (names : known.Names) (text : List ℕ) → asks_for_some (any_of names text) ≡ true
-any_has_some names text = by_tests (all_tests names (pieces_at 124 text)) refl where
-  by_tests : (tests : Option (List CallerTest)) → all_tests names (pieces_at 124 text) ≡ tests → asks_for_some (option_map AnyOf tests) ≡ true
-  by_tests None e = refl
-  by_tests (Some tests) e = grind (arith, as_many_tests names (pieces_at 124 text) tests e, some_pieces 124 text)
-
-named_has_some : (names : known.Names) (word rest : List ℕ) → asks_for_some (named_condition names word rest) ≡ true
-named_has_some names word rest = elim (cases_Bool (bytes_eq word (codes "any"))) [
-  | inl any ↦ rw any (any_has_some names rest)
+any_has_some : (names : known.Names) (word rest : List ℕ) → are_some (any_of names word rest) ≡ true
+any_has_some names word rest = elim (cases_Bool (bytes_eq word (codes "any"))) [
+  | inl any ↦ rw any (by_tests (all_tests names (pieces_at 124 rest)) refl)
   | inr other ↦ rw other (by_one (named_test names word rest))
 ] where
-  by_one : (test : Option CallerTest) → asks_for_some (option_map Test test) ≡ true
+  by_tests : (tests : Option (List CallerTest)) → all_tests names (pieces_at 124 rest) ≡ tests → are_some tests ≡ true
+  by_tests None e = refl
+  by_tests (Some tests) e = grind (arith, as_many_tests names (pieces_at 124 rest) tests e, some_pieces 124 rest)
+
+  by_one : (test : Option CallerTest) → are_some (option_map (λ one. one ∷ []) test) ≡ true
   by_one None = refl
   by_one (Some test) = refl
 
--- a condition asks for something
-condition_has_tests : (names : known.Names) (text : List ℕ) (condition : Condition) → condition_of names text ≡ Some condition → has_tests condition ≡ true
-unfolding condition_of
-condition_has_tests names text condition e = asked (condition_of names text) (elim (cases_Bool (bytes_eq text (codes "assignee"))) [
+tests_have_some : (names : known.Names) (text : List ℕ) → are_some (tests_of names text) ≡ true
+unfolding tests_of
+tests_have_some names text = elim (cases_Bool (bytes_eq text (codes "assignee"))) [
   | inl assignee ↦ rw assignee refl
   | inr other ↦ elim (cases_Bool (bytes_eq text (codes "reporter"))) [
     | inl reporter ↦ rw (other, reporter) refl
     | inr cut ↦ rw (other, cut) (by_cut (cut_at 58 text))
   ]
-]) e where
-  by_cut : (parts : Option (List ℕ × List ℕ)) → asks_for_some (option_and_then (λ p. named_condition names p.0 p.1) parts) ≡ true
+] where
+  by_cut : (parts : Option (List ℕ × List ℕ)) → are_some (option_and_then (λ p. any_of names p.0 p.1) parts) ≡ true
   by_cut None = refl
-  by_cut (Some parts) = named_has_some names parts.0 parts.1
+  by_cut (Some parts) = any_has_some names parts.0 parts.1
 
-  asked : (found : Option Condition) → asks_for_some found ≡ true → found ≡ Some condition → has_tests condition ≡ true
-  asked None h is = absurd (cc)
-  asked (Some c) h is = grind (arith, h, is)
+-- a condition asks for something
+condition_has_tests : (names : known.Names) (text : List ℕ) (condition : Condition) → condition_of names text ≡ Some condition → has_tests condition ≡ true
+unfolding condition_of
+condition_has_tests names text condition e = by_tests (tests_of names text) refl where
+  by_tests : (tests : Option (List CallerTest)) → tests_of names text ≡ tests → has_tests condition ≡ true
+  by_tests None tests_is = absurd (grind (arith, tests_is, e))
+  by_tests (Some tests) tests_is =
+      let some : are_some (Some tests) ≡ true = subst (λ (t : Option (List CallerTest)). are_some t ≡ true) tests_is (tests_have_some names text) in
+      let same : record { any_of = tests } ≡ condition = grind (arith, tests_is, e) in
+      subst (λ (c : Condition). has_tests c ≡ true) same some
 
 -- no more are made than there are texts
 few_made : {X Y : Type 0} (make : X → Option Y) (xs : List X) → length (filter_map make xs) ≤ length xs

@@ -8,7 +8,6 @@ use Rattle.field_values.specs.declared.words.Weekday.TheVariants.{Monday}
 use Rattle.field_values.specs.declared.words.Category.TheVariants as category
 use Rattle.field_values.specs.declared.rules.Permission.TheVariants as permission
 use Rattle.field_values.specs.declared.rules.CallerTest.TheVariants.{IsAssignee, InGroup, HasPermission}
-use Rattle.field_values.specs.declared.rules.Condition.TheVariants.{Test, AnyOf}
 use Rattle.field_values.specs.declared.rules.Validator.TheVariants.{Required}
 use Rattle.field_values.specs.declared.rules.PostFunction.TheVariants.{Clear, AssignCaller, Resolution}
 use Rattle.field_values.specs.declared.parts.Group.{Group}
@@ -62,7 +61,7 @@ finish = record {
   name = codes "Finish";
   from = choice_no 1 ∷ choice_no 2 ∷ [];
   to = choice_no 3;
-  conditions = AnyOf (IsAssignee ∷ InGroup (group_no 2) ∷ []) ∷ [];
+  conditions = record { any_of = IsAssignee ∷ InGroup (group_no 2) ∷ [] } ∷ [];
   validators = Required number.POINTS ∷ [];
   post = Resolution (choice_no 0) ∷ [];
 }
@@ -73,7 +72,7 @@ reopen = record {
   name = codes "Reopen";
   from = choice_no 3 ∷ [];
   to = choice_no 0;
-  conditions = Test (HasPermission permission.Edit) ∷ [];
+  conditions = record { any_of = HasPermission permission.Edit ∷ [] } ∷ [];
   validators = [];
   post = Clear number.RESOLUTION ∷ [];
 }

@@ -7,7 +7,6 @@ use Rattle.field_values.specs.declared.parts.Group.{Group}
 use Rattle.field_values.specs.declared.parts.Transition.{Transition}
 use Rattle.field_values.specs.declared.parts.Project.{Project}
 use Rattle.field_values.specs.declared.rules.Condition.{Condition}
-use Rattle.field_values.specs.declared.rules.Condition.TheVariants.{Test, AnyOf}
 use Rattle.field_forms.specs.declared.name_form.NameForm.{NameForm}
 use Rattle.field_forms.specs.declared.name_form.NameForm.TheVariants.{User, Plain, Resolution, ProjectKey, OwnField}
 use Rattle.field_forms.specs.Names.{is_from_to, AreDistinct}
@@ -44,8 +43,7 @@ has_start transition = nat_lt 0 (length transition.from)
 
 -- it asks for at least one thing
 abbrev pub has_tests : Condition → Bool
-has_tests (Test test) = true
-has_tests (AnyOf tests) = nat_lt 0 (length tests)
+has_tests condition = nat_lt 0 (length condition.any_of)
 
 abbrev pub have_tests : Transition → Bool
 have_tests transition = list_all has_tests transition.conditions

@@ -8,7 +8,6 @@ use Rattle.field_values.specs.declared.value.Value.TheVariants.{User, Choice}
 use Rattle.field_values.specs.declared.rules.CallerTest.{CallerTest}
 use Rattle.field_values.specs.declared.rules.CallerTest.TheVariants.{IsAssignee, IsReporter, InGroup, HasPermission}
 use Rattle.field_values.specs.declared.rules.Condition.{Condition}
-use Rattle.field_values.specs.declared.rules.Condition.TheVariants.{Test, AnyOf}
 use Rattle.field_values.specs.declared.parts.Transition.{Transition}
 use Rattle.field_values.specs.Parts.{Parts}
 use Rattle.field_forms.specs.Cuts.{cut_at}
@@ -41,10 +40,9 @@ passes setup h caller (InGroup group) = has_member setup.group caller.0 group
 passes setup h caller (HasPermission permission) =
     may setup caller.0 permission (project_number setup h)
 
--- a condition holds where its test passes, and with `any:` where one of its tests does
+-- a condition holds where one of its tests passes; `any:` has several tests, every other condition has one
 abbrev pub condition_holds : Parts → History → UserNo → Condition → Bool
-condition_holds setup h caller (Test test) = passes setup h caller test
-condition_holds setup h caller (AnyOf tests) = list_any (passes setup h caller) tests
+condition_holds setup h caller condition = list_any (passes setup h caller) condition.any_of
 
 -- the value is one of these statuses
 abbrev pub is_among : List ChoiceNo → Value → Bool

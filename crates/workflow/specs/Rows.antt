@@ -3,7 +3,6 @@ use Rattle.std.specs.Prelude.{◌≡◌, true, false, [], ◌∷◌, pos, refl}
 use Rattle.field_values.specs.declared.numbers.UserNo.{UserNo}
 use Rattle.field_values.specs.declared.value.Value.TheVariants.{Empty, Number, User, Choice, Date}
 use Rattle.field_values.specs.declared.rules.CallerTest.TheVariants.{IsAssignee, IsReporter}
-use Rattle.field_values.specs.declared.rules.Condition.TheVariants.{AnyOf}
 use Rattle.field_values.specs.declared.rules.PostFunction.TheVariants.{AssignCaller, AssignReporter}
 use Rattle.field_values.specs.declared.rules.Validator.TheVariants.{Required, Changed}
 use Rattle.field_values.specs.Parts.{Parts}
@@ -48,11 +47,11 @@ net_by_field = refl
 
 -- one test of several is enough
 pub any_test_passes : (setup : Parts)
-    → condition_holds setup opened bo (AnyOf (IsReporter ∷ IsAssignee ∷ [])) ≡ true
+    → condition_holds setup opened bo (record { any_of = IsReporter ∷ IsAssignee ∷ [] }) ≡ true
 any_test_passes setup = refl
 
 pub no_test_passes : (setup : Parts)
-    → condition_holds setup opened anna (AnyOf (IsReporter ∷ IsAssignee ∷ [])) ≡ false
+    → condition_holds setup opened anna (record { any_of = IsReporter ∷ IsAssignee ∷ [] }) ≡ false
 no_test_passes setup = refl
 
 -- points that are set to what they were aren't changed, and points that are taken away aren't there

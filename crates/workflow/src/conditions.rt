@@ -39,14 +39,11 @@ fn passes_one(setup: &Setup, issue: &Issue, caller: UserNo, tests: &[CallerTest]
     tests.iter().any(|test| passes(setup, issue, caller, *test))
 }
 
-/// Whether the condition's test passes, or one of its tests.
+/// Whether one of the condition's tests passes.
 fn condition_holds(setup: &Setup, issue: &Issue, caller: UserNo, condition: &Condition) -> bool
     ensures { result ≡ condition_holds (parts setup.now) issue.now.history caller condition.now }
 {
-    match condition {
-        Condition::Test(test) => passes(setup, issue, caller, *test),
-        Condition::AnyOf(tests) => passes_one(setup, issue, caller, tests.as_slice()),
-    }
+    passes_one(setup, issue, caller, condition.any_of.as_slice())
 }
 
 fn is_one_of(statuses: &[ChoiceNo], status: ChoiceNo) -> bool
