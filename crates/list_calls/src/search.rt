@@ -69,7 +69,7 @@ fn answered<L: Ledger>(
 
 /// What a query finds: issues, of which a part is told, and how many there are.
 #[derive(Drop)]
-pub struct Found<'s> {
+pub struct FoundIssues<'s> {
     pub issues: Vec<&'s Issue>,
     pub total: u64,
 }
@@ -83,7 +83,7 @@ pub fn found_part<'s, L: Ledger>(
     bound: &mut Bound,
     part: Part,
     steps: &mut Steps<L>,
-) -> Result<Found<'s>, Memory>
+) -> Result<FoundIssues<'s>, Memory>
     ensures issues { IfOk result (λ found.
         map (λ i. i.now.history) (part_of part found.issues.items)
         ≡ part_of part (found_in_order state.now.machine caller.0 (query_of bound.old))) }
@@ -102,7 +102,7 @@ fn ordered<'s, L: Ledger>(
     bound: &Bound,
     part: Part,
     steps: &mut Steps<L>,
-) -> Result<Found<'s>, Memory>
+) -> Result<FoundIssues<'s>, Memory>
     ensures issues { IfOk result (λ found.
         map (λ i. i.now.history) (part_of part found.issues.items)
         ≡ part_of part (found_in_order state.now.machine caller.0 (query_of bound.now))) }
@@ -113,7 +113,7 @@ fn ordered<'s, L: Ledger>(
     let mut issues = found(alloc, state, caller, bound, steps)?;
     let total = count_of(&issues);
     put_in_order(alloc, state, &bound.order, end_of(part), &mut issues)?;
-    Ok(Found { issues, total })
+    Ok(FoundIssues { issues, total })
 }
 
 // The issues of which the query holds and which the caller may browse. Each is asked at most once; of each project it is

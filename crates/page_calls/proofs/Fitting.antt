@@ -38,5 +38,5 @@ part_holds m caller query part is =
     let P : History → Type 0 = HoldsWhatFits m.setup in
     let some : All P (found m caller query.condition) = All-filter (is_found m caller query.condition) P m.histories (each_holds m is) in
     let ordered : All P (found_in_order m caller query) =
-        all_of_each P (found_in_order m caller query) (each_order (comes_before m.setup query.keys m.order) P (found m caller query.condition) (each_of_all P (found m caller query.condition) some)) in
+    all_of_each P (found_in_order m caller query) (each_order (comes_before m.setup query.keys m.order) P (found m caller query.condition) (each_of_all P (found m caller query.condition) some)) in
     All-take P part.count (drop part.from (found_in_order m caller query)) (All-drop P part.from (found_in_order m caller query) ordered)

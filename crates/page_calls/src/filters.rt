@@ -4,7 +4,7 @@ ghost use Rattle.fields.specs.Naming.{name_at};
 ghost use Rattle.tracker_machine.specs.Overviews.{filters_answer, filters_meaning, filters_told};
 ghost use Rattle.tracker_machine.specs.Overviews.{is_told, told_filter};
 ghost use Rattle.tracker_state.specs.Plan.{IsPrepared};
-ghost use Rattle.tracker_state.specs.State.{saved_as};
+ghost use Rattle.tracker_state.specs.State.{saved_as, saved_filters};
 
 use fields::{Memory, Permission, Setup, UserNo};
 use std::alloc::Global;
@@ -47,16 +47,37 @@ fn filters_told<'s>(
 {
     state.have_seen();
     let administers = state.may(caller, Permission::Administer, None);
+    told_among(alloc, state.filters().as_slice(), caller, administers)
+}
+
+fn told_among<'s>(
+    alloc: Global,
+    all: &'s [Filter],
+    caller: UserNo,
+    administers: bool,
+) -> Result<Vec<&'s Filter>, Memory>
+    ensures { IfOk result (λ filters. map (λ f. saved_as f.now) filters.items
+        ≡ filter (is_told caller.0 administers) (saved_filters all.now)) }
+{
     let mut told = Vec::new(alloc);
-    for filter in state.filters().as_slice() {
-        if filter.owner.0 == caller.0 || administers {
+    for filter in all {
+        if is_told(filter, caller, administers) {
             told.push(filter)?;
         }
     }
     Ok(told)
 }
 
-fn told_filters(alloc: Global, setup: &Setup, filters: &[&Filter]) -> Result<ToldFilters, Memory> {
+fn is_told(filter: &Filter, caller: UserNo, administers: bool) -> bool
+    ensures { result ≡ is_told caller.0 administers (saved_as filter.now) }
+{
+    filter.owner.0 == caller.0 || administers
+}
+
+fn told_filters(alloc: Global, setup: &Setup, filters: &[&Filter]) -> Result<ToldFilters, Memory>
+    ensures { IfOk result
+        (λ told. told ≡ map (λ f. told_filter setup.now.users (saved_as f.now)) filters.now) }
+{
     let mut told = ToldFilters::new(alloc);
     for filter in filters {
         told.push(told_filter(alloc, setup, *filter)?)?;
@@ -64,7 +85,10 @@ fn told_filters(alloc: Global, setup: &Setup, filters: &[&Filter]) -> Result<Tol
     Ok(told)
 }
 
-fn told_filter(alloc: Global, setup: &Setup, filter: &Filter) -> Result<ToldFilter, Memory> {
+fn told_filter(alloc: Global, setup: &Setup, filter: &Filter) -> Result<ToldFilter, Memory>
+    ensures { IfOk result
+        (λ told. told ≡ told_filter setup.now.users (saved_as filter.now)) }
+{
     let jql = filter.text.copy(alloc)?;
     let name = filter.name.copy(alloc)?;
     let owner = ToldText::copy_of(alloc, name_of(setup, filter.owner))?;

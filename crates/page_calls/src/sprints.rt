@@ -1,7 +1,7 @@
 // The call `sprints`: all sprints, by number.
-ghost use Rattle.std.specs.Prelude.{◌≡◌, ◌<◌, ◌+◌, ◌++◌, ◌∷◌, [], IfOk, OnOk, length, slice_get};
-ghost use Rattle.std.specs.Option.{option_to_list};
+ghost use Rattle.std.specs.Prelude.{◌≡◌, ◌≤◌, ◌<◌, ◌-◌, List, Some, IfOk, length, take, drop, slice_get};
 ghost use Rattle.tracker_calls.specs.Part.{part_of};
+ghost use Rattle.tracker_calls.specs.declared.listed.ToldSprint.{ToldSprint as Told};
 ghost use Rattle.tracker_machine.specs.Overviews.{sprints_answer, sprints_meaning, sprints_from};
 ghost use Rattle.tracker_state.specs.Plan.{IsPrepared};
 
@@ -30,35 +30,49 @@ fn answered(alloc: Global, state: &State, part: Part) -> Result<Answer, Memory>
     })
 }
 
-// The number of the last sprint of the part, where there are so many.
-fn end_of(part: Part, count: u32) -> u32 {
-    part.from.saturating_add(part.count).min(count)
+// Behind how many sprints the part ends, of which there are so many.
+fn end_of(part: Part, count: u32) -> u32
+    ensures within { result ≤ count }
+    ensures part { (all : List Told) → length all ≡ count →
+        take (result - part.from) (drop part.from all) ≡ part_of part all }
+{
+    let end = u64::from(part.from) + u64::from(part.count);
+    if end < u64::from(count) {
+        end as u32
+    } else {
+        count
+    }
 }
 
 // The sprints behind so many, up to that one.
-fn told_sprints(alloc: Global, state: &State, from: u32, end: u32) -> Result<ToldSprints, Memory> {
+fn told_sprints(alloc: Global, state: &State, from: u32, end: u32) -> Result<ToldSprints, Memory>
+    requires { end ≤ length state.now.machine.sprints }
+    ensures { IfOk result (λ told. told
+        ≡ take (end - from) (drop from (sprints_from 1 state.now.machine.sprints))) }
+{
     let mut told = ToldSprints::new(alloc);
     for place in from..end {
-        put_sprint(alloc, state, SprintNo(place + 1), &mut told)?;
+        told.push(told_sprint(alloc, state, place)?)?;
     }
     Ok(told)
 }
 
-fn put_sprint(
-    alloc: Global,
-    state: &State,
-    sprint: SprintNo,
-    told: &mut ToldSprints,
-) -> Result<(), Memory> {
+// The sprint behind so many.
+fn told_sprint(alloc: Global, state: &State, place: u32) -> Result<ToldSprint, Memory>
+    requires { place < length state.now.machine.sprints }
+    ensures { IfOk result (λ told. slice_get (sprints_from 1 state.now.machine.sprints) place
+        ≡ Some told) }
+{
     let work = state.work();
-    let Some(name) = work.name(sprint) else {
-        return Ok(());
-    };
+    let sprint = SprintNo(place + 1);
     let Some(kept) = work.state(sprint) else {
-        return Ok(());
+        unreachable!()
+    };
+    let Some(name) = work.name(sprint) else {
+        unreachable!()
     };
     let name = name.copy(alloc)?;
-    told.push(ToldSprint {
+    Ok(ToldSprint {
         name,
         sprint,
         state: phase_of(&kept),

@@ -21,25 +21,26 @@ use Rattle.tracker_machine.specs.Meaning.Meaning.{Tells}
 -- ---- filters
 
 -- a caller is told his own filters, and all where he may administer the tracker
-abbrev pub is_told : Machine → ℕ → SavedFilter → Bool
-is_told m caller f = f.owner.0 == caller || may m.setup caller permission.Administer None
+abbrev pub is_told : ℕ → Bool → SavedFilter → Bool
+is_told caller administers f = f.owner.0 == caller || administers
 
 abbrev pub filters_told : Machine → ℕ → List SavedFilter
-filters_told m caller = filter (is_told m caller) m.filters
+filters_told m caller =
+    filter (is_told caller (may m.setup caller permission.Administer None)) m.filters
 
--- a filter with its text as it was saved
-abbrev pub told_filter : Machine → SavedFilter → ToldFilter
-told_filter m f = record {
+-- a filter of one of these users, with its text as it was saved
+abbrev pub told_filter : List (List ℕ) → SavedFilter → ToldFilter
+told_filter users f = record {
   filter = f.no;
   jql = f.text;
   name = f.name;
-  owner = name_at m.setup.users f.owner.0;
+  owner = name_at users f.owner.0;
 }
 
 -- some of those that he is told, and how many these are
 abbrev pub filters_answer : Machine → ℕ → Part → Answer
 filters_answer m caller part =
-    answer.Filters (map (told_filter m) (part_of part (filters_told m caller)))
+    answer.Filters (map (told_filter m.setup.users) (part_of part (filters_told m caller)))
     (length (filters_told m caller))
 
 abbrev pub filters_meaning : Machine → ℕ → Part → Meaning

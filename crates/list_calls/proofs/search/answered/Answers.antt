@@ -14,5 +14,5 @@ returns-clause-answer g c =
     let f : Bor Issue → History = λ i. i.now.history in
     let part = c.args.part in
     let keys = c.in_ok-issues.ensures ∙ ap (map (λ (i : Bor Issue). i.now.history.key)) (c.part_of.ensures ∙ ap (part_of part) c.deref.ensures.value)
-        ∙ sym (map-map (λ (h : History). h.key) f (part_of part c.in_ok-found.found.issues.items)) ∙ ap (map (λ (h : History). h.key)) c.in_ok-found.ensures.issues in
+    ∙ sym (map-map (λ (h : History). h.key) f (part_of part c.in_ok-found.found.issues.items)) ∙ ap (map (λ (h : History). h.key)) c.in_ok-found.ensures.issues in
     both _ _ _ _ keys c.in_ok-found.ensures.total

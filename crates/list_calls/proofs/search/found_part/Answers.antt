@@ -17,9 +17,9 @@ returns-clause-issues g c =
     let old : Bound = c.args.bound.now in
     let new : Bound = c.settle.new.query in
     let same : HoldAlike m c.args.caller.0 (query_of old).condition (query_of new).condition =
-        subst (λ (s : Surroundings). (h : History) → query_holds s h m.moment (option_map view new.cond) ≡ query_holds s h m.moment (option_map view old.cond)) c.context.ensures
-        (subst (λ (at : ℕ). (h : History) → query_holds (surroundings_of c.context.result.now) h at (option_map view new.cond) ≡ query_holds (surroundings_of c.context.result.now) h at (option_map view old.cond)) c.moment.ensures
-        c.settle.ensures.holds) in
+    subst (λ (s : Surroundings). (h : History) → query_holds s h m.moment (option_map view new.cond) ≡ query_holds s h m.moment (option_map view old.cond)) c.context.ensures
+    (subst (λ (at : ℕ). (h : History) → query_holds (surroundings_of c.context.result.now) h at (option_map view new.cond) ≡ query_holds (surroundings_of c.context.result.now) h at (option_map view old.cond)) c.moment.ensures
+    c.settle.ensures.holds) in
     subst (λ (hs : List History). IfOk c.ordered.result (λ found. map (λ i. i.now.history) (part_of c.args.part found.issues.items) ≡ part_of c.args.part hs))
     (in_order_same m c.args.caller.0 (query_of old) (query_of new) (ap (λ (o : OrderBy). o.keys) c.settle.ensures.order) same)
     c.ordered.ensures.issues
@@ -30,9 +30,9 @@ returns-clause-total g c =
     let old : Bound = c.args.bound.now in
     let new : Bound = c.settle.new.query in
     let same : HoldAlike m c.args.caller.0 (query_of old).condition (query_of new).condition =
-        subst (λ (s : Surroundings). (h : History) → query_holds s h m.moment (option_map view new.cond) ≡ query_holds s h m.moment (option_map view old.cond)) c.context.ensures
-        (subst (λ (at : ℕ). (h : History) → query_holds (surroundings_of c.context.result.now) h at (option_map view new.cond) ≡ query_holds (surroundings_of c.context.result.now) h at (option_map view old.cond)) c.moment.ensures
-        c.settle.ensures.holds) in
+    subst (λ (s : Surroundings). (h : History) → query_holds s h m.moment (option_map view new.cond) ≡ query_holds s h m.moment (option_map view old.cond)) c.context.ensures
+    (subst (λ (at : ℕ). (h : History) → query_holds (surroundings_of c.context.result.now) h at (option_map view new.cond) ≡ query_holds (surroundings_of c.context.result.now) h at (option_map view old.cond)) c.moment.ensures
+    c.settle.ensures.holds) in
     subst (λ (hs : List History). IfOk c.ordered.result (λ found. found.total ≡ length hs))
     (found_same m c.args.caller.0 (query_of old).condition (query_of new).condition same)
     c.ordered.ensures.total
