@@ -84,10 +84,10 @@ pub fn found_part<'s, L: Ledger>(
     part: Part,
     steps: &mut Steps<L>,
 ) -> Result<FoundIssues<'s>, Memory>
-    ensures issues { IfOk result (λ found.
-        map (λ i. i.now.history) (part_of part found.issues.items)
+    ensures issues { IfOk result (λ told.
+        map (λ i. i.now.history) (part_of part told.issues.items)
         ≡ part_of part (found_in_order state.now.machine caller.0 (query_of bound.old))) }
-    ensures total { IfOk result (λ found. found.total
+    ensures total { IfOk result (λ told. told.total
         ≡ length (found state.now.machine caller.0 (query_of bound.old).condition)) }
     ensures steps { steps.new ≤ steps.old + length state.now.machine.histories }
 {
@@ -103,10 +103,10 @@ fn ordered<'s, L: Ledger>(
     part: Part,
     steps: &mut Steps<L>,
 ) -> Result<FoundIssues<'s>, Memory>
-    ensures issues { IfOk result (λ found.
-        map (λ i. i.now.history) (part_of part found.issues.items)
+    ensures issues { IfOk result (λ told.
+        map (λ i. i.now.history) (part_of part told.issues.items)
         ≡ part_of part (found_in_order state.now.machine caller.0 (query_of bound.now))) }
-    ensures total { IfOk result (λ found. found.total
+    ensures total { IfOk result (λ told. told.total
         ≡ length (found state.now.machine caller.0 (query_of bound.now).condition)) }
     ensures steps { steps.new ≤ steps.old + length state.now.machine.histories }
 {

@@ -1,8 +1,8 @@
 //! What the calls prepare that tell what there is: issues with their fields, saved filters, boards and sprints.
 #![tactic(auto)]
 
-pub mod boards;
-pub mod filters;
+pub mod board_list;
+pub mod filter_list;
 pub mod issue_list;
-pub mod sprints;
+pub mod sprint_list;
 mod wanted;

@@ -2,7 +2,7 @@ use Rattle.std.proofs.Common.{◌≡◌, ◌++◌, drop, map}
 use Rattle.std.specs.Prelude.{filter}
 use Rattle.tracker_machine.specs.Overviews.{is_told}
 use Rattle.tracker_state.specs.State.{saved_as, saved_filters}
-use Rattle.page_calls.proofs.filters.told_among.Given as goal
+use Rattle.page_calls.proofs.filter_list.told_among.Given as goal
 
 abbrev pub invariant-loop-filter : goal.invariant-loop-filter
 invariant-loop-filter l =

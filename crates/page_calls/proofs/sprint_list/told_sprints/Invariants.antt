@@ -1,6 +1,6 @@
 use Rattle.std.proofs.Common.{◌≡◌, ◌-◌, ◌≤◌, take, drop}
 use Rattle.tracker_machine.specs.Overviews.{sprints_from}
-use Rattle.page_calls.proofs.sprints.told_sprints.Given as goal
+use Rattle.page_calls.proofs.sprint_list.told_sprints.Given as goal
 
 abbrev pub invariant-loop-place : goal.invariant-loop-place
 invariant-loop-place l =
