@@ -1,5 +1,6 @@
 // The call `sprints`: all sprints, by number.
-ghost use Rattle.std.specs.Prelude.{◌≡◌, ◌≤◌, ◌<◌, ◌-◌, List, Some, IfOk, length, take, drop, slice_get};
+ghost use Rattle.std.specs.Prelude.{◌≡◌, ◌≤◌, ◌-◌, List, Some, IfOk, length, take, drop, slice_get};
+ghost use Rattle.sprints.specs.Sprint.{IsThere};
 ghost use Rattle.tracker_calls.specs.Part.{part_of};
 ghost use Rattle.tracker_calls.specs.declared.listed.ToldSprint.{ToldSprint as Told};
 ghost use Rattle.tracker_machine.specs.Overviews.{sprints_answer, sprints_meaning, sprints_from};
@@ -52,19 +53,18 @@ fn told_sprints(alloc: Global, state: &State, from: u32, end: u32) -> Result<Tol
 {
     let mut told = ToldSprints::new(alloc);
     for place in from..end {
-        told.push(told_sprint(alloc, state, place)?)?;
+        told.push(told_sprint(alloc, state, SprintNo(place + 1))?)?;
     }
     Ok(told)
 }
 
-// The sprint behind so many.
-fn told_sprint(alloc: Global, state: &State, place: u32) -> Result<ToldSprint, Memory>
-    requires { place < length state.now.machine.sprints }
-    ensures { IfOk result (λ told. slice_get (sprints_from 1 state.now.machine.sprints) place
+fn told_sprint(alloc: Global, state: &State, sprint: SprintNo) -> Result<ToldSprint, Memory>
+    requires { IsThere state.now.machine.sprints sprint.0 }
+    ensures { IfOk result
+        (λ told. slice_get (sprints_from 1 state.now.machine.sprints) (sprint.0 - 1)
         ≡ Some told) }
 {
     let work = state.work();
-    let sprint = SprintNo(place + 1);
     let Some(kept) = work.state(sprint) else {
         unreachable!()
     };

@@ -1,6 +1,6 @@
 // The fields that a list is asked for.
-ghost use Rattle.std.specs.Prelude.{◌≡◌, ◌==◌, map, filter, IfOk, OnOk, OnErr, ◌++◌, ◌∷◌, []};
-ghost use Rattle.std.specs.List.{list_any};
+ghost use Rattle.std.specs.Prelude.{◌≡◌, ◌++◌, ◌∷◌, [], Some, map, filter, IfOk, OnOk};
+ghost use Rattle.fields.specs.Naming.{field_numbers};
 ghost use Rattle.tracker_machine.specs.IssueList.{fields_refusal, names_are_fields, named_fields};
 ghost use Rattle.tracker_machine.specs.IssueList.{wanted_fields, is_one_of};
 ghost use Rattle.tracker_state.specs.Check.{Checks};
