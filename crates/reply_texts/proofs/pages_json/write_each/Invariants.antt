@@ -7,6 +7,6 @@ use Rattle.reply_texts.proofs.pages_json.write_each.Given as goal
 
 -- what is left to be written comes to the same
 abbrev pub invariant-loop-issue : goal.invariant-loop-issue
-invariant-loop-issue g l =
+invariant-loop-issue l =
     after_items (items_of (map listed_data l.issues)) (l.fn.out ++ token.begin_array ∷ [])
     ≡ after_items (items_of (map listed_data (drop l.issue-index l.issues))) l.out
