@@ -31,6 +31,10 @@ pub enum CallKind {
     Filter,
     Board,
     Burndown,
+    List,
+    Filters,
+    Boards,
+    Sprints,
 }
 
 /// The call of that name. The names that most lines have come first.
@@ -86,6 +90,14 @@ pub fn kind_named(name: &str) -> Option<CallKind>
         Some(CallKind::Board)
     } else if is_same(name, "burndown") {
         Some(CallKind::Burndown)
+    } else if is_same(name, "list") {
+        Some(CallKind::List)
+    } else if is_same(name, "filters") {
+        Some(CallKind::Filters)
+    } else if is_same(name, "boards") {
+        Some(CallKind::Boards)
+    } else if is_same(name, "sprints") {
+        Some(CallKind::Sprints)
     } else {
         None
     }
@@ -122,5 +134,9 @@ pub fn call_members(kind: CallKind) -> &'static [&'static str]
         CallKind::Filter => &["call", "count", "filter", "from", "user"],
         CallKind::Board => &["board", "call", "count", "from", "user"],
         CallKind::Burndown => &["call", "count", "from", "sprint", "user"],
+        CallKind::List => &["call", "count", "fields", "from", "jql", "user"],
+        CallKind::Filters => &["call", "count", "from", "user"],
+        CallKind::Boards => &["call", "count", "from", "user"],
+        CallKind::Sprints => &["call", "count", "from", "user"],
     }
 }

@@ -7,6 +7,7 @@ mod groups_json;
 mod history_json;
 mod laws;
 mod list_json;
+mod pages_json;
 mod ranks_json;
 mod reply_json;
 mod show_json;

@@ -7,14 +7,21 @@ mod cause;
 mod cause_copy;
 mod copied;
 mod given;
+mod listed;
 mod reply;
 mod reply_copy;
 mod told_text;
 mod user_name;
 
-pub use call::{Call, MOST_ENTRIES, MOST_FROM, MOST_LISTED, MOST_MEMBERS, Part};
+pub use call::{
+    Call, MOST_ENTRIES, MOST_FIELDS, MOST_FROM, MOST_LISTED, MOST_MEMBERS, MOST_SHOWN, Part,
+};
 pub use cause::{BalanceKept, Cause, Limit, Thing};
 pub use given::{Given, GivenField, GivenFields, has_twins};
+pub use listed::{
+    ListedIssue, ListedIssues, ToldBoard, ToldBoards, ToldFilter, ToldFilters, ToldSprint,
+    ToldSprints,
+};
 pub use reply::{
     Answer, BalanceState, BurnedRow, BurnedRows, Column, Columns, RankedKey, RankedKeys, Refusal,
     Reply, Shown, ShownField, ShownFields, SprintPhase, ToldEntries, ToldEntry,

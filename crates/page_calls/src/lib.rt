@@ -1,0 +1,8 @@
+//! What the calls prepare that tell what there is: issues with their fields, saved filters, boards and sprints.
+#![tactic(auto)]
+
+pub mod board_list;
+pub mod filter_list;
+pub mod issue_list;
+pub mod sprint_list;
+mod wanted;
