@@ -125,6 +125,7 @@ module _ (ms : Members) (user : List ℕ) where
   looked kind.Sprints = first (from_if_there (object ms)) (codes "from") _ _ refl (λ from.
       first (count_if_there 1000 (object ms)) (codes "count") _ _ refl (λ count.
       told _ _ _ _))
+  looked kind.Describe = told _ _ _ _
 
 -- ---- what a line of the members is answered tells what is answered of the body
 

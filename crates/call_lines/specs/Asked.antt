@@ -96,7 +96,8 @@ kind_named name =
     (if bytes_eq name (codes "list") then Some kind.List else
     (if bytes_eq name (codes "filters") then Some kind.Filters else
     (if bytes_eq name (codes "boards") then Some kind.Boards else
-    (if bytes_eq name (codes "sprints") then Some kind.Sprints else None)))))))))))))))))))))))))))
+    (if bytes_eq name (codes "sprints") then Some kind.Sprints else
+    (if bytes_eq name (codes "describe") then Some kind.Describe else None))))))))))))))))))))))))))))
 
 abbrev pub call_members : CallKind → List (List ℕ)
 call_members kind.Create =
@@ -136,6 +137,7 @@ call_members kind.List =
 call_members kind.Filters = codes "call" ∷ codes "count" ∷ codes "from" ∷ codes "user" ∷ []
 call_members kind.Boards = codes "call" ∷ codes "count" ∷ codes "from" ∷ codes "user" ∷ []
 call_members kind.Sprints = codes "call" ∷ codes "count" ∷ codes "from" ∷ codes "user" ∷ []
+call_members kind.Describe = codes "call" ∷ codes "user" ∷ []
 
 abbrev pub is_member : CallKind → List ℕ → Bool
 is_member kind name = is_among name (call_members kind)
@@ -327,6 +329,10 @@ sprints_of d members user =
     no_other (first_other kind.Sprints (names_of members))
     (Ok (user, call.Sprints (record { from = from; count = count })))))
 
+abbrev pub describe_of : Members → List ℕ → Asked
+describe_of members user =
+    no_other (first_other kind.Describe (names_of members)) (Ok (user, call.Describe))
+
 abbrev pub asked_by : CallKind → Data → Members → List ℕ → Asked
 asked_by kind.Create d members user = create_of d members user
 asked_by kind.Edit d members user = edit_of d members user
@@ -356,6 +362,7 @@ asked_by kind.List d members user = list_of d members user
 asked_by kind.Filters d members user = filters_of d members user
 asked_by kind.Boards d members user = boards_of d members user
 asked_by kind.Sprints d members user = sprints_of d members user
+asked_by kind.Describe d members user = describe_of members user
 
 -- the user and the call, or the first fault in the order of the members
 abbrev pub call_of : Data → Asked

@@ -112,3 +112,16 @@ pub fn sprints_of(
         },
     ))
 }
+
+pub fn describe_of(
+    alloc: Global,
+    members: &mut Map<String, Value>,
+) -> Result<(UserName, Call), Refusal>
+    ensures { UnlessMemory result (asked_in CallKind.Describe members.old) }
+{
+    if let Some(other) = first_other(CallKind::Describe, members) {
+        return misses(alloc, other);
+    }
+    let user = take_user(alloc, members);
+    Ok((user, Call::Describe))
+}

@@ -35,6 +35,7 @@ pub enum CallKind {
     Filters,
     Boards,
     Sprints,
+    Describe,
 }
 
 /// The call of that name. The names that most lines have come first.
@@ -98,6 +99,8 @@ pub fn kind_named(name: &str) -> Option<CallKind>
         Some(CallKind::Boards)
     } else if is_same(name, "sprints") {
         Some(CallKind::Sprints)
+    } else if is_same(name, "describe") {
+        Some(CallKind::Describe)
     } else {
         None
     }
@@ -138,5 +141,6 @@ pub fn call_members(kind: CallKind) -> &'static [&'static str]
         CallKind::Filters => &["call", "count", "from", "user"],
         CallKind::Boards => &["call", "count", "from", "user"],
         CallKind::Sprints => &["call", "count", "from", "user"],
+        CallKind::Describe => &["call", "user"],
     }
 }

@@ -167,6 +167,9 @@ pub enum Call {
     Sprints {
         part: Part,
     },
+
+    /// What the setup and the present say to whoever asks.
+    Describe,
 }
 
 // Written by hand, so that whoever lets one go makes one call, and its proof takes one step there.
@@ -217,7 +220,8 @@ impl Drop for Call {
             }
             | Call::Filters { part: _ }
             | Call::Boards { part: _ }
-            | Call::Sprints { part: _ } => {}
+            | Call::Sprints { part: _ }
+            | Call::Describe => {}
         }
     }
 }

@@ -80,6 +80,7 @@ impl Call {
             Call::Filters { part } => Ok(Call::Filters { part: *part }),
             Call::Boards { part } => Ok(Call::Boards { part: *part }),
             Call::Sprints { part } => Ok(Call::Sprints { part: *part }),
+            Call::Describe => Ok(Call::Describe),
         }
     }
 }

@@ -6,6 +6,8 @@ mod call_copy;
 mod cause;
 mod cause_copy;
 mod copied;
+mod described;
+mod described_copy;
 mod given;
 mod listed;
 mod reply;
@@ -17,6 +19,11 @@ pub use call::{
     Call, MOST_ENTRIES, MOST_FIELDS, MOST_FROM, MOST_LISTED, MOST_MEMBERS, MOST_SHOWN, Part,
 };
 pub use cause::{BalanceKept, Cause, Limit, Thing};
+pub use described::{
+    DescribedParts, Description, ToldField, ToldFields, ToldGroup, ToldGroups, ToldKind,
+    ToldPermissions, ToldProject, ToldProjects, ToldStatus, ToldStatuses, ToldTransition,
+    ToldTransitions,
+};
 pub use given::{Given, GivenField, GivenFields, has_twins};
 pub use listed::{
     ListedIssue, ListedIssues, ToldBoard, ToldBoards, ToldFilter, ToldFilters, ToldSprint,

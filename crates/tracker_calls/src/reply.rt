@@ -2,6 +2,7 @@ ghost use Rattle.std.specs.Prelude.{◌≡◌, ◌∷◌, ◌++◌, [], OnOk, On
 ghost use Rattle.tracker_calls.specs.declared.reply.Refusal.TheVariants.{Memory as OutOfMemory};
 
 use crate::cause::Cause;
+use crate::described::Description;
 use crate::listed::{ListedIssues, ToldBoards, ToldFilters, ToldSprints};
 use crate::told_text::ToldText;
 use field_values::{BoardNo, FilterNo, Memory, Moment, Names, Sequence, SprintNo, Text};
@@ -183,6 +184,11 @@ pub enum Answer {
     Sprints {
         sprints: ToldSprints,
         total: u64,
+    },
+
+    /// What the setup and the present say to the caller.
+    Describe {
+        told: Description,
     },
 }
 

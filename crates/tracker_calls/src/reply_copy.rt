@@ -106,6 +106,10 @@ impl Answer {
             Answer::Filters { filters, total } => copy_filters(alloc, filters, *total),
             Answer::Boards { boards, total } => copy_boards(alloc, boards, *total),
             Answer::Sprints { sprints, total } => copy_sprints(alloc, sprints, *total),
+            Answer::Describe { told } => {
+                let told = told.copy(alloc)?;
+                Ok(Answer::Describe { told })
+            }
         }
     }
 }

@@ -30,5 +30,6 @@ pub mod Boards
 pub mod Sprints
 pub mod IssueList
 pub mod Overviews
+pub mod Describe
 pub mod Step
 pub mod Laws

@@ -23,6 +23,7 @@ use Rattle.tracker_machine.specs.Filters.{save_filter_meaning, drop_filter_meani
 use Rattle.tracker_machine.specs.Boards.{make_board_meaning, drop_board_meaning, board_meaning}
 use Rattle.tracker_machine.specs.Sprints.{make_sprint_meaning, start_sprint_meaning, close_sprint_meaning, burndown_meaning}
 use Rattle.tracker_machine.specs.IssueList.{list_meaning}
+use Rattle.tracker_machine.specs.Describe.{describe_meaning}
 use Rattle.tracker_machine.specs.Overviews.{filters_meaning, boards_meaning, sprints_meaning}
 
 -- the call of a user, who is known, by place
@@ -57,6 +58,7 @@ meaning_for m user (call.List jql fields part) = list_meaning m user jql fields 
 meaning_for m user (call.Filters part) = filters_meaning m user part
 meaning_for m user (call.Boards part) = boards_meaning m part
 meaning_for m user (call.Sprints part) = sprints_meaning m part
+meaning_for m user call.Describe = describe_meaning m user
 
 -- the fault of a call's form; a call that was read from a line has none
 unfoldable pub form_refusal : Call → Option Cause

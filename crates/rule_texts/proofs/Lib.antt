@@ -1,0 +1,6 @@
+mod Cut
+mod Tests
+mod Conditions
+mod Fields
+mod Validators
+mod PostFunctions
