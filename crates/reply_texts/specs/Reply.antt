@@ -5,6 +5,7 @@ use Rattle.serde_json.specs.View.{items_of}
 use Rattle.serde_json.specs.Written.{compact_text}
 use Rattle.field_forms.specs.TextLists.{texts_data}
 use Rattle.json_texts.specs.JsonData.{natural, integer, natural_or_null, text_or_null}
+use Rattle.reply_texts.specs.Described.{describe_data}
 use Rattle.tracker_calls.specs.declared.reply.Reply.{Reply}
 use Rattle.tracker_calls.specs.declared.reply.Reply.TheVariants as reply
 use Rattle.tracker_calls.specs.declared.reply.Answer.{Answer}
@@ -24,18 +25,6 @@ use Rattle.tracker_calls.specs.declared.listed.ListedIssue.{ListedIssue}
 use Rattle.tracker_calls.specs.declared.listed.ToldFilter.{ToldFilter}
 use Rattle.tracker_calls.specs.declared.listed.ToldBoard.{ToldBoard}
 use Rattle.tracker_calls.specs.declared.listed.ToldSprint.{ToldSprint}
-use Rattle.tracker_calls.specs.declared.described.DescribedParts.{DescribedParts}
-use Rattle.tracker_calls.specs.declared.described.ToldField.{ToldField}
-use Rattle.tracker_calls.specs.declared.described.ToldGroup.{ToldGroup}
-use Rattle.tracker_calls.specs.declared.described.ToldKind.{ToldKind}
-use Rattle.tracker_calls.specs.declared.described.ToldProject.{ToldProject}
-use Rattle.tracker_calls.specs.declared.described.ToldStatus.{ToldStatus}
-use Rattle.tracker_calls.specs.declared.described.ToldTransition.{ToldTransition}
-use Rattle.tracker_calls.specs.declared.described.ToldKind.TheVariants as kinds
-use Rattle.field_values.specs.declared.words.Weekday.{Weekday}
-use Rattle.field_values.specs.declared.words.Weekday.TheVariants as day
-use Rattle.field_values.specs.declared.words.Category.{Category}
-use Rattle.field_values.specs.declared.words.Category.TheVariants as category
 use Rattle.tracker_calls.specs.declared.reply.SprintPhase.{SprintPhase}
 use Rattle.tracker_calls.specs.declared.reply.SprintPhase.TheVariants as phase
 use Rattle.field_values.specs.declared.rules.Permission.{Permission}
@@ -278,84 +267,6 @@ abbrev pub sprints_data : List ToldSprint → ℕ → Data
 sprints_data sprints total = object
     (member (codes "sprints") (array (items_of (map told_sprint_data sprints)))
     (member (codes "total") (natural total) no_members))
-
--- the words of the setup
-abbrev pub weekday_name : Weekday → List ℕ
-weekday_name day.Monday = codes "monday"
-weekday_name day.Tuesday = codes "tuesday"
-weekday_name day.Wednesday = codes "wednesday"
-weekday_name day.Thursday = codes "thursday"
-weekday_name day.Friday = codes "friday"
-weekday_name day.Saturday = codes "saturday"
-weekday_name day.Sunday = codes "sunday"
-
-abbrev pub category_name : Category → List ℕ
-category_name category.ToDo = codes "todo"
-category_name category.InProgress = codes "progress"
-category_name category.Done = codes "done"
-
-abbrev pub kind_name : ToldKind → List ℕ
-kind_name kinds.Choice = codes "choice"
-kind_name kinds.Date = codes "date"
-kind_name kinds.Labels = codes "labels"
-kind_name kinds.Number = codes "number"
-kind_name kinds.Set = codes "set"
-kind_name kinds.Sprint = codes "sprint"
-kind_name kinds.Text = codes "text"
-kind_name kinds.User = codes "user"
-
--- the names that a value may have, where the field's kind has any
-abbrev pub options_members : Option (List (List ℕ)) → Members
-options_members None = no_members
-options_members (Some options) = member (codes "options") (texts_data options) no_members
-
-abbrev pub told_field_data : ToldField → Data
-told_field_data f = object
-    (member (codes "kind") (string (kind_name f.kind))
-    (member (codes "name") (string f.name)
-    (member (codes "number") (natural f.number.0) (options_members f.options))))
-
-abbrev pub told_group_data : ToldGroup → Data
-told_group_data g = object
-    (member (codes "group") (string g.group)
-    (member (codes "members") (texts_data g.members) no_members))
-
-abbrev pub told_project_data : ToldProject → Data
-told_project_data p = object
-    (member (codes "key") (string p.key)
-    (member (codes "lead") (string p.lead)
-    (member (codes "may") (texts_data (map permission_name p.may)) no_members)))
-
-abbrev pub told_status_data : ToldStatus → Data
-told_status_data s = object
-    (member (codes "category") (string (category_name s.category))
-    (member (codes "status") (string s.status) no_members))
-
-abbrev pub told_transition_data : ToldTransition → Data
-told_transition_data t = object
-    (member (codes "conditions") (texts_data t.conditions)
-    (member (codes "from") (texts_data t.from)
-    (member (codes "post") (texts_data t.post)
-    (member (codes "to") (string t.to)
-    (member (codes "transition") (string t.transition)
-    (member (codes "validators") (texts_data t.validators) no_members))))))
-
-abbrev pub describe_data : DescribedParts → Data
-describe_data d = object
-    (member (codes "administer") (boolean d.administer)
-    (member (codes "fields") (array (items_of (map told_field_data d.fields)))
-    (member (codes "first_status") (string d.first_status)
-    (member (codes "groups") (array (items_of (map told_group_data d.groups)))
-    (member (codes "moment") (natural d.moment)
-    (member (codes "offset_minutes") (integer d.offset_minutes)
-    (member (codes "plan") (boolean d.plan)
-    (member (codes "projects") (array (items_of (map told_project_data d.projects)))
-    (member (codes "rebalancer") (string d.rebalancer)
-    (member (codes "statuses") (array (items_of (map told_status_data d.statuses)))
-    (member (codes "transitions") (array (items_of (map told_transition_data d.transitions)))
-    (member (codes "user") (string d.user)
-    (member (codes "users") (texts_data d.users)
-    (member (codes "week_starts") (string (weekday_name d.week_starts)) no_members))))))))))))))
 
 abbrev pub answer_data : Answer → Data
 answer_data (answer.Create already change issue) = create_data already change issue

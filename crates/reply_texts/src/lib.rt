@@ -2,6 +2,8 @@
 #![tactic(auto)]
 
 mod cause_json;
+mod described_json;
+mod described_words;
 mod filters_json;
 mod groups_json;
 mod history_json;

@@ -6,6 +6,7 @@ ghost use Rattle.reply_texts.specs.Reply.{edit_data, tick_data, search_data, ref
 ghost use Rattle.reply_texts.specs.Reply.{number_data};
 
 use crate::cause_json::write_cause;
+use crate::described_json::write_describe;
 use crate::filters_json::{
     write_board, write_board_number, write_filter_number, write_save_filter,
 };
@@ -117,6 +118,7 @@ fn write_answer(alloc: Global, out: &mut JsonText, answer: &Answer) -> Result<()
         Answer::Filters { filters, total } => write_filters(out, filters.as_slice(), *total),
         Answer::Boards { boards, total } => write_boards(out, boards.as_slice(), *total),
         Answer::Sprints { sprints, total } => write_sprints(out, sprints.as_slice(), *total),
+        Answer::Describe { told } => write_describe(out, told),
     }
 }
 

@@ -16,7 +16,11 @@ use std::alloc::Global;
 fn group_name(setup: &Setup, group: GroupNo) -> &str
     ensures { result.now ≡ name_at (names setup.now).groups (group.0 - 1) }
 {
-    match setup.group.as_slice().get(usize::from(group.0.saturating_sub(1))) {
+    match setup
+        .group
+        .as_slice()
+        .get(usize::from(group.0.saturating_sub(1)))
+    {
         Some(group) => group.name.as_str(),
         None => "",
     }
@@ -58,11 +62,7 @@ fn put_tests(text: &mut String, setup: &Setup, tests: &[CallerTest]) -> Result<(
 
 /// The text of a condition, which states it.
 #[tactic(auto, unfolding(crate::specs::RuleTexts::condition_text))]
-pub fn condition_text(
-    alloc: Global,
-    setup: &Setup,
-    condition: &Condition,
-) -> Result<Text, Memory>
+pub fn condition_text(alloc: Global, setup: &Setup, condition: &Condition) -> Result<Text, Memory>
     ensures { IfOk result (λ text. text ≡ condition_text (names setup.now) condition.now) }
 {
     let mut text = String::new(alloc);

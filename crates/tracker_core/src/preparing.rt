@@ -24,6 +24,7 @@ use list_calls::make_board::make_board;
 use list_calls::save_filter::save_filter;
 use list_calls::search::search;
 use page_calls::board_list::boards;
+use page_calls::describe::describe;
 use page_calls::filter_list::filters;
 use page_calls::issue_list::list;
 use page_calls::sprint_list::sprints;
@@ -174,6 +175,7 @@ fn prepare_for<L: Ledger>(
         Call::Filters { part } => filters(alloc, state, user, *part),
         Call::Boards { part } => boards(alloc, state, *part),
         Call::Sprints { part } => sprints(alloc, state, *part),
+        Call::Describe => describe(alloc, state, user),
     }
 }
 
@@ -319,6 +321,7 @@ fn fault_of_form(alloc: Global, call: &Call) -> Result<Option<&'static str>, Mem
         | Call::Show { .. }
         | Call::RebalanceStart
         | Call::Balance
+        | Call::Describe
         | Call::DropFilter { .. }
         | Call::DropBoard { .. }
         | Call::StartSprint { .. }

@@ -50,6 +50,7 @@ use Rattle.tracker_machine.specs.Query.{Query, asked}
 use Rattle.tracker_machine.specs.Search.{comes_before, found, listed, search_answer, searched, search_meaning}
 use Rattle.tracker_machine.specs.IssueList.{fields_refusal, list_answer, list_meaning, listed_issue, issues_listed, wanted_fields}
 use Rattle.tracker_machine.specs.Overviews.{filters_meaning, boards_meaning, sprints_meaning}
+use Rattle.tracker_machine.specs.Describe.{describe_meaning}
 use Rattle.tracker_machine.specs.Saved.{SavedFilter, saved_query}
 use Rattle.tracker_machine.specs.Filters.{filter_numbered, shown, filter_answer, filter_told, filter_meaning}
 use Rattle.tracker_machine.specs.Boards.{by_rank, board_issues, board_numbered, columns_from, board_answer, board_told, board_meaning}
@@ -278,6 +279,7 @@ module _ (m : Machine) (order : List Pair) (balance : Balance) (has : HasRanks m
   call_alike user (call.Filters part) form other = same_alike (filters_meaning m user part) (filters_meaning new user part) refl tt
   call_alike user (call.Boards part) form other = same_alike (boards_meaning m part) (boards_meaning new part) refl tt
   call_alike user (call.Sprints part) form other = same_alike (sprints_meaning m part) (sprints_meaning new part) refl tt
+  call_alike user call.Describe form other = same_alike (describe_meaning m user) (describe_meaning new user) refl tt
 
   pub meaning_alike : (caller : List ℕ) (c : Call) → rebalances c ≡ false → Alike (meaning m caller c) (meaning new caller c)
   unfolding meaning

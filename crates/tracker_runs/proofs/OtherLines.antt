@@ -69,6 +69,7 @@ call_plain m user (call.List jql fields part) other = list_plain m user jql fiel
 call_plain m user (call.Filters part) other = tt
 call_plain m user (call.Boards part) other = tt
 call_plain m user (call.Sprints part) other = tt
+call_plain m user call.Describe other = tt
 
 meaning_plain : (m : Machine) (user : List ℕ) (c : Call) → changes_ranks c ≡ false → IsPlain (meaning m user c)
 unfolding meaning
