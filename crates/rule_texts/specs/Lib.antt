@@ -1,2 +1,1 @@
 pub mod RuleTexts
-pub mod ReadBack

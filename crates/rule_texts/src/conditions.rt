@@ -1,8 +1,8 @@
 // The texts of conditions.
-ghost use Rattle.std.specs.Prelude.{◌≡◌, ◌++◌, ◌-◌, map, IfOk, OnOk};
+ghost use Rattle.std.specs.Prelude.{◌≡◌, ◌++◌, ◌-◌, IfOk, OnOk, string_bytes};
 ghost use Rattle.fields.specs.SetupParts.{names};
 ghost use Rattle.fields.specs.Naming.{name_at};
-ghost use Rattle.rule_texts.specs.RuleTexts.{test_text, tests_text, condition_text};
+ghost use Rattle.rule_texts.specs.RuleTexts.{test_text, more_tests_text, tests_text, condition_text};
 
 use field_forms::rule_text::permission_name;
 use field_values::memory::Memory;
@@ -10,7 +10,7 @@ use field_values::numbers::GroupNo;
 use field_values::rules::{CallerTest, Condition};
 use field_values::text::Text;
 use fields::Setup;
-use std::alloc::Global;
+use std::alloc::{AllocError, Global};
 
 /// The name of a group as the setup spells it; an empty text where there is none of that number.
 fn group_name(setup: &Setup, group: GroupNo) -> &str
@@ -27,51 +27,67 @@ fn group_name(setup: &Setup, group: GroupNo) -> &str
 }
 
 /// Puts the text of a test behind what is there.
-fn put_test(text: &mut String, setup: &Setup, test: CallerTest) -> Result<(), Memory>
-    ensures { OnOk result (text.new ≡ text.old ++ test_text (names setup.now) test) }
+fn put_test(text: &mut String, setup: &Setup, test: CallerTest) -> Result<(), AllocError>
+    ensures { OnOk result (string_bytes text.new
+        ≡ string_bytes text.old ++ test_text (names setup.now) test) }
 {
     match test {
-        CallerTest::IsAssignee => text.push_str("assignee")?,
-        CallerTest::IsReporter => text.push_str("reporter")?,
+        CallerTest::IsAssignee => write!(text, "assignee"),
+        CallerTest::IsReporter => write!(text, "reporter"),
         CallerTest::InGroup(group) => {
-            text.push_str("group:")?;
-            text.push_str(group_name(setup, group))?;
+            let name = group_name(setup, group);
+            write!(text, "group:{name}")
         }
         CallerTest::HasPermission(permission) => {
-            text.push_str("permission:")?;
-            text.push_str(permission_name(permission))?;
+            let name = permission_name(permission);
+            write!(text, "permission:{name}")
         }
     }
-    Ok(())
 }
 
-/// Puts the texts of tests behind what is there, with `|` between them.
-fn put_tests(text: &mut String, setup: &Setup, tests: &[CallerTest]) -> Result<(), Memory>
-    ensures { OnOk result (text.new ≡ text.old ++ tests_text (names setup.now) tests.now) }
+/// Puts the texts of tests behind what is there, each behind a `|`.
+fn put_more_tests(text: &mut String, setup: &Setup, tests: &[CallerTest]) -> Result<(), AllocError>
+    ensures { OnOk result (string_bytes text.new
+        ≡ string_bytes text.old ++ more_tests_text (names setup.now) tests.now) }
 {
-    let Some((first, more)) = tests.split_first() else {
-        return Ok(());
-    };
-    put_test(text, setup, *first)?;
-    for test in more {
+    for test in tests {
         text.push('|')?;
         put_test(text, setup, *test)?;
     }
     Ok(())
 }
 
-/// The text of a condition, which states it.
+/// Puts the texts of tests behind what is there, with `|` between them.
+fn put_tests(text: &mut String, setup: &Setup, tests: &[CallerTest]) -> Result<(), AllocError>
+    ensures { OnOk result (string_bytes text.new
+        ≡ string_bytes text.old ++ tests_text (names setup.now) tests.now) }
+{
+    let Some((first, more)) = tests.split_first() else {
+        return Ok(());
+    };
+    put_test(text, setup, *first)?;
+    put_more_tests(text, setup, more)
+}
+
 #[tactic(auto, unfolding(crate::specs::RuleTexts::condition_text))]
+fn put_condition(text: &mut String, setup: &Setup, condition: &Condition) -> Result<(), AllocError>
+    ensures { OnOk result (string_bytes text.new
+        ≡ string_bytes text.old ++ condition_text (names setup.now) condition.now) }
+{
+    match condition {
+        Condition::Test(test) => put_test(text, setup, *test),
+        Condition::AnyOf(tests) => {
+            write!(text, "any:")?;
+            put_tests(text, setup, tests.as_slice())
+        }
+    }
+}
+
+/// The text of a condition, which states it.
 pub fn condition_text(alloc: Global, setup: &Setup, condition: &Condition) -> Result<Text, Memory>
     ensures { IfOk result (λ text. text ≡ condition_text (names setup.now) condition.now) }
 {
     let mut text = String::new(alloc);
-    match condition {
-        Condition::Test(test) => put_test(&mut text, setup, *test)?,
-        Condition::AnyOf(tests) => {
-            text.push_str("any:")?;
-            put_tests(&mut text, setup, tests.as_slice())?;
-        }
-    }
+    put_condition(&mut text, setup, condition)?;
     Ok(Text::of(text))
 }

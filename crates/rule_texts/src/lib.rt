@@ -2,7 +2,7 @@
 #![tactic(auto)]
 
 mod conditions;
-pub mod laws;
+mod named;
 mod post_functions;
 mod validators;
 

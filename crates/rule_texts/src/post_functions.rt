@@ -1,11 +1,12 @@
 // The texts of post functions.
-ghost use Rattle.std.specs.Prelude.{◌≡◌, ◌++◌, true, IfOk, OnOk};
+ghost use Rattle.std.specs.Prelude.{◌≡◌, ◌++◌, ◌∷◌, codes, true, IfOk};
 ghost use Rattle.field_forms.specs.Known.{choices_of, fits};
 ghost use Rattle.field_forms.specs.SoundRules.{post_is_sound};
 ghost use Rattle.fields.specs.SetupParts.{names};
-ghost use Rattle.fields.specs.Naming.{name_at};
+ghost use Rattle.fields.specs.Naming.{name_at, field_name};
 ghost use Rattle.rule_texts.specs.RuleTexts.{value_text, post_text};
 
+use crate::named::named;
 use field_values::memory::Memory;
 use field_values::numbers::{ChoiceNo, FieldNo};
 use field_values::rules::PostFunction;
@@ -14,26 +15,16 @@ use field_values::value::Value;
 use fields::Setup;
 use std::alloc::Global;
 
-/// Puts the text of a value that fits a field behind what is there.
-fn put_value(
-    text: &mut String,
-    alloc: Global,
-    setup: &Setup,
-    field: FieldNo,
-    value: &Value,
-) -> Result<(), Memory>
+/// The text of a value that fits a field.
+fn value_text(alloc: Global, setup: &Setup, field: FieldNo, value: &Value) -> Result<Text, Memory>
     requires { fits (names setup.now) field.0 value.now ≡ true }
-    ensures { OnOk result
-        (text.new ≡ text.old ++ value_text (choices_of (names setup.now) field.0) value.now) }
+    ensures { IfOk result
+        (λ text. text ≡ value_text (choices_of (names setup.now) field.0) value.now) }
 {
     match value {
-        Value::Empty => text.push_str("[]")?,
-        _ => {
-            let value_text = setup.text_of(alloc, field, value)?;
-            text.push_str(value_text.as_str())?;
-        }
+        Value::Empty => Text::copy_of(alloc, "[]"),
+        _ => setup.text_of(alloc, field, value),
     }
-    Ok(())
 }
 
 fn resolution_name(setup: &Setup, resolution: ChoiceNo) -> &str
@@ -45,31 +36,33 @@ fn resolution_name(setup: &Setup, resolution: ChoiceNo) -> &str
     }
 }
 
+/// What sets a field to a value.
+fn set_text(alloc: Global, setup: &Setup, field: FieldNo, value: &Value) -> Result<Text, Memory>
+    requires { fits (names setup.now) field.0 value.now ≡ true }
+    ensures { IfOk result (λ text. text
+        ≡ codes "set:" ++ (field_name setup.now.field field.0
+        ++ 61 ∷ value_text (choices_of (names setup.now) field.0) value.now)) }
+{
+    let name = setup.field_name(field);
+    let value = value_text(alloc, setup, field, value)?;
+    let text = value.as_str();
+    Ok(Text::of(format!(in alloc; "set:{name}={text}")?))
+}
+
 /// The text of a post function, which states it.
 #[tactic(auto, unfolding(crate::specs::RuleTexts::post_text))]
 pub fn post_text(alloc: Global, setup: &Setup, post: &PostFunction) -> Result<Text, Memory>
     requires { post_is_sound (names setup.now) post.now ≡ true }
     ensures { IfOk result (λ text. text ≡ post_text (names setup.now) post.now) }
 {
-    let mut text = String::new(alloc);
     match post {
-        PostFunction::Set(field, value) => {
-            text.push_str("set:")?;
-            text.push_str(setup.field_name(*field))?;
-            text.push('=')?;
-            put_value(&mut text, alloc, setup, *field, value)?;
-        }
-        PostFunction::Clear(field) => {
-            text.push_str("clear:")?;
-            text.push_str(setup.field_name(*field))?;
-        }
-        PostFunction::AssignCaller => text.push_str("assign:caller")?,
-        PostFunction::AssignReporter => text.push_str("assign:reporter")?,
-        PostFunction::AssignLead => text.push_str("assign:lead")?,
+        PostFunction::Set(field, value) => set_text(alloc, setup, *field, value),
+        PostFunction::Clear(field) => named(alloc, "clear:", setup.field_name(*field)),
+        PostFunction::AssignCaller => Text::copy_of(alloc, "assign:caller"),
+        PostFunction::AssignReporter => Text::copy_of(alloc, "assign:reporter"),
+        PostFunction::AssignLead => Text::copy_of(alloc, "assign:lead"),
         PostFunction::Resolution(resolution) => {
-            text.push_str("resolution:")?;
-            text.push_str(resolution_name(setup, *resolution))?;
+            named(alloc, "resolution:", resolution_name(setup, *resolution))
         }
     }
-    Ok(Text::of(text))
 }

@@ -1,8 +1,9 @@
 // The texts of validators.
-ghost use Rattle.std.specs.Prelude.{◌≡◌, ◌++◌, IfOk};
+ghost use Rattle.std.specs.Prelude.{◌≡◌, IfOk};
 ghost use Rattle.fields.specs.SetupParts.{names};
 ghost use Rattle.rule_texts.specs.RuleTexts.{validator_text};
 
+use crate::named::named;
 use field_forms::rule_text::permission_name;
 use field_values::memory::Memory;
 use field_values::rules::Validator;
@@ -15,21 +16,12 @@ use std::alloc::Global;
 pub fn validator_text(alloc: Global, setup: &Setup, validator: Validator) -> Result<Text, Memory>
     ensures { IfOk result (λ text. text ≡ validator_text (names setup.now) validator) }
 {
-    let mut text = String::new(alloc);
     match validator {
-        Validator::Due => text.push_str("due")?,
-        Validator::Required(field) => {
-            text.push_str("required:")?;
-            text.push_str(setup.field_name(field))?;
-        }
-        Validator::Changed(field) => {
-            text.push_str("changed:")?;
-            text.push_str(setup.field_name(field))?;
-        }
+        Validator::Due => Text::copy_of(alloc, "due"),
+        Validator::Required(field) => named(alloc, "required:", setup.field_name(field)),
+        Validator::Changed(field) => named(alloc, "changed:", setup.field_name(field)),
         Validator::Permission(permission) => {
-            text.push_str("permission:")?;
-            text.push_str(permission_name(permission))?;
+            named(alloc, "permission:", permission_name(permission))
         }
     }
-    Ok(Text::of(text))
 }

@@ -1,6 +1,0 @@
-mod Cut
-mod Tests
-mod Conditions
-mod Fields
-mod Validators
-mod PostFunctions
