@@ -16,6 +16,7 @@ use fields::Setup;
 use std::alloc::Global;
 
 /// The text of a value that fits a field.
+#[tactic(auto, using(crate::proofs::Texts::made_is))]
 fn value_text(alloc: Global, setup: &Setup, field: FieldNo, value: &Value) -> Result<Text, Memory>
     requires { fits (names setup.now) field.0 value.now ≡ true }
     ensures { IfOk result

@@ -1,12 +1,14 @@
 -- A text that is put together at a byte is cut there again.
-use Rattle.std.proofs.Common.{◌≡◌, ℕ, ◌+◌, ◌<◌, ◌==◌, List, [], ◌∷◌, ◌++◌, length, map, Bool, true, false, not, ◌||◌, Option, Some, None, refl, ap, sym, ◌∙◌, arith, subst, inl, inr, take, drop, nat_lt}
+use Rattle.std.proofs.Common.{◌≡◌, ℕ, zero, suc, ◌+◌, ◌<◌, ◌==◌, List, [], ◌∷◌, ◌++◌, length, map, Bool, true, false, not, ◌||◌, Option, Some, None, option_and_then, refl, ap, sym, ◌∙◌, arith, subst, inl, inr, take, drop, nat_lt}
+use Rattle.std.specs.Prelude.{IfSome, codes}
 use Rattle.std.specs.List.{list_any, position_or_len, before_first, after_first}
 use Rattle.std.specs.Str.{bytes_eq, str_eq_ignore_ascii_case, str_to_ascii_lowercase}
 use Rattle.std.specs.Char.{to_ascii_lowercase}
-use Rattle.std.proofs.lemmas.Bool.{cases_Bool, eqb-true}
+use Rattle.std.proofs.lemmas.Bool.{cases_Bool}
 use Rattle.std.proofs.lemmas.Grind.{common_steps}
 use Rattle.std.proofs.lemmas.Slice.Eq.{bytes_eq-Decides}
 use Rattle.field_forms.specs.Cuts.{cut_at, pieces_at}
+use Rattle.field_forms.specs.Rules.{after_colon}
 use Rattle.field_forms.proofs.Cutting.{cut_some, pieces_cut}
 
 -- the byte stands in the text
@@ -28,3 +30,97 @@ pub cut_behind : (mark : ℕ) (word rest : List ℕ) → has_byte mark word ≡ 
 cut_behind mark word rest none =
     let at : position_or_len (λ b. b == mark) (word ++ mark ∷ rest) ≡ length word = position_behind mark word rest none in
     grind (arith, common_steps, at)
+
+-- ---- bytes that are no letters
+
+-- small and capital letters are told apart from it
+abbrev pub IsNoLetter : ℕ → Type 0
+IsNoLetter mark = (b : ℕ) → (to_ascii_lowercase b == mark) ≡ (b == mark)
+
+pub bar_is_no_letter : IsNoLetter 124
+bar_is_no_letter b = elim (cases_Bool (nat_lt b 65)) [
+  | inl low ↦ rw low refl
+  | inr high ↦ elim (cases_Bool (nat_lt b 91)) [
+    | inl letter ↦
+        let one : (b + 32 == 124) ≡ false = grind (arith, letter) in
+        let other : (b == 124) ≡ false = grind (arith, letter) in
+        rw (high, letter, one, other) refl
+    | inr more ↦ rw (high, more) refl
+  ]
+]
+
+pub equals_is_no_letter : IsNoLetter 61
+equals_is_no_letter b = elim (cases_Bool (nat_lt b 65)) [
+  | inl low ↦ rw low refl
+  | inr high ↦ elim (cases_Bool (nat_lt b 91)) [
+    | inl letter ↦
+        let one : (b + 32 == 61) ≡ false = grind (arith, high) in
+        let other : (b == 61) ≡ false = grind (arith, high) in
+        rw (high, letter, one, other) refl
+    | inr more ↦ rw (high, more) refl
+  ]
+]
+
+lowered : (mark : ℕ) → IsNoLetter mark → (text : List ℕ) → has_byte mark (str_to_ascii_lowercase text) ≡ has_byte mark text
+lowered mark apart [] = refl
+lowered mark apart (b ∷ text) = rw (apart b, lowered mark apart text) refl
+
+-- where two texts are the same but for letters, one has it where the other has
+pub same_bytes : (mark : ℕ) → IsNoLetter mark → (one other : List ℕ) → str_eq_ignore_ascii_case one other ≡ true → has_byte mark other ≡ false → has_byte mark one ≡ false
+same_bytes mark apart one other same none =
+    let is : str_to_ascii_lowercase one ≡ str_to_ascii_lowercase other = (bytes_eq-Decides (str_to_ascii_lowercase one) (str_to_ascii_lowercase other)).0 same in
+    sym (lowered mark apart one) ∙ ap (has_byte mark) is ∙ lowered mark apart other ∙ none
+
+-- ---- the parts of a cut
+
+-- there is none before the first
+pub none_before : (mark : ℕ) (text : List ℕ) → has_byte mark (before_first (λ b. b == mark) text) ≡ false
+none_before mark [] = refl
+none_before mark (b ∷ text) = elim (cases_Bool (b == mark)) [
+  | inl here ↦ rw here refl
+  | inr other ↦ rw (other, none_before mark text) refl
+]
+
+none_dropped : (mark n : ℕ) (text : List ℕ) → has_byte mark text ≡ false → has_byte mark (drop n text) ≡ false
+none_dropped mark zero text none = none
+none_dropped mark (suc n) [] none = refl
+none_dropped mark (suc n) (b ∷ text) none = elim (cases_Bool (b == mark)) [
+  | inl here ↦ absurd (grind (arith, here, none))
+  | inr other ↦ none_dropped mark n text (grind (arith, other, none))
+]
+
+-- the parts of a text before and behind the first such byte, where there is one
+pub parts_are : (mark : ℕ) (text : List ℕ) (parts : List ℕ × List ℕ) → cut_at mark text ≡ Some parts
+    → (before_first (λ b. b == mark) text ≡ parts.0) × (after_first (λ b. b == mark) text ≡ parts.1)
+parts_are mark text parts is = by (nat_lt (position_or_len (λ b. b == mark) text) (length text)) is where
+  by : (test : Bool) → (if test then Some (before_first (λ b. b == mark) text, after_first (λ b. b == mark) text) else None) ≡ Some parts
+      → (before_first (λ b. b == mark) text ≡ parts.0) × (after_first (λ b. b == mark) text ≡ parts.1)
+  by true e = (cc, cc)
+  by false e = absurd (cc)
+
+-- a byte that isn't in the text isn't in what is behind the cut
+pub none_behind : (other mark : ℕ) (text : List ℕ) (parts : List ℕ × List ℕ) → has_byte other text ≡ false → cut_at mark text ≡ Some parts → has_byte other parts.1 ≡ false
+none_behind other mark text parts none is =
+    ap (has_byte other) (sym (parts_are mark text parts is).1) ∙ none_dropped other (position_or_len (λ b. b == mark) text + 1) text none
+
+-- the byte of the cut isn't before it
+pub none_in_front : (mark : ℕ) (text : List ℕ) (parts : List ℕ × List ℕ) → cut_at mark text ≡ Some parts → has_byte mark parts.0 ≡ false
+none_in_front mark text parts is = ap (has_byte mark) (sym (parts_are mark text parts is).0) ∙ none_before mark text
+
+-- ---- what is made of a word and of what is behind the colon
+
+pub after_holds : {Y : Type 0} (meaning : List ℕ → List ℕ → Option Y) (P : Y → Type 0) (text : List ℕ)
+    → ((parts : List ℕ × List ℕ) → cut_at 58 text ≡ Some parts → IfSome (meaning parts.0 parts.1) P) → IfSome (after_colon meaning text) P
+after_holds meaning P text holds = by (cut_at 58 text) refl where
+  by : (parts : Option (List ℕ × List ℕ)) → cut_at 58 text ≡ parts → IfSome (option_and_then (λ p. meaning p.0 p.1) parts) P
+  by None is = tt
+  by (Some parts) is = holds parts is
+
+-- what holds of the thing that is there
+pub holds_of : {Y : Type 0} (P : Y → Type 0) (found : Option Y) (y : Y) → IfSome found P → found ≡ Some y → P y
+holds_of P None y h is = absurd (cc)
+holds_of P (Some x) y h is = let same : x ≡ y = cc in subst P same h
+
+-- a word, a colon and what is behind it
+pub word_means : {Y : Type 0} (meaning : List ℕ → List ℕ → Option Y) (word rest : List ℕ) → has_byte 58 word ≡ false → after_colon meaning (word ++ 58 ∷ rest) ≡ meaning word rest
+word_means meaning word rest none = ap (option_and_then (λ p. meaning p.0 p.1)) (cut_behind 58 word rest none)
