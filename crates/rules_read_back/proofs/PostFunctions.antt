@@ -33,9 +33,9 @@ module _ (parts : Parts) (sound : IsSound parts) where
   -- ---- a field that is set
 
   set_back : (name text : List ℕ) → has_byte 61 name ≡ false → IfSome (setting_of names name text) Back
+  unfolding post_of post_text
   set_back name text none = by (settable_named names name) refl where
     by_value : (n : ℕ) → settable_named names name ≡ Some n → (found : Option Value) → value_of names n text ≡ found → IfSome (option_map (Set (record { 0 = n })) found) Back
-    unfolding post_of post_text
     by_value n is None at = tt
     by_value n is (Some v) at =
         let may = settable_parts names name n is in
@@ -45,7 +45,7 @@ module _ (parts : Parts) (sound : IsSound parts) where
         let back : value_of names n told ≡ Some v = told_value names n text v (choices_distinct parts sound n) may.0 at in
         let field : settable_named names (field_name parts.field n) ≡ Some n = settable_back parts sound n may.0 there in
         let set : setting_of names (field_name parts.field n) told ≡ Some (Set (record { 0 = n }) v) =
-            ap (option_and_then (λ k. option_map (Set (record { 0 = k })) (value_of names k told))) field ∙ ap (option_map (Set (record { 0 = n }))) back in
+        ap (option_and_then (λ k. option_map (Set (record { 0 = k })) (value_of names k told))) field ∙ ap (option_map (Set (record { 0 = n }))) back in
         word_means (named_post names) (codes "set") (field_name parts.field n ++ 61 ∷ told) refl
         ∙ ap (option_and_then (λ p. setting_of names p.0 p.1)) (cut_behind 61 (field_name parts.field n) told plain)
         ∙ set
@@ -100,9 +100,9 @@ module _ (parts : Parts) (sound : IsSound parts) where
   resolution_back rest (Some k) is =
       let inside : k < length parts.resolutions = named_inside parts.resolutions rest k is in
       let spelled : Some (name_at parts.resolutions k) ≡ slice_get parts.resolutions k =
-          ap Some (unwrap_or-slice_get parts.resolutions k []) ∙ sym (slice_get-get_or parts.resolutions k [] inside) in
+      ap Some (unwrap_or-slice_get parts.resolutions k []) ∙ sym (slice_get-get_or parts.resolutions k [] inside) in
       let found : place_named (name_at parts.resolutions k) parts.resolutions ≡ Some k =
-          place_is parts.resolutions k (name_at parts.resolutions k) sound.resolutions.distinct spelled in
+      place_is parts.resolutions k (name_at parts.resolutions k) sound.resolutions.distinct spelled in
       word_means (named_post names) (codes "resolution") (name_at parts.resolutions k) refl
       ∙ ap (option_map (λ k. Resolution (record { 0 = k }))) found
 
