@@ -26,6 +26,14 @@ fn group_name(setup: &Setup, group: GroupNo) -> &str
     }
 }
 
+/// Puts a word and a name behind what is there.
+fn put_named(text: &mut String, word: &str, name: &str) -> Result<(), AllocError>
+    ensures { OnOk result (string_bytes text.new
+        ≡ string_bytes text.old ++ (word.now ++ name.now)) }
+{
+    write!(text, "{word}{name}")
+}
+
 /// Puts the text of a test behind what is there.
 fn put_test(text: &mut String, setup: &Setup, test: CallerTest) -> Result<(), AllocError>
     ensures { OnOk result (string_bytes text.new
@@ -34,13 +42,9 @@ fn put_test(text: &mut String, setup: &Setup, test: CallerTest) -> Result<(), Al
     match test {
         CallerTest::IsAssignee => write!(text, "assignee"),
         CallerTest::IsReporter => write!(text, "reporter"),
-        CallerTest::InGroup(group) => {
-            let name = group_name(setup, group);
-            write!(text, "group:{name}")
-        }
+        CallerTest::InGroup(group) => put_named(text, "group:", group_name(setup, group)),
         CallerTest::HasPermission(permission) => {
-            let name = permission_name(permission);
-            write!(text, "permission:{name}")
+            put_named(text, "permission:", permission_name(permission))
         }
     }
 }
