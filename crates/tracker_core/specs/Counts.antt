@@ -14,7 +14,7 @@ searches (call.Search jql part) = true
 searches (call.List jql fields part) = true
 searches c = false
 
--- before anything is kept, a filter that is saved asks each issue once, and no other call but a search and a list asks any
+-- before anything is kept, a filter that is saved asks each issue once, and of the others only a search and a list ask any
 abbrev pub asked_before : Call → Machine → ℕ
 asked_before (call.SaveFilter name jql) m = length m.histories
 asked_before c m = 0
