@@ -222,6 +222,7 @@ module _ (members own : Members) (values : (name : List ℕ) → is_user name �
       first same (from_if_there (object own)) (from_if_there (object members)) (codes "from") _ _ from_same (λ from.
       first same (count_if_there 1000 (object own)) (count_if_there 1000 (object members)) (codes "count") _ _ (part_same 1000) (λ count.
       told same _))
+  looked kind.Describe same = told same _
 
 -- each call knows the member `user`
 knows_user : (kind : CallKind) → is_member kind (codes "user") ≡ true
@@ -253,6 +254,7 @@ knows_user kind.List = refl
 knows_user kind.Filters = refl
 knows_user kind.Boards = refl
 knows_user kind.Sprints = refl
+knows_user kind.Describe = refl
 
 knows : (kind : CallKind) (name : List ℕ) → is_user name ≡ true → is_member kind name ≡ true
 knows kind name is = ap (is_member kind) ((bytes_eq-Decides name (codes "user")).0 is) ∙ knows_user kind

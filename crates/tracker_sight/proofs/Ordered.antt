@@ -149,6 +149,7 @@ module _ (m : Machine) where
   call_leaves user (call.Filters part) has = tt
   call_leaves user (call.Boards part) has = tt
   call_leaves user (call.Sprints part) has = tt
+  call_leaves user call.Describe has = tt
 
 pub meaning_leaves : (m : Machine) (caller : List ℕ) (c : Call) → HasRanks m → MeansOrder m (meaning m caller c)
 unfolding meaning

@@ -48,6 +48,7 @@ module _ (m other : Machine) (caller : List ℕ) (a : SeemAlikeButFilters (user_
   filters_aside (call.Filters part) is same = filters_same part
   filters_aside (call.Boards part) is same = same
   filters_aside (call.Sprints part) is same = same
+  filters_aside call.Describe is same = same
   filters_aside _ is same = absurd (true≢false (sym is))
 
   seen_too : (c : Call) → tells_what_there_is c ≡ true → tells_of_the_seen c ≡ true
@@ -55,6 +56,7 @@ module _ (m other : Machine) (caller : List ℕ) (a : SeemAlikeButFilters (user_
   seen_too (call.Filters part) is = refl
   seen_too (call.Boards part) is = refl
   seen_too (call.Sprints part) is = refl
+  seen_too call.Describe is = refl
   seen_too _ is = absurd (true≢false (sym is))
 
 pub pages_tell_of_the_seen : PagesTellOfTheSeen

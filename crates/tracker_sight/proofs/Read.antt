@@ -68,6 +68,7 @@ module _ (m : Machine) where
   for_stays user (call.Filters part) reads = refl
   for_stays user (call.Boards part) reads = refl
   for_stays user (call.Sprints part) reads = refl
+  for_stays user call.Describe reads = refl
   for_stays user (call.Show issue) reads = unless_stays _ (Tells _) refl
   for_stays user (call.History issue part) reads = unless_stays _ (Tells _) refl
   for_stays user _ reads = absurd reads
@@ -113,6 +114,7 @@ module _ (m other : Machine) (user : ℕ) (alike : SeemAlike user m other) where
   reads_on (call.Filters part) reads = tt
   reads_on (call.Boards part) reads = tt
   reads_on (call.Sprints part) reads = tt
+  reads_on call.Describe reads = tt
   reads_on (call.Show issue) reads = named_on issue reads
   reads_on (call.History issue part) reads = named_on issue reads
   reads_on _ reads = absurd reads
@@ -128,6 +130,7 @@ reads_alike m other caller (call.List jql fields part) alike reads = answers_tel
 reads_alike m other caller (call.Filters part) alike reads = answers_tell_of_the_seen m other caller (call.Filters part) alike refl
 reads_alike m other caller (call.Boards part) alike reads = answers_tell_of_the_seen m other caller (call.Boards part) alike refl
 reads_alike m other caller (call.Sprints part) alike reads = answers_tell_of_the_seen m other caller (call.Sprints part) alike refl
+reads_alike m other caller call.Describe alike reads = answers_tell_of_the_seen m other caller call.Describe alike refl
 reads_alike m other caller (call.Show issue) alike reads =
     issues_tell_of_the_seen m other caller (call.Show issue) issue alike refl (there_in_both m other (user_of m caller) alike issue reads)
 reads_alike m other caller (call.History issue part) alike reads =
