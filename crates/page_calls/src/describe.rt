@@ -1,9 +1,10 @@
 // The call `describe`: what the setup and the present say to whoever asks.
-ghost use Rattle.std.specs.Prelude.{◌≡◌, IfOk, OnOk, map, nat_lt};
+ghost use Rattle.std.specs.Prelude.{◌≡◌, IfOk, OnOk, map};
 ghost use Rattle.std.specs.Ordering.{nat_cmp};
 ghost use Rattle.fields.specs.SetupParts.{parts, names};
 ghost use Rattle.told_setups.specs.Told.{told_field};
 ghost use Rattle.tracker_machine.specs.Describe.{described, describe_meaning, fields_by_number};
+ghost use Rattle.tracker_machine.specs.Describe.{is_less};
 ghost use Rattle.tracker_machine.specs.Listing.{in_order};
 ghost use Rattle.tracker_state.specs.Plan.{IsPrepared};
 
@@ -83,7 +84,7 @@ fn fields_by_number(alloc: Global, setup: &Setup) -> Result<ToldFields, Memory>
 
 fn put_in_order(numbers: &mut Vec<FieldNo>) -> Result<(), Memory>
     ensures { OnOk result (map (λ f. f.0) numbers.new.items
-        ≡ in_order nat_lt (map (λ f. f.0) numbers.old.items)) }
+        ≡ in_order is_less (map (λ f. f.0) numbers.old.items)) }
 {
     numbers.sort_by(|one, other| numbers_cmp(*one, *other))?;
     Ok(())

@@ -1,5 +1,6 @@
 -- The call `describe`: what the setup and the present say to whoever asks.
-use Rattle.std.specs.Prelude.{ℕ, List, map, None, nat_lt, pos}
+use Rattle.std.specs.Prelude.{ℕ, Bool, List, map, None, pos}
+use Rattle.std.specs.Ordering.{nat_cmp, is_lt}
 use Rattle.field_values.specs.declared.rules.Permission.TheVariants as permission
 use Rattle.field_values.specs.Parts.{Parts}
 use Rattle.setup_drafts.specs.Offsets.{zone_of}
@@ -15,10 +16,13 @@ use Rattle.tracker_machine.specs.Machine.{Machine}
 use Rattle.tracker_machine.specs.Meaning.{Meaning}
 use Rattle.tracker_machine.specs.Meaning.Meaning.{Tells}
 
+abbrev pub is_less : ℕ → ℕ → Bool
+is_less one other = is_lt (nat_cmp one other)
+
 -- all fields, by number
 abbrev pub fields_by_number : Parts → List ToldField
 fields_by_number setup =
-    map (told_field (names_in setup)) (in_order nat_lt (field_numbers setup.field))
+    map (told_field (names_in setup)) (in_order is_less (field_numbers setup.field))
 
 -- what a setup says to a user at a moment
 unfoldable pub described : Parts → ℕ → ℕ → DescribedParts
