@@ -1,7 +1,0 @@
-mod Cut
-mod Tests
-mod Conditions
-mod Fields
-mod Values
-mod Validators
-mod PostFunctions
