@@ -10,7 +10,7 @@ use Rattle.tracker_calls.specs.declared.described.ToldKind.TheVariants as kind
 use Rattle.tracker_calls.specs.declared.reply.Reply.TheVariants as reply
 use Rattle.tracker_calls.specs.declared.reply.Answer.TheVariants as answer
 use Rattle.reply_texts.specs.Reply.{reply_text}
-use Rattle.reply_texts.specs.Described.{describe_data}
+use Rattle.reply_texts.specs.Described.{describe_data, middle_members, last_members}
 
 -- a small setup, west of Greenwich
 abbrev told : DescribedParts
@@ -41,5 +41,5 @@ told = record {
 
 pub a_description : reply_text (reply.Ok (answer.Describe told))
     ≡ codes "{\"ok\":{\"administer\":false,\"fields\":[{\"kind\":\"choice\",\"name\":\"type\",\"number\":1,\"options\":[\"Task\"]},{\"kind\":\"labels\",\"name\":\"labels\",\"number\":10}],\"first_status\":\"Open\",\"groups\":[{\"group\":\"team\",\"members\":[\"amy\"]}],\"moment\":5,\"offset_minutes\":-90,\"plan\":true,\"projects\":[{\"key\":\"OPS\",\"lead\":\"amy\",\"may\":[\"browse\",\"rank\"]}],\"rebalancer\":\"bo\",\"statuses\":[{\"category\":\"todo\",\"status\":\"Open\"}],\"transitions\":[{\"conditions\":[\"any:assignee\"],\"from\":[\"Open\"],\"post\":[\"set:labels=[\\\"a\\\"]\"],\"to\":\"Open\",\"transition\":\"Touch\",\"validators\":[]}],\"user\":\"amy\",\"users\":[\"amy\",\"bo\"],\"week_starts\":\"sunday\"}}"
-unfolding digits serde_json_on_literals reply_text describe_data
+unfolding digits serde_json_on_literals reply_text describe_data middle_members last_members
 a_description = refl

@@ -86,21 +86,27 @@ transition_data t = object
     (member (codes "transition") (string t.transition)
     (member (codes "validators") (texts_data t.validators) no_members))))))
 
--- ---- all of them
+-- ---- all of them, in three parts, of which each goes on with the next
+
+unfoldable pub last_members : DescribedParts → Members
+last_members d =
+    member (codes "statuses") (array (items_of (map status_data d.statuses)))
+    (member (codes "transitions") (array (items_of (map transition_data d.transitions)))
+    (member (codes "user") (string d.user)
+    (member (codes "users") (texts_data d.users)
+    (member (codes "week_starts") (string (weekday_name d.week_starts)) no_members))))
+
+unfoldable pub middle_members : DescribedParts → Members
+middle_members d =
+    member (codes "moment") (natural d.moment)
+    (member (codes "offset_minutes") (integer d.offset_minutes)
+    (member (codes "plan") (boolean d.plan)
+    (member (codes "projects") (array (items_of (map project_data d.projects)))
+    (member (codes "rebalancer") (string d.rebalancer) (last_members d)))))
 
 unfoldable pub describe_data : DescribedParts → Data
 describe_data d = object
     (member (codes "administer") (boolean d.administer)
     (member (codes "fields") (array (items_of (map field_data d.fields)))
     (member (codes "first_status") (string d.first_status)
-    (member (codes "groups") (array (items_of (map group_data d.groups)))
-    (member (codes "moment") (natural d.moment)
-    (member (codes "offset_minutes") (integer d.offset_minutes)
-    (member (codes "plan") (boolean d.plan)
-    (member (codes "projects") (array (items_of (map project_data d.projects)))
-    (member (codes "rebalancer") (string d.rebalancer)
-    (member (codes "statuses") (array (items_of (map status_data d.statuses)))
-    (member (codes "transitions") (array (items_of (map transition_data d.transitions)))
-    (member (codes "user") (string d.user)
-    (member (codes "users") (texts_data d.users)
-    (member (codes "week_starts") (string (weekday_name d.week_starts)) no_members))))))))))))))
+    (member (codes "groups") (array (items_of (map group_data d.groups))) (middle_members d)))))

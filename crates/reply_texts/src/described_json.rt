@@ -1,7 +1,8 @@
 // The JSON of what the setup and the present say.
 ghost use Rattle.std.specs.Prelude.{◌≡◌, OnOk};
 ghost use Rattle.json_texts.specs.JsonTokens.{after, after_members};
-ghost use Rattle.reply_texts.specs.Described.{describe_data, field_data, options_members};
+ghost use Rattle.reply_texts.specs.Described.{describe_data, middle_members, last_members};
+ghost use Rattle.reply_texts.specs.Described.{field_data, options_members};
 ghost use Rattle.reply_texts.specs.Described.{group_data, permission_data, project_data};
 ghost use Rattle.reply_texts.specs.Described.{status_data, transition_data};
 
@@ -32,12 +33,28 @@ fn write_parts(out: &mut JsonText, told: &DescribedParts) -> Result<(), Memory>
     out.text_member("first_status", told.first_status.as_str())?;
     out.key("groups")?;
     write_list(out, told.groups.as_slice())?;
+    write_middle(out, told)
+}
+
+// The members from the moment on, and the closing bracket.
+#[tactic(auto, unfolding(crate::specs::Described::middle_members))]
+fn write_middle(out: &mut JsonText, told: &DescribedParts) -> Result<(), Memory>
+    ensures { OnOk result (out.new ≡ after_members (middle_members told.now) out.old) }
+{
     out.number_member("moment", told.moment.seconds())?;
     out.integer_member("offset_minutes", i64::from(told.offset_minutes))?;
     out.boolean_member("plan", told.plan)?;
     out.key("projects")?;
     write_list(out, told.projects.as_slice())?;
     out.text_member("rebalancer", told.rebalancer.as_str())?;
+    write_last(out, told)
+}
+
+// The members from the statuses on, and the closing bracket.
+#[tactic(auto, unfolding(crate::specs::Described::last_members))]
+fn write_last(out: &mut JsonText, told: &DescribedParts) -> Result<(), Memory>
+    ensures { OnOk result (out.new ≡ after_members (last_members told.now) out.old) }
+{
     out.key("statuses")?;
     write_list(out, told.statuses.as_slice())?;
     out.key("transitions")?;
