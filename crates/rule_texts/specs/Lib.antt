@@ -1,1 +1,2 @@
 pub mod RuleTexts
+pub mod Rows

@@ -126,13 +126,13 @@ fn status_names(alloc: Global, statuses: &[Status]) -> Result<Names, Memory>
     Ok(told)
 }
 
-/// A list of the same names.
-pub fn copy_names(alloc: Global, names: &[Text]) -> Result<Names, Memory>
-    ensures { IfOk result (λ copy. copy ≡ names.now) }
+/// A list of the same texts.
+pub fn copy_names(alloc: Global, texts: &[Text]) -> Result<Names, Memory>
+    ensures { IfOk result (λ copy. copy ≡ texts.now) }
 {
-    let mut copy = Names::with_capacity(alloc, names.len())?;
-    for name in names {
-        copy.push(name.copy(alloc)?)?;
+    let mut copy = Names::with_capacity(alloc, texts.len())?;
+    for text in texts {
+        copy.push(text.copy(alloc)?)?;
     }
     Ok(copy)
 }

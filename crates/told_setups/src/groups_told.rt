@@ -39,8 +39,11 @@ fn told_group(alloc: Global, setup: &Setup, group: &Group) -> Result<ToldGroup, 
     ensures { IfOk result (λ told. told ≡ told_group setup.now.users group.now) }
 {
     let members = user_names(alloc, setup, group.members.as_slice())?;
-    let group = ToldText::copy_of(alloc, group.name.as_str())?;
-    Ok(ToldGroup { group, members })
+    let name = ToldText::copy_of(alloc, group.name.as_str())?;
+    Ok(ToldGroup {
+        group: name,
+        members,
+    })
 }
 
 fn user_names(alloc: Global, setup: &Setup, users: &[UserNo]) -> Result<Names, Memory>

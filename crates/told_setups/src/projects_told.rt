@@ -57,8 +57,12 @@ fn told_project(
 {
     let key = ToldText::copy_of(alloc, project.key.as_str())?;
     let lead = ToldText::copy_of(alloc, user_name(setup, project.lead))?;
-    let may = permissions_among(alloc, setup, user, no, &OF_PROJECTS)?;
-    Ok(ToldProject { key, lead, may })
+    let allowed = permissions_among(alloc, setup, user, no, &OF_PROJECTS)?;
+    Ok(ToldProject {
+        key,
+        lead,
+        may: allowed,
+    })
 }
 
 // Those of some permissions that the user has in the project.

@@ -12,7 +12,7 @@ pub fn status_name(setup: &Setup, status: ChoiceNo) -> &str
     ensures { result.now ≡ status_name (names setup.now) status }
 {
     match setup.status.as_slice().get(usize::from(status.0)) {
-        Some(status) => status.name.as_str(),
+        Some(found) => found.name.as_str(),
         None => "",
     }
 }
