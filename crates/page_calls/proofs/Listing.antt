@@ -15,20 +15,24 @@ length_of_sprints n (s ∷ ss) = ap suc (length_of_sprints (n + 1) ss)
 -- behind so many stands the sprint of the number that comes next
 pub sprint_behind : (n : ℕ) (ss : List Sprint) (k : ℕ) → slice_get (sprints_from n ss) k ≡ option_map (told_sprint (n + k)) (slice_get ss k)
 sprint_behind n [] k = refl
-sprint_behind n (s ∷ ss) zero = refl
+sprint_behind n (s ∷ ss) zero = ap (λ (at : ℕ). Some (told_sprint at s)) (omega arith)
 sprint_behind n (s ∷ ss) (suc k) = sprint_behind (n + 1) ss k ∙ ap (λ (at : ℕ). option_map (told_sprint at) (slice_get ss k)) (omega arith)
 
 -- the sprint of a number that has this name and this state is told so
 pub told_by_number : (ss : List Sprint) (n : ℕ) (name : List ℕ) (state : SprintState) → name_of ss n ≡ Some name → state_of ss n ≡ Some state
     → slice_get (sprints_from 1 ss) (n - 1) ≡ Some (record { name = name; sprint = record { 0 = n }; state = told_phase state })
 told_by_number ss zero name state called is = absurd (none-some state is)
-told_by_number ss (suc k) name state called is = sprint_behind 1 ss k ∙ by (slice_get ss k) called is
+told_by_number ss (suc k) name state called is =
+    sprint_behind 1 ss k ∙ ap (λ (at : ℕ). option_map (told_sprint at) (slice_get ss k)) next ∙ by (slice_get ss k) called is
   where
+    next : 1 + k ≡ suc k
+    next = omega arith
+
     by : (o : Option Sprint) → option_map (λ (s : Sprint). s.name) o ≡ Some name → option_map (λ (s : Sprint). s.state) o ≡ Some state
-        → option_map (told_sprint (1 + k)) o ≡ Some (record { name = name; sprint = record { 0 = suc k }; state = told_phase state })
+        → option_map (told_sprint (suc k)) o ≡ Some (record { name = name; sprint = record { 0 = suc k }; state = told_phase state })
     by None called is = absurd (none-some state is)
     by (Some s) called is =
-        ap₂ (λ (x : List ℕ) (t : SprintState). Some (told_sprint (1 + k) (record { name = x; state = t }))) (same_Some s.name name called) (same_Some s.state state is)
+        ap₂ (λ (x : List ℕ) (t : SprintState). Some (told_sprint (suc k) (record { name = x; state = t }))) (same_Some s.name name called) (same_Some s.state state is)
 
 -- a part that begins behind so many, with one element more
 pub one_more : {X : Type 0} (xs : List X) (from place : ℕ) (x : X) → from ≤ place → slice_get xs place ≡ Some x
