@@ -1,5 +1,5 @@
 -- A text that is put together at a byte is cut there again.
-use Rattle.std.proofs.Common.{◌≡◌, ℕ, zero, suc, ◌+◌, ◌<◌, ◌==◌, List, [], ◌∷◌, ◌++◌, length, map, Bool, true, false, not, ◌||◌, Option, Some, None, option_and_then, refl, ap, sym, ◌∙◌, arith, subst, inl, inr, take, drop, nat_lt}
+use Rattle.std.proofs.Common.{◌≡◌, ℕ, zero, suc, ◌+◌, ◌<◌, ◌==◌, List, [], ◌∷◌, ◌++◌, length, map, Bool, true, false, not, ◌||◌, Option, Some, None, option_and_then, refl, ap, sym, ◌∙◌, arith, subst, inl, inr, take, drop, nat_lt, lt-ltb, ap₂, if◌then◌else◌}
 use Rattle.std.specs.Prelude.{IfSome, codes}
 use Rattle.std.specs.List.{list_any, position_or_len, before_first, after_first}
 use Rattle.std.specs.Str.{bytes_eq, str_eq_ignore_ascii_case, str_to_ascii_lowercase}
@@ -25,11 +25,33 @@ position_behind mark (b ∷ word) rest none = elim (cases_Bool (b == mark)) [
       grind (arith, common_steps, other, later)
 ]
 
+front_taken : (word rest : List ℕ) → take (length word) (word ++ rest) ≡ word
+front_taken [] rest = refl
+front_taken (b ∷ word) rest = ap (λ (bs : List ℕ). b ∷ bs) (front_taken word rest)
+
+front_dropped : (word rest : List ℕ) (mark : ℕ) → drop (suc (length word)) (word ++ mark ∷ rest) ≡ rest
+front_dropped [] rest mark = refl
+front_dropped (b ∷ word) rest mark = front_dropped word rest mark
+
+front_inside : (word rest : List ℕ) (mark : ℕ) → length word < length (word ++ mark ∷ rest)
+front_inside [] rest mark = omega arith
+front_inside (b ∷ word) rest mark = let inside = front_inside word rest mark in omega (arith, inside)
+
+-- the parts of a text at a place
+abbrev cut_from : List ℕ → ℕ → Option (List ℕ × List ℕ)
+cut_from text n = if nat_lt n (length text) then Some (take n text, drop (n + 1) text) else None
+
 -- where the byte isn't in the front it is cut behind it
 pub cut_behind : (mark : ℕ) (word rest : List ℕ) → has_byte mark word ≡ false → cut_at mark (word ++ mark ∷ rest) ≡ Some (word, rest)
 cut_behind mark word rest none =
     let at : position_or_len (λ b. b == mark) (word ++ mark ∷ rest) ≡ length word = position_behind mark word rest none in
-    grind (arith, common_steps, at)
+    let inside : nat_lt (length word) (length (word ++ mark ∷ rest)) ≡ true = lt-ltb (length word) (length (word ++ mark ∷ rest)) (front_inside word rest mark) in
+    let one_more : length word + 1 ≡ suc (length word) = omega arith in
+    let front : take (length word) (word ++ mark ∷ rest) ≡ word = front_taken word (mark ∷ rest) in
+    let behind : drop (length word + 1) (word ++ mark ∷ rest) ≡ rest = ap (λ (n : ℕ). drop n (word ++ mark ∷ rest)) one_more ∙ front_dropped word rest mark in
+    ap (cut_from (word ++ mark ∷ rest)) at
+    ∙ ap (λ (test : Bool). if test then Some (take (length word) (word ++ mark ∷ rest), drop (length word + 1) (word ++ mark ∷ rest)) else None) inside
+    ∙ ap₂ (λ (one other : List ℕ). Some (one, other)) front behind
 
 -- ---- bytes that are no letters
 
@@ -78,7 +100,7 @@ pub none_before : (mark : ℕ) (text : List ℕ) → has_byte mark (before_first
 none_before mark [] = refl
 none_before mark (b ∷ text) = elim (cases_Bool (b == mark)) [
   | inl here ↦ rw here refl
-  | inr other ↦ rw (other, none_before mark text) refl
+  | inr other ↦ rw other (none_before mark text)
 ]
 
 none_dropped : (mark n : ℕ) (text : List ℕ) → has_byte mark text ≡ false → has_byte mark (drop n text) ≡ false

@@ -39,15 +39,23 @@ settable_parts names name n is = by (field_named names.fields name) is where
 
 -- ---- the names of every tracker's fields
 
-one_more : (P : ℕ → Type 0) (test : Bool) (k : ℕ) (rest : Option ℕ) → P k → IfSome rest P → IfSome (if test then Some k else rest) P
-one_more P true k rest here later = here
-one_more P false k rest here later = later
+one_of : (P : ℕ → Type 0) (test : Bool) (k n : ℕ) (rest : Option ℕ) → P k → (rest ≡ Some n → P n) → (if test then Some k else rest) ≡ Some n → P n
+one_of P true k n rest here later e = let same : k ≡ n = cc in subst P same here
+one_of P false k n rest here later e = later e
 
-built_in_plain : (fields : List Field) (name : List ℕ) → IfSome (built_in_no name) (λ n. has_byte 61 (field_name fields n) ≡ false)
-built_in_plain fields name =
-    let P : ℕ → Type 0 = λ n. has_byte 61 (field_name fields n) ≡ false in
-    one_more P _ 1 _ refl (one_more P _ 2 _ refl (one_more P _ 3 _ refl (one_more P _ 4 _ refl (one_more P _ 5 _ refl (one_more P _ 6 _ refl (one_more P _ 7 _ refl
-    (one_more P _ 8 _ refl (one_more P _ 9 _ refl (one_more P _ 10 _ refl (one_more P _ 11 _ refl (one_more P _ 12 _ refl (one_more P _ 13 _ refl tt))))))))))))
+none_of : (P : ℕ → Type 0) (n : ℕ) → None ≡ Some n → P n
+none_of P n e = absurd (cc)
+
+-- none has a `=`
+abbrev IsPlain : List Field → ℕ → Type 0
+IsPlain fields n = has_byte 61 (field_name fields n) ≡ false
+
+built_in_plain : (fields : List Field) (name : List ℕ) (n : ℕ) → built_in_no name ≡ Some n → IsPlain fields n
+built_in_plain fields name n =
+    let P : ℕ → Type 0 = IsPlain fields in
+    one_of P _ 1 n _ refl (one_of P _ 2 n _ refl (one_of P _ 3 n _ refl (one_of P _ 4 n _ refl (one_of P _ 5 n _ refl (one_of P _ 6 n _ refl
+    (one_of P _ 7 n _ refl (one_of P _ 8 n _ refl (one_of P _ 9 n _ refl (one_of P _ 10 n _ refl (one_of P _ 11 n _ refl (one_of P _ 12 n _ refl
+    (one_of P _ 13 n _ refl (none_of P n)))))))))))))
 
 module _ (parts : Parts) (sound : IsSound parts) where
   pub field_back : (n : ℕ) → is_field parts.field n ≡ true → field_named parts.field (field_name parts.field n) ≡ Some n
@@ -103,21 +111,21 @@ module _ (parts : Parts) (sound : IsSound parts) where
         let found = position-Some (λ (other : List ℕ). str_eq_ignore_ascii_case other name) (map (λ g. g.name) parts.field) place [] at in
         let stands : slice_get (map (λ g. g.name) parts.field) place ≡ Some f.name = slice_get-map (λ (g : Field). g.name) parts.field place ∙ ap (option_map (λ g. g.name)) there in
         let named : get_or (map (λ g. g.name) parts.field) place [] ≡ f.name = get_or_from_slice_get (map (λ g. g.name) parts.field) place f.name [] stands in
-        let same : str_eq_ignore_ascii_case f.name name ≡ true = subst (λ (t : List ℕ). str_eq_ignore_ascii_case t name ≡ true) named found.1.0 in
+        let same : str_eq_ignore_ascii_case f.name name ≡ true = subst (λ (t : List ℕ). str_eq_ignore_ascii_case t name ≡ true) named found.1 in
         ap (has_byte 61) (called place f there) ∙ same_bytes 61 equals_is_no_letter f.name name same none
 
   -- the field of a name without `=` is spelled without one
   pub field_plain : (name : List ℕ) (n : ℕ) → field_named parts.field name ≡ Some n → has_byte 61 name ≡ false → has_byte 61 (field_name parts.field n) ≡ false
   unfolding field_named
-  field_plain name n is none = by_built_in (built_in_no name) (built_in_plain parts.field name) is where
+  field_plain name n is none = by_built_in (built_in_no name) refl is where
     by_own : (own : Option Field) → own_field_named parts.field name ≡ own → option_map (λ f. f.number.0) own ≡ Some n → has_byte 61 (field_name parts.field n) ≡ false
     by_own None o e = absurd (cc)
     by_own (Some f) o e =
         let same : f.number.0 ≡ n = cc in
         subst (λ k. has_byte 61 (field_name parts.field k) ≡ false) same (own_plain name f o none)
 
-    by_built_in : (no : Option ℕ) → IfSome no (λ k. has_byte 61 (field_name parts.field k) ≡ false) → option_or no (option_map (λ f. f.number.0) (own_field_named parts.field name)) ≡ Some n → has_byte 61 (field_name parts.field n) ≡ false
-    by_built_in (Some k) plain e =
+    by_built_in : (no : Option ℕ) → built_in_no name ≡ no → option_or no (option_map (λ f. f.number.0) (own_field_named parts.field name)) ≡ Some n → has_byte 61 (field_name parts.field n) ≡ false
+    by_built_in (Some k) b e =
         let same : k ≡ n = cc in
-        subst (λ j. has_byte 61 (field_name parts.field j) ≡ false) same plain
-    by_built_in None plain e = by_own (own_field_named parts.field name) refl e
+        built_in_plain parts.field name n (b ∙ ap Some same)
+    by_built_in None b e = by_own (own_field_named parts.field name) refl e

@@ -130,7 +130,7 @@ module _ (names : Names) where
   group_plain rest (Some k) is none =
       let back : k + 1 - 1 ≡ k = omega arith in
       let found = position-Some (λ (other : List ℕ). str_eq_ignore_ascii_case other rest) names.groups k [] is in
-      let plain : has_byte 124 (get_or names.groups k []) ≡ false = same_bytes 124 bar_is_no_letter (get_or names.groups k []) rest found.1.0 none in
+      let plain : has_byte 124 (get_or names.groups k []) ≡ false = same_bytes 124 bar_is_no_letter (get_or names.groups k []) rest found.1 none in
       ap (λ (n : ℕ). has_byte 124 (name_at names.groups n)) back ∙ ap (has_byte 124) (unwrap_or-slice_get names.groups k []) ∙ plain
 
   permission_is_plain : (o : Option Permission) → IfSome (option_map HasPermission o) (IsPlain names)

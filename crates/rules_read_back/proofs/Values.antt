@@ -141,6 +141,11 @@ own_is_none (Some g) e = by g.kind (cc) where
   by kind.User is = cc
   by kind.Date is = cc
 
+-- where the sprint is none of it
+last : (test : Bool) (own : Option Field) → test ≡ false → (if test then Some form.Sprint else option_map (λ g. form_by g.kind) own) ≡ Some form.Sprint → ⊥
+last true own is e = absurd (cc)
+last false own is e = own_is_none own e
+
 no_sprint : (fields : List Field) (n : ℕ) → (n == number.SPRINT.0) ≡ false → form_of fields n ≡ Some form.Sprint → ⊥
 unfolding form_of
 no_sprint fields n other is =
