@@ -100,7 +100,10 @@ pub none_before : (mark : ℕ) (text : List ℕ) → has_byte mark (before_first
 none_before mark [] = refl
 none_before mark (b ∷ text) = elim (cases_Bool (b == mark)) [
   | inl here ↦ rw here refl
-  | inr other ↦ rw other (none_before mark text)
+  | inr other ↦
+      let one : 1 + position_or_len (λ c. c == mark) text ≡ suc (position_or_len (λ c. c == mark) text) = omega arith in
+      let later : has_byte mark (take (suc (position_or_len (λ c. c == mark) text)) (b ∷ text)) ≡ false = rw other (none_before mark text) in
+      rw other (ap (λ (k : ℕ). has_byte mark (take k (b ∷ text))) one ∙ later)
 ]
 
 none_dropped : (mark n : ℕ) (text : List ℕ) → has_byte mark text ≡ false → has_byte mark (drop n text) ≡ false

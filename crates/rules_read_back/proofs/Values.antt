@@ -151,7 +151,7 @@ unfolding form_of
 no_sprint fields n other is =
     passed _ form.Choice _ (λ e. cc) (passed _ (form.Line 255) _ (λ e. cc) (passed _ (form.Prose 4096) _ (λ e. cc) (passed _ form.User _ (λ e. cc)
     (passed _ form.Set _ (λ e. cc) (passed _ form.Labels _ (λ e. cc) (passed _ form.Date _ (λ e. cc) (passed _ form.Points _ (λ e. cc)
-    (λ e. own_is_none (own_field fields n) (rw other at e))))))))) is
+    (last (n == number.SPRINT.0) (own_field fields n) other)))))))) is
 
 settable_is_no_sprint : (n : ℕ) → is_settable n ≡ true → (n == number.SPRINT.0) ≡ false
 settable_is_no_sprint n may = elim (cases_Bool (n == number.SPRINT.0)) [
