@@ -1,5 +1,5 @@
 -- A condition is read back from its text.
-use Rattle.std.proofs.Common.{◌≡◌, ℕ, ◌==◌, List, [], ◌∷◌, ◌++◌, map, Bool, true, false, Option, Some, None, option_map, option_and_then, refl, ap, sym, ◌∙◌, subst, inl, inr, append-nil, codes}
+use Rattle.std.proofs.Common.{◌≡◌, ℕ, ◌==◌, List, [], ◌∷◌, ◌++◌, map, true, false, Option, Some, None, option_map, option_and_then, refl, ap, sym, ◌∙◌, inl, inr, append-nil, codes}
 use Rattle.std.specs.Prelude.{IfSome}
 use Rattle.std.specs.Str.{bytes_eq}
 use Rattle.std.proofs.lemmas.Bool.{cases_Bool}
@@ -9,7 +9,7 @@ use Rattle.field_values.specs.declared.rules.Condition.TheVariants.{Test, AnyOf}
 use Rattle.field_forms.specs.Cuts.{cut_at, pieces_at, onto_first}
 use Rattle.field_forms.specs.Names.{AreDistinct}
 use Rattle.field_forms.specs.Known.{Names}
-use Rattle.field_forms.specs.Rules.{named_test, test_of, all_tests, any_of, named_condition, condition_of}
+use Rattle.field_forms.specs.Rules.{named_test, test_of, all_tests, named_condition, condition_of}
 use Rattle.field_forms.proofs.Cutting.{cut_some, pieces_cut, pieces_by}
 use Rattle.rule_texts.specs.RuleTexts.{test_text, more_tests_text, tests_text, condition_text}
 use Rattle.rules_read_back.proofs.Cut.{has_byte, cut_behind, after_holds, holds_of, word_means}

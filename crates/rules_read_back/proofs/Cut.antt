@@ -1,15 +1,14 @@
 -- A text that is put together at a byte is cut there again.
-use Rattle.std.proofs.Common.{◌≡◌, ℕ, zero, suc, ◌+◌, ◌<◌, ◌==◌, List, [], ◌∷◌, ◌++◌, length, map, Bool, true, false, not, ◌||◌, Option, Some, None, option_and_then, refl, ap, sym, ◌∙◌, arith, subst, inl, inr, take, drop, nat_lt, lt-ltb, ap₂, if◌then◌else◌}
-use Rattle.std.specs.Prelude.{IfSome, codes}
+use Rattle.std.proofs.Common.{◌≡◌, ℕ, zero, suc, ◌+◌, ◌<◌, ◌==◌, List, [], ◌∷◌, ◌++◌, length, Bool, true, false, Option, Some, None, option_and_then, refl, ap, sym, ◌∙◌, arith, subst, inl, inr, take, drop, nat_lt, lt-ltb, ap₂, if◌then◌else◌}
+use Rattle.std.specs.Prelude.{IfSome}
 use Rattle.std.specs.List.{list_any, position_or_len, before_first, after_first}
-use Rattle.std.specs.Str.{bytes_eq, str_eq_ignore_ascii_case, str_to_ascii_lowercase}
+use Rattle.std.specs.Str.{str_eq_ignore_ascii_case, str_to_ascii_lowercase}
 use Rattle.std.specs.Char.{to_ascii_lowercase}
 use Rattle.std.proofs.lemmas.Bool.{cases_Bool}
 use Rattle.std.proofs.lemmas.Grind.{common_steps}
 use Rattle.std.proofs.lemmas.Slice.Eq.{bytes_eq-Decides}
-use Rattle.field_forms.specs.Cuts.{cut_at, pieces_at}
+use Rattle.field_forms.specs.Cuts.{cut_at}
 use Rattle.field_forms.specs.Rules.{after_colon}
-use Rattle.field_forms.proofs.Cutting.{cut_some, pieces_cut}
 
 -- the byte stands in the text
 abbrev pub has_byte : ℕ → List ℕ → Bool

@@ -1,6 +1,5 @@
 -- A field is found by its name, which has no `=` where that of a post function has none.
-use Rattle.std.proofs.Common.{◌≡◌, ℕ, ◌-◌, ◌<◌, ◌≤◌, ◌==◌, List, [], ◌∷◌, length, map, Bool, true, false, Option, Some, None, option_map, option_and_then, refl, ap, sym, ◌∙◌, arith, subst, inl, inr, position, slice_get, get_or, if◌then◌else◌}
-use Rattle.std.specs.Prelude.{IfSome}
+use Rattle.std.proofs.Common.{◌≡◌, ℕ, ◌-◌, ◌<◌, ◌≤◌, ◌==◌, List, [], length, map, Bool, true, false, Option, Some, None, option_map, option_and_then, refl, ap, sym, ◌∙◌, arith, subst, inl, inr, position, slice_get, get_or, if◌then◌else◌}
 use Rattle.std.specs.List.{position_or_len}
 use Rattle.std.specs.Option.{option_or}
 use Rattle.std.specs.Str.{str_eq_ignore_ascii_case}
@@ -17,7 +16,6 @@ use Rattle.field_forms.specs.Names.{is_from_to, place_named}
 use Rattle.field_forms.specs.Known.{Names, own_field, own_field_named, field_named}
 use Rattle.field_forms.specs.Rules.{is_settable, settable_named}
 use Rattle.field_forms.specs.SoundRules.{is_field}
-use Rattle.field_forms.proofs.SoundRules.{named_is_field}
 use Rattle.fields.specs.Sound.{has_own_number, part_names, IsSound}
 use Rattle.fields.specs.Naming.{field_name}
 use Rattle.fields.proofs.Found.{named_at, own_at}

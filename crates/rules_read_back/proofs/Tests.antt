@@ -1,5 +1,5 @@
 -- What is asked of a caller is read back from its text.
-use Rattle.std.proofs.Common.{◌≡◌, ℕ, ◌+◌, ◌-◌, ◌<◌, ◌==◌, List, [], ◌∷◌, ◌++◌, length, Bool, true, false, ◌||◌, Option, Some, None, option_map, refl, ap, sym, ◌∙◌, arith, subst, inl, inr, position, slice_get, get_or, codes}
+use Rattle.std.proofs.Common.{◌≡◌, ℕ, ◌+◌, ◌-◌, List, [], ◌++◌, false, Option, Some, None, option_map, refl, ap, sym, ◌∙◌, arith, inl, inr, slice_get, get_or, codes}
 use Rattle.std.specs.Prelude.{IfSome, unwrap_or}
 use Rattle.std.specs.Str.{bytes_eq, str_eq_ignore_ascii_case}
 use Rattle.std.proofs.lemmas.Bool.{cases_Bool}
@@ -8,9 +8,7 @@ use Rattle.std.proofs.lemmas.Option.{slice_get-get_or, unwrap_or-slice_get}
 use Rattle.field_values.specs.declared.rules.Permission.{Permission}
 use Rattle.field_values.specs.declared.rules.CallerTest.{CallerTest}
 use Rattle.field_values.specs.declared.rules.CallerTest.TheVariants.{IsAssignee, IsReporter, InGroup, HasPermission}
-use Rattle.field_values.specs.declared.rules.Condition.{Condition}
 use Rattle.field_values.specs.declared.rules.Condition.TheVariants.{Test}
-use Rattle.field_forms.specs.Cuts.{cut_at}
 use Rattle.field_forms.specs.Names.{AreDistinct, place_named}
 use Rattle.field_forms.specs.Known.{Names}
 use Rattle.field_forms.specs.Rules.{permission_of, permission_name, named_test, test_of, named_condition, condition_of}

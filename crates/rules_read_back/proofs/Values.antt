@@ -1,7 +1,5 @@
 -- A value that a post function sets is read back from its text.
-use Rattle.std.proofs.Common.{◌≡◌, ℕ, zero, suc, ◌+◌, ◌<◌, ◌==◌, ◌||◌, List, [], ◌∷◌, length, map, Bool, true, false, not, Option, Some, None, option_map, option_and_then, refl, ap, sym, ◌∙◌, arith, subst, inl, inr, slice_get, get_or, if◌then◌else◌, codes}
-use Rattle.std.specs.List.{list_all}
-use Rattle.std.specs.Option.{option_map_or}
+use Rattle.std.proofs.Common.{◌≡◌, ℕ, ◌+◌, ◌==◌, List, [], ◌∷◌, map, Bool, true, false, Option, Some, None, option_map, option_and_then, refl, ap, sym, ◌∙◌, arith, inl, inr, if◌then◌else◌, codes}
 use Rattle.std.proofs.lemmas.Bool.{cases_Bool}
 use Rattle.std.proofs.lemmas.Option.{slice_get-get_or, unwrap_or-slice_get}
 use Rattle.serde_json.proofs.OnLiterals.{serde_json_on_literals}
