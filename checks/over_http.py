@@ -146,6 +146,11 @@ def calls(ask):
     ask.one('no filters', posted(b'{"call":"filters"}', CLOSE, user='cy'), 200, '{"ok":{"filters":[],"total":0}}')
     ask.one('no boards', posted(b'{"call":"boards"}', CLOSE, user='cy'), 200, '{"ok":{"boards":[],"total":0}}')
     ask.one('no sprints', posted(b'{"call":"sprints","count":1}', CLOSE, user='cy'), 200, '{"ok":{"sprints":[],"total":0}}')
+    described = answers(ask.exchange(posted(b'{"call":"describe"}', CLOSE, user='cy'), finish=False))[0]
+    told = json.loads(described.body)['ok']
+    ask.tell('a description', (200, 'cy', [{'key': 'OPS', 'lead': 'anna', 'may': ['browse']}], list(range(1, 14)), ['Start', 'Review', 'Finish', 'Reopen']),
+             (described.status, told['user'], told['projects'], [it['number'] for it in told['fields']], [it['transition'] for it in told['transitions']]))
+    ask.form('a description with a member', posted(b'{"call":"describe","count":1}', CLOSE), 'count')
     ask.one('no entry of its history', request(SHOW + '/history', CLOSE), 200, '{"ok":{"entries":[],"total":0}}')
     ask.one('an unknown issue', request('/issues/OPS-9', CLOSE), 404, UNKNOWN % 'OPS-9')
     ask.one('an unknown filter', request('/filters/007', CLOSE), 404, '{"refused":{"kind":"filter","name":"7","no":2}}')
