@@ -1,5 +1,7 @@
 -- Sprints by their numbers, and parts of lists.
-use Rattle.std.proofs.Common.{◌≡◌, ℕ, zero, suc, ◌+◌, ◌-◌, ◌<◌, ◌≤◌, List, [], ◌∷◌, ◌++◌, length, take, drop, get_or, slice_get, Option, Some, None, option_map, arith, refl, sym, ap, ap₂, ◌∙◌}
+use Rattle.std.proofs.Common.{◌≡◌, ℕ, zero, suc, ◌+◌, ◌-◌, ◌<◌, ◌≤◌, ◌==◌, Bool, true, false, List, [], ◌∷◌, ◌++◌, length, take, drop, get_or, slice_get, Option, Some, None, option_map, arith, refl, sym, ap, ap₂, ◌∙◌}
+use Rattle.std.specs.Prelude.{if◌then◌else◌}
+use Rattle.std.proofs.lemmas.Bool.{true≢false}
 use Rattle.std.proofs.lemmas.List.{take_more, get_or-drop, length-drop}
 use Rattle.std.proofs.lemmas.Option.{none-some, same_Some, slice_get_within, get_or_from_slice_get}
 use Rattle.sprints.specs.declared.sprint.Sprint.{Sprint}
@@ -18,21 +20,28 @@ sprint_behind n [] k = refl
 sprint_behind n (s ∷ ss) zero = ap (λ (at : ℕ). Some (told_sprint at s)) (omega arith)
 sprint_behind n (s ∷ ss) (suc k) = sprint_behind (n + 1) ss k ∙ ap (λ (at : ℕ). option_map (told_sprint at) (slice_get ss k)) (omega arith)
 
+-- behind the one before stands the number itself
+next_of : (n : ℕ) → (n == 0) ≡ false → 1 + (n - 1) ≡ n
+next_of zero at = absurd (true≢false at)
+next_of (suc k) at = omega arith
+
 -- the sprint of a number that has this name and this state is told so
 pub told_by_number : (ss : List Sprint) (n : ℕ) (name : List ℕ) (state : SprintState) → name_of ss n ≡ Some name → state_of ss n ≡ Some state
     → slice_get (sprints_from 1 ss) (n - 1) ≡ Some (record { name = name; sprint = record { 0 = n }; state = told_phase state })
-told_by_number ss zero name state called is = absurd (none-some state is)
-told_by_number ss (suc k) name state called is =
-    sprint_behind 1 ss k ∙ ap (λ (at : ℕ). option_map (told_sprint at) (slice_get ss k)) next ∙ by (slice_get ss k) called is
+told_by_number ss n name state called is = by (n == 0) refl called is
   where
-    next : 1 + k ≡ suc k
-    next = omega arith
+    there : (o : Option Sprint) → option_map (λ (s : Sprint). s.name) o ≡ Some name → option_map (λ (s : Sprint). s.state) o ≡ Some state
+        → option_map (told_sprint n) o ≡ Some (record { name = name; sprint = record { 0 = n }; state = told_phase state })
+    there None called is = absurd (none-some state is)
+    there (Some s) called is =
+        ap₂ (λ (x : List ℕ) (t : SprintState). Some (told_sprint n (record { name = x; state = t }))) (same_Some s.name name called) (same_Some s.state state is)
 
-    by : (o : Option Sprint) → option_map (λ (s : Sprint). s.name) o ≡ Some name → option_map (λ (s : Sprint). s.state) o ≡ Some state
-        → option_map (told_sprint (suc k)) o ≡ Some (record { name = name; sprint = record { 0 = suc k }; state = told_phase state })
-    by None called is = absurd (none-some state is)
-    by (Some s) called is =
-        ap₂ (λ (x : List ℕ) (t : SprintState). Some (told_sprint (suc k) (record { name = x; state = t }))) (same_Some s.name name called) (same_Some s.state state is)
+    by : (b : Bool) → (n == 0) ≡ b → option_map (λ (s : Sprint). s.name) (if b then None else slice_get ss (n - 1)) ≡ Some name
+        → option_map (λ (s : Sprint). s.state) (if b then None else slice_get ss (n - 1)) ≡ Some state
+        → slice_get (sprints_from 1 ss) (n - 1) ≡ Some (record { name = name; sprint = record { 0 = n }; state = told_phase state })
+    by true at called is = absurd (none-some state is)
+    by false at called is =
+        sprint_behind 1 ss (n - 1) ∙ ap (λ (k : ℕ). option_map (told_sprint k) (slice_get ss (n - 1))) (next_of n at) ∙ there (slice_get ss (n - 1)) called is
 
 -- a part that begins behind so many, with one element more
 pub one_more : {X : Type 0} (xs : List X) (from place : ℕ) (x : X) → from ≤ place → slice_get xs place ≡ Some x
