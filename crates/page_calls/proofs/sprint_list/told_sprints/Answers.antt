@@ -1,4 +1,4 @@
-use Rattle.std.proofs.Common.{◌≡◌, ◌≤◌, ◌-◌, ◌+◌, ℕ, List, [], ◌∷◌, ◌++◌, Some, take, drop, slice_get, ap, sym, ◌∙◌, arith}
+use Rattle.std.proofs.Common.{◌≡◌, ◌-◌, ◌+◌, ℕ, List, [], ◌∷◌, ◌++◌, Some, take, drop, slice_get, ap, sym, ◌∙◌, arith}
 use Rattle.tracker_calls.specs.declared.listed.ToldSprint.{ToldSprint}
 use Rattle.tracker_machine.specs.Overviews.{sprints_from}
 use Rattle.page_calls.proofs.Listing.{one_more}
