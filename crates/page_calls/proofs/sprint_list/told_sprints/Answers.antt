@@ -11,10 +11,11 @@ loop-place-preserved c =
     let one = c.in_ok-told_sprint.field-0 in
     let behind = c.loop-place.invariant.1 in
     let at : place ≡ place + 1 - 1 = omega arith in
-    let here : slice_get all place ≡ Some one = ap (slice_get all) at ∙ c.in_ok-told_sprint.ensures in
-    (c.in_ok-push.ensures.ok ∙ ap (λ (told : List ToldSprint). told ++ one ∷ []) c.loop-place.invariant.0 ∙ sym (one_more all c.args.from place one behind here),
-    omega (arith, behind),
-    omega (arith, behind, c.loop-place-test.true))
+    let here : slice_get all place ≡ Some one = ap (slice_get all) at ∙ c.in_ok-told_sprint.ensures in (
+      c.in_ok-push.ensures.ok ∙ ap (λ (told : List ToldSprint). told ++ one ∷ []) c.loop-place.invariant.0 ∙ sym (one_more all c.args.from place one behind here),
+      omega (arith, behind),
+      omega (arith, behind, c.loop-place-test.true),
+    )
 
 pub returns : goal.returns
 returns c =
