@@ -137,6 +137,20 @@ def calls(ask):
     ask.tell('its clock is the machine\'s', True, before <= shown['created'] <= time.time())
     ask.tell('its fields are told', ('anna', '3'), (shown['fields']['reporter'], shown['fields']['points']))
     ask.one('a search', request('/search?jql=points+%3E+2&count=10', CLOSE), 200, '{"ok":{"issues":["OPS-1"],"total":1}}')
+    ask.one('a list', posted(b'{"call":"list","jql":"points > 2","fields":["POINTS","due"]}', CLOSE), 200,
+            '{"ok":{"issues":[{"created":%d,"fields":{"points":"3"},"issue":"OPS-1","updated":%d}],"total":1}}' % (shown['created'], shown['updated']))
+    ask.one('a list of what is no field', posted(b'{"call":"list","jql":"","fields":["colour"]}', CLOSE), 404,
+            '{"refused":{"kind":"field","name":"colour","no":2}}')
+    ask.one('a list by a query with a fault', posted(b'{"call":"list","jql":"colour = red"}', CLOSE), 422, '{"refused":{"kind":11,"no":7,"place":0}}')
+    ask.form('a list of too many', posted(b'{"call":"list","jql":"","count":101}', CLOSE), 'count')
+    ask.one('no filters', posted(b'{"call":"filters"}', CLOSE, user='cy'), 200, '{"ok":{"filters":[],"total":0}}')
+    ask.one('no boards', posted(b'{"call":"boards"}', CLOSE, user='cy'), 200, '{"ok":{"boards":[],"total":0}}')
+    ask.one('no sprints', posted(b'{"call":"sprints","count":1}', CLOSE, user='cy'), 200, '{"ok":{"sprints":[],"total":0}}')
+    described = answers(ask.exchange(posted(b'{"call":"describe"}', CLOSE, user='cy'), finish=False))[0]
+    told = json.loads(described.body)['ok']
+    ask.tell('a description', (200, 'cy', [{'key': 'OPS', 'lead': 'anna', 'may': ['browse']}], list(range(1, 14)), ['Start', 'Review', 'Finish', 'Reopen']),
+             (described.status, told['user'], told['projects'], [it['number'] for it in told['fields']], [it['transition'] for it in told['transitions']]))
+    ask.form('a description with a member', posted(b'{"call":"describe","count":1}', CLOSE), 'count')
     ask.one('no entry of its history', request(SHOW + '/history', CLOSE), 200, '{"ok":{"entries":[],"total":0}}')
     ask.one('an unknown issue', request('/issues/OPS-9', CLOSE), 404, UNKNOWN % 'OPS-9')
     ask.one('an unknown filter', request('/filters/007', CLOSE), 404, '{"refused":{"kind":"filter","name":"7","no":2}}')

@@ -11,7 +11,7 @@ use Rattle.call_lines.specs.Asked.{Asked, asked_by, need, no_other, names_of, is
 use Rattle.json_texts.specs.JsonMembers.{text_at, title_at}
 use Rattle.tracker_calls.specs.declared.call.Call.{Call}
 use Rattle.call_lines.specs.Given.{set_at, set_if_there}
-use Rattle.call_lines.specs.Named.{external_if_there, names_at}
+use Rattle.call_lines.specs.Named.{external_if_there, names_at, fields_if_there}
 use Rattle.call_lines.specs.Part.{from_if_there, count_if_there, count_at}
 use Rattle.call_lines.specs.Body.{is_body_member, first_unknown, asked_alone, asked_beside, misses_other, fault_beside, of_line}
 
@@ -111,6 +111,21 @@ module _ (ms : Members) (user : List ℕ) where
       first (from_if_there (object ms)) (codes "from") _ _ refl (λ from.
       first (count_if_there 1000 (object ms)) (codes "count") _ _ refl (λ count.
       told _ _ _ _)))
+  looked kind.List = first (text_at (codes "jql") (object ms)) (codes "jql") _ _ refl (λ jql.
+      first (fields_if_there (object ms)) (codes "fields") _ _ refl (λ fields.
+      first (from_if_there (object ms)) (codes "from") _ _ refl (λ from.
+      first (count_if_there 100 (object ms)) (codes "count") _ _ refl (λ count.
+      told _ _ _ _))))
+  looked kind.Filters = first (from_if_there (object ms)) (codes "from") _ _ refl (λ from.
+      first (count_if_there 1000 (object ms)) (codes "count") _ _ refl (λ count.
+      told _ _ _ _))
+  looked kind.Boards = first (from_if_there (object ms)) (codes "from") _ _ refl (λ from.
+      first (count_if_there 1000 (object ms)) (codes "count") _ _ refl (λ count.
+      told _ _ _ _))
+  looked kind.Sprints = first (from_if_there (object ms)) (codes "from") _ _ refl (λ from.
+      first (count_if_there 1000 (object ms)) (codes "count") _ _ refl (λ count.
+      told _ _ _ _))
+  looked kind.Describe = told _ _ _ _
 
 -- ---- what a line of the members is answered tells what is answered of the body
 

@@ -17,6 +17,7 @@ use Rattle.call_lines.specs.declared.kind.CallKind.{CallKind}
 use Rattle.call_lines.specs.Asked.{names_of, first_other, is_member}
 use Rattle.json_texts.specs.JsonMembers.{text_at}
 use Rattle.call_lines.specs.Named.{external_if_there}
+use Rattle.call_lines.specs.Part.{from_if_there, count_if_there}
 use Rattle.call_lines.specs.Taken.{without}
 use Rattle.tracker_calls.proofs.Twins.{bytes_eq_flips}
 
@@ -55,6 +56,13 @@ text_at_without name other ms apart = rw (get_without name other ms apart) refl
 
 pub external_without : (name : List ℕ) (ms : Members) → bytes_eq name (codes "external") ≡ false → external_if_there (object (without name ms)) ≡ external_if_there (object ms)
 external_without name ms apart = rw (get_without name (codes "external") ms apart) refl
+
+-- so are the bounds of a part
+pub from_without : (name : List ℕ) (ms : Members) → bytes_eq name (codes "from") ≡ false → from_if_there (object (without name ms)) ≡ from_if_there (object ms)
+from_without name ms apart = rw (get_without name (codes "from") ms apart) refl
+
+pub count_without : (most : ℕ) (name : List ℕ) (ms : Members) → bytes_eq name (codes "count") ≡ false → count_if_there most (object (without name ms)) ≡ count_if_there most (object ms)
+count_without most name ms apart = rw (get_without name (codes "count") ms apart) refl
 
 -- a name that passes no test isn't missed by it
 pub find_without : (test : List ℕ → Bool) (name : List ℕ) (ms : Members) → test name ≡ false → find test (names_of (without name ms)) ≡ find test (names_of ms)

@@ -4,6 +4,7 @@ use Rattle.std.specs.Str.{is_utf8, chars}
 use Rattle.serde_json.proofs.OnLiterals.{serde_json_on_literals}
 use Rattle.call_lines.specs.Asked.{line_of}
 use Rattle.tracker_calls.specs.declared.call.Call.TheVariants.{Create, MoveBefore, SaveFilter, DropFilter, MakeBoard, DropBoard, MakeSprint, StartSprint, CloseSprint, SetGroup, Filter, Board, Burndown}
+use Rattle.tracker_calls.specs.declared.call.Call.TheVariants as call
 use Rattle.tracker_calls.specs.declared.cause.Cause.TheVariants.{Form}
 
 pub a_move : line_of (codes "{\"user\":\"root\",\"call\":\"move_before\",\"issue\":\"OPS-1\",\"other\":\"OPS-2\"}") ≡ Ok (codes "root", MoveBefore (codes "OPS-1") (codes "OPS-2"))
@@ -176,3 +177,43 @@ a_group_by_number = refl
 pub a_group_with_a_name : line_of (codes "{\"call\":\"set_group\",\"group\":\"team\",\"members\":[],\"user\":\"anna\",\"name\":\"x\"}") ≡ Err (Form (codes "name"))
 unfolding is_utf8 chars serde_json_on_literals line_of
 a_group_with_a_name = refl
+
+-- ---- what there is
+
+pub a_list : line_of (codes "{\"user\":\"amy\",\"call\":\"list\",\"jql\":\"\",\"fields\":[\"status\",\"SUMMARY\"],\"count\":5}") ≡ Ok (codes "amy", call.List [] (Some (codes "status" ∷ codes "SUMMARY" ∷ [])) (record { from = 0; count = 5 }))
+unfolding is_utf8 chars serde_json_on_literals line_of
+a_list = refl
+
+-- without the member, all fields are asked for
+pub a_list_of_all_fields : line_of (codes "{\"user\":\"amy\",\"call\":\"list\",\"jql\":\"\"}") ≡ Ok (codes "amy", call.List [] None (record { from = 0; count = 100 }))
+unfolding is_utf8 chars serde_json_on_literals line_of
+a_list_of_all_fields = refl
+
+pub a_list_of_no_fields : line_of (codes "{\"user\":\"amy\",\"call\":\"list\",\"jql\":\"\",\"fields\":[]}") ≡ Ok (codes "amy", call.List [] (Some []) (record { from = 0; count = 100 }))
+unfolding is_utf8 chars serde_json_on_literals line_of
+a_list_of_no_fields = refl
+
+-- a fault of `fields` comes before one of `from`
+pub a_list_with_a_number : line_of (codes "{\"user\":\"amy\",\"call\":\"list\",\"jql\":\"\",\"from\":-1,\"fields\":[\"status\",4]}") ≡ Err (Form (codes "fields"))
+unfolding is_utf8 chars serde_json_on_literals line_of
+a_list_with_a_number = refl
+
+pub a_list_of_null : line_of (codes "{\"user\":\"amy\",\"call\":\"list\",\"jql\":\"\",\"fields\":null}") ≡ Err (Form (codes "fields"))
+unfolding is_utf8 chars serde_json_on_literals line_of
+a_list_of_null = refl
+
+pub too_long_a_list : line_of (codes "{\"user\":\"amy\",\"call\":\"list\",\"jql\":\"\",\"count\":101}") ≡ Err (Form (codes "count"))
+unfolding is_utf8 chars serde_json_on_literals line_of
+too_long_a_list = refl
+
+pub some_filters : line_of (codes "{\"user\":\"amy\",\"call\":\"filters\",\"from\":2}") ≡ Ok (codes "amy", call.Filters (record { from = 2; count = 1000 }))
+unfolding is_utf8 chars serde_json_on_literals line_of
+some_filters = refl
+
+pub some_boards : line_of (codes "{\"user\":\"amy\",\"call\":\"boards\",\"count\":1000}") ≡ Ok (codes "amy", call.Boards (record { from = 0; count = 1000 }))
+unfolding is_utf8 chars serde_json_on_literals line_of
+some_boards = refl
+
+pub no_sprints : line_of (codes "{\"user\":\"amy\",\"call\":\"sprints\",\"count\":0}") ≡ Err (Form (codes "count"))
+unfolding is_utf8 chars serde_json_on_literals line_of
+no_sprints = refl

@@ -8,8 +8,9 @@ use Rattle.json_texts.specs.JsonMembers.{text_at, title_at}
 use Rattle.call_lines.specs.Given.{set_at, set_if_there}
 use Rattle.tracker_calls.specs.declared.call.Call.{Call}
 use Rattle.tracker_calls.specs.declared.call.Call.TheVariants.{Create, Edit, Transition, Tick, MoveBefore, MoveAfter, RebalanceStart, RebalanceStep, SaveFilter, DropFilter, MakeBoard, DropBoard, MakeSprint, StartSprint, CloseSprint, SetGroup, Show, History, Search, Ranks, Balance, Filter, Board, Burndown}
+use Rattle.tracker_calls.specs.declared.call.Call.TheVariants as call
 use Rattle.call_lines.specs.Part.{whole_within, from_if_there, count_if_there, count_at}
-use Rattle.call_lines.specs.Named.{external_if_there, names_at}
+use Rattle.call_lines.specs.Named.{external_if_there, names_at, fields_if_there}
 use Rattle.call_lines.specs.declared.kind.CallKind.{CallKind}
 use Rattle.call_lines.specs.declared.kind.CallKind.TheVariants as kind
 use Rattle.tracker_calls.specs.declared.cause.Cause.{Cause}
@@ -91,7 +92,12 @@ kind_named name =
     (if bytes_eq name (codes "balance") then Some kind.Balance else
     (if bytes_eq name (codes "filter") then Some kind.Filter else
     (if bytes_eq name (codes "board") then Some kind.Board else
-    (if bytes_eq name (codes "burndown") then Some kind.Burndown else None)))))))))))))))))))))))
+    (if bytes_eq name (codes "burndown") then Some kind.Burndown else
+    (if bytes_eq name (codes "list") then Some kind.List else
+    (if bytes_eq name (codes "filters") then Some kind.Filters else
+    (if bytes_eq name (codes "boards") then Some kind.Boards else
+    (if bytes_eq name (codes "sprints") then Some kind.Sprints else
+    (if bytes_eq name (codes "describe") then Some kind.Describe else None))))))))))))))))))))))))))))
 
 abbrev pub call_members : CallKind → List (List ℕ)
 call_members kind.Create =
@@ -126,6 +132,12 @@ call_members kind.Board =
     codes "board" ∷ codes "call" ∷ codes "count" ∷ codes "from" ∷ codes "user" ∷ []
 call_members kind.Burndown =
     codes "call" ∷ codes "count" ∷ codes "from" ∷ codes "sprint" ∷ codes "user" ∷ []
+call_members kind.List =
+    codes "call" ∷ codes "count" ∷ codes "fields" ∷ codes "from" ∷ codes "jql" ∷ codes "user" ∷ []
+call_members kind.Filters = codes "call" ∷ codes "count" ∷ codes "from" ∷ codes "user" ∷ []
+call_members kind.Boards = codes "call" ∷ codes "count" ∷ codes "from" ∷ codes "user" ∷ []
+call_members kind.Sprints = codes "call" ∷ codes "count" ∷ codes "from" ∷ codes "user" ∷ []
+call_members kind.Describe = codes "call" ∷ codes "user" ∷ []
 
 abbrev pub is_member : CallKind → List ℕ → Bool
 is_member kind name = is_among name (call_members kind)
@@ -287,6 +299,40 @@ burndown_of d members user =
     no_other (first_other kind.Burndown (names_of members))
     (Ok (user, Burndown (record { 0 = sprint }) (record { from = from; count = count }))))))
 
+abbrev pub list_of : Data → Members → List ℕ → Asked
+list_of d members user =
+    need (text_at (codes "jql") d) (codes "jql") (λ jql.
+    need (fields_if_there d) (codes "fields") (λ fields.
+    need (from_if_there d) (codes "from") (λ from.
+    need (count_if_there 100 d) (codes "count") (λ count.
+    no_other (first_other kind.List (names_of members))
+    (Ok (user, call.List jql fields (record { from = from; count = count })))))))
+
+abbrev pub filters_of : Data → Members → List ℕ → Asked
+filters_of d members user =
+    need (from_if_there d) (codes "from") (λ from.
+    need (count_if_there 1000 d) (codes "count") (λ count.
+    no_other (first_other kind.Filters (names_of members))
+    (Ok (user, call.Filters (record { from = from; count = count })))))
+
+abbrev pub boards_of : Data → Members → List ℕ → Asked
+boards_of d members user =
+    need (from_if_there d) (codes "from") (λ from.
+    need (count_if_there 1000 d) (codes "count") (λ count.
+    no_other (first_other kind.Boards (names_of members))
+    (Ok (user, call.Boards (record { from = from; count = count })))))
+
+abbrev pub sprints_of : Data → Members → List ℕ → Asked
+sprints_of d members user =
+    need (from_if_there d) (codes "from") (λ from.
+    need (count_if_there 1000 d) (codes "count") (λ count.
+    no_other (first_other kind.Sprints (names_of members))
+    (Ok (user, call.Sprints (record { from = from; count = count })))))
+
+abbrev pub describe_of : Members → List ℕ → Asked
+describe_of members user =
+    no_other (first_other kind.Describe (names_of members)) (Ok (user, call.Describe))
+
 abbrev pub asked_by : CallKind → Data → Members → List ℕ → Asked
 asked_by kind.Create d members user = create_of d members user
 asked_by kind.Edit d members user = edit_of d members user
@@ -312,6 +358,11 @@ asked_by kind.Balance d members user = balance_of members user
 asked_by kind.Filter d members user = filter_of d members user
 asked_by kind.Board d members user = board_of d members user
 asked_by kind.Burndown d members user = burndown_of d members user
+asked_by kind.List d members user = list_of d members user
+asked_by kind.Filters d members user = filters_of d members user
+asked_by kind.Boards d members user = boards_of d members user
+asked_by kind.Sprints d members user = sprints_of d members user
+asked_by kind.Describe d members user = describe_of members user
 
 -- the user and the call, or the first fault in the order of the members
 abbrev pub call_of : Data → Asked

@@ -4,6 +4,7 @@ ghost use Rattle.call_lines.specs.Asked.{UnlessMemory};
 ghost use Rattle.call_lines.specs.Taken.{asked_in, move_in, moved};
 
 use crate::asked_groups::set_group_of;
+use crate::asked_pages::{boards_of, describe_of, filters_of, list_of, sprints_of};
 use crate::asked_sprints::{burndown_of, close_sprint_of, make_sprint_of, start_sprint_of};
 use crate::given::{take_set, take_set_if_there};
 use crate::kind::CallKind;
@@ -51,6 +52,11 @@ pub fn asked_in(
         CallKind::Filter => filter_of(alloc, members),
         CallKind::Board => board_of(alloc, members),
         CallKind::Burndown => burndown_of(alloc, members),
+        CallKind::List => list_of(alloc, members),
+        CallKind::Filters => filters_of(alloc, members),
+        CallKind::Boards => boards_of(alloc, members),
+        CallKind::Sprints => sprints_of(alloc, members),
+        CallKind::Describe => describe_of(alloc, members),
     }
 }
 

@@ -31,6 +31,11 @@ pub enum CallKind {
     Filter,
     Board,
     Burndown,
+    List,
+    Filters,
+    Boards,
+    Sprints,
+    Describe,
 }
 
 /// The call of that name. The names that most lines have come first.
@@ -86,6 +91,16 @@ pub fn kind_named(name: &str) -> Option<CallKind>
         Some(CallKind::Board)
     } else if is_same(name, "burndown") {
         Some(CallKind::Burndown)
+    } else if is_same(name, "list") {
+        Some(CallKind::List)
+    } else if is_same(name, "filters") {
+        Some(CallKind::Filters)
+    } else if is_same(name, "boards") {
+        Some(CallKind::Boards)
+    } else if is_same(name, "sprints") {
+        Some(CallKind::Sprints)
+    } else if is_same(name, "describe") {
+        Some(CallKind::Describe)
     } else {
         None
     }
@@ -122,5 +137,10 @@ pub fn call_members(kind: CallKind) -> &'static [&'static str]
         CallKind::Filter => &["call", "count", "filter", "from", "user"],
         CallKind::Board => &["board", "call", "count", "from", "user"],
         CallKind::Burndown => &["call", "count", "from", "sprint", "user"],
+        CallKind::List => &["call", "count", "fields", "from", "jql", "user"],
+        CallKind::Filters => &["call", "count", "from", "user"],
+        CallKind::Boards => &["call", "count", "from", "user"],
+        CallKind::Sprints => &["call", "count", "from", "user"],
+        CallKind::Describe => &["call", "user"],
     }
 }

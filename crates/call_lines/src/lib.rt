@@ -3,6 +3,7 @@
 
 mod asked;
 mod asked_groups;
+mod asked_pages;
 mod asked_sprints;
 mod body;
 mod given;

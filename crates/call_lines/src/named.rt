@@ -3,6 +3,7 @@ ghost use Rattle.std.specs.Prelude.{◌≡◌, codes, IfOk};
 ghost use Rattle.serde_json.specs.View.{view, members_view};
 ghost use Rattle.call_lines.specs.Named.{external_given, external_if_there, few_of};
 ghost use Rattle.call_lines.specs.Named.{names_given, names_at};
+ghost use Rattle.call_lines.specs.Named.{few_fields_of, fields_given, fields_if_there};
 ghost use Rattle.call_lines.specs.Taken.{object_of, without};
 
 use crate::given::texts_of;
@@ -11,7 +12,7 @@ use external_ids::is_external;
 use field_values::{Memory, Names, Text};
 use serde_json::{Map, Value};
 use std::alloc::Global;
-use tracker_calls::MOST_MEMBERS;
+use tracker_calls::{MOST_FIELDS, MOST_MEMBERS};
 
 /// Takes the member `external` out, which may be absent; `None` where it isn't of its form.
 pub(crate) fn take_external(members: &mut Map<String, Value>) -> Option<Option<Text>>
@@ -71,6 +72,45 @@ fn few_of(texts: Option<Names>) -> Option<Names>
     let names = texts?;
     if names.as_slice().len() <= MOST_MEMBERS {
         Some(names)
+    } else {
+        None
+    }
+}
+
+/// Takes the member `fields` out, which may be absent, and the texts that it has; `None` where it is no array, or has something
+/// else or too many of them.
+pub(crate) fn take_fields(
+    alloc: Global,
+    members: &mut Map<String, Value>,
+) -> Result<Option<Option<Names>>, Memory>
+    ensures fields { IfOk result (λ fields. fields ≡ fields_if_there (object_of members.old)) }
+    ensures left { members_view members.new.entries
+        ≡ without (codes "fields") (members_view members.old.entries) }
+{
+    match take(members, "fields") {
+        Some(value) => fields_given(alloc, value),
+        None => Ok(Some(None)),
+    }
+}
+
+fn fields_given(alloc: Global, value: Value) -> Result<Option<Option<Names>>, Memory>
+    ensures { IfOk result (λ fields. fields ≡ fields_given (view value)) }
+{
+    match value {
+        Value::Array(items) => {
+            let texts = texts_of(alloc, items)?;
+            Ok(few_fields_of(texts))
+        }
+        _ => Ok(None),
+    }
+}
+
+fn few_fields_of(texts: Option<Names>) -> Option<Option<Names>>
+    ensures { result ≡ few_fields_of texts }
+{
+    let names = texts?;
+    if names.as_slice().len() <= MOST_FIELDS {
+        Some(Some(names))
     } else {
         None
     }

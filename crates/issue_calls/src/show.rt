@@ -83,8 +83,8 @@ fn shown_issue(alloc: Global, setup: &Setup, issue: &Issue) -> Result<ShownField
     Ok(fields)
 }
 
-// Puts some of the fields that every tracker has behind others.
-fn put_fields(
+/// Puts those of the fields of these numbers that aren't empty behind others.
+pub fn put_fields(
     alloc: Global,
     setup: &Setup,
     issue: &Issue,

@@ -1,11 +1,18 @@
--- The issues that two users may browse.
-use Rattle.std.specs.Prelude.{◌-◌, ◌&&◌, ℕ, Bool, slice_get, Option, Some, None, option_and_then, if◌then◌else◌}
+-- The issues that a query finds in its order, and those that two users may browse.
+use Rattle.std.specs.Prelude.{◌-◌, ◌&&◌, ℕ, Bool, List, slice_get, Option, Some, None, option_and_then, if◌then◌else◌}
 use Rattle.field_values.specs.declared.numbers.IssueNo.{IssueNo}
 use Rattle.field_values.specs.declared.rules.Permission.TheVariants.{Browse}
 use Rattle.fields.specs.SetupParts.{may}
 use Rattle.change_history.specs.History.{History}
 use Rattle.workflow.specs.Conditions.{project_number}
 use Rattle.tracker_machine.specs.Machine.{Machine}
+use Rattle.tracker_machine.specs.Query.{Query}
+use Rattle.tracker_machine.specs.Search.{found, listed}
+
+-- what a caller finds by a query, in its order
+abbrev pub found_in_order : Machine → ℕ → Query → List History
+found_in_order m caller query =
+    listed m.setup query.keys m.order (found m caller query.condition)
 
 -- both users may browse the issue
 abbrev pub may_both : Machine → ℕ → ℕ → History → Bool

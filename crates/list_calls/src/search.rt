@@ -2,10 +2,12 @@
 ghost use Rattle.std.specs.Prelude.{◌≡◌, ◌+◌, ◌≤◌, IfOk, Some, filter, length, map, option_map, slice_get};
 ghost use Rattle.jql_bound.specs.Condition.{view};
 ghost use Rattle.jql_meaning.specs.Truth.{query_holds};
+ghost use Rattle.tracker_calls.specs.Part.{part_of};
 ghost use Rattle.tracker_machine.specs.Search.{found, search_meaning, search_answer, surroundings_in};
 ghost use Rattle.tracker_state.specs.Plan.{IsPrepared, cost_to_prepare};
 ghost use Rattle.tracker_state.specs.State.{query_of};
 ghost use Rattle.list_calls.specs.Browsing.{is_found_by};
+ghost use Rattle.list_calls.specs.Found.{found_in_order};
 
 use crate::ahead::{AHEAD, first_look, read_ahead};
 use crate::browsing::{browsable, is_browsable};
@@ -45,7 +47,6 @@ pub fn search<L: Ledger>(
     }
 }
 
-// Tells them, with the query's dates worked out before any issue is asked: it is asked at this moment alone.
 fn answered<L: Ledger>(
     alloc: Global,
     state: &State,
@@ -58,27 +59,61 @@ fn answered<L: Ledger>(
         ≡ search_answer state.now.machine caller.0 part (query_of bound.old)) }
     ensures steps { steps.new ≤ steps.old + length state.now.machine.histories }
 {
-    settle(bound, state.context(), state.moment());
-    told(alloc, state, caller, bound, part, steps)
+    let found = found_part(alloc, state, caller, bound, part, steps)?;
+    let issues = keys_of(alloc, part_of(&found.issues, part))?;
+    Ok(Answer::Search {
+        issues,
+        total: found.total,
+    })
 }
 
-fn told<L: Ledger>(
+/// What a query finds: issues, of which a part is told, and how many there are.
+#[derive(Drop)]
+pub struct FoundIssues<'s> {
+    pub issues: Vec<&'s Issue>,
+    pub total: u64,
+}
+
+/// The issues of which the query holds and which the caller may browse: those of the part in the query's order, and how many there
+/// are. The query's dates are worked out before any issue is asked: it is asked at this moment alone, and each at most once.
+pub fn found_part<'s, L: Ledger>(
     alloc: Global,
-    state: &State,
+    state: &'s State,
+    caller: UserNo,
+    bound: &mut Bound,
+    part: Part,
+    steps: &mut Steps<L>,
+) -> Result<FoundIssues<'s>, Memory>
+    ensures issues { IfOk result (λ told.
+        map (λ i. i.now.history) (part_of part told.issues.items)
+        ≡ part_of part (found_in_order state.now.machine caller.0 (query_of bound.old))) }
+    ensures total { IfOk result (λ told. told.total
+        ≡ length (found state.now.machine caller.0 (query_of bound.old).condition)) }
+    ensures steps { steps.new ≤ steps.old + length state.now.machine.histories }
+{
+    settle(bound, state.context(), state.moment());
+    ordered(alloc, state, caller, bound, part, steps)
+}
+
+fn ordered<'s, L: Ledger>(
+    alloc: Global,
+    state: &'s State,
     caller: UserNo,
     bound: &Bound,
     part: Part,
     steps: &mut Steps<L>,
-) -> Result<Answer, Memory>
-    ensures answer { IfOk result
-        (λ answer. answer ≡ search_answer state.now.machine caller.0 part (query_of bound.now)) }
+) -> Result<FoundIssues<'s>, Memory>
+    ensures issues { IfOk result (λ told.
+        map (λ i. i.now.history) (part_of part told.issues.items)
+        ≡ part_of part (found_in_order state.now.machine caller.0 (query_of bound.now))) }
+    ensures total { IfOk result (λ told. told.total
+        ≡ length (found state.now.machine caller.0 (query_of bound.now).condition)) }
     ensures steps { steps.new ≤ steps.old + length state.now.machine.histories }
 {
     let mut issues = found(alloc, state, caller, bound, steps)?;
     let total = count_of(&issues);
     put_in_order(alloc, state, &bound.order, end_of(part), &mut issues)?;
-    let issues = keys_of(alloc, part_of(&issues, part))?;
-    Ok(Answer::Search { issues, total })
+    Ok(FoundIssues { issues, total })
 }
 
 // The issues of which the query holds and which the caller may browse. Each is asked at most once; of each project it is

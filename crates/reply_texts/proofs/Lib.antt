@@ -1,3 +1,4 @@
 pub mod Sorting
 pub mod Numbers
 pub mod WorkedReplies
+pub mod WorkedDescriptions

@@ -12,6 +12,7 @@ use Rattle.tracker_calls.specs.declared.cause.BalanceKept.TheVariants as kept
 use Rattle.tracker_calls.specs.declared.reply.SprintPhase.TheVariants as phase
 use Rattle.tracker_calls.specs.declared.cause.Limit.TheVariants as limit
 use Rattle.tracker_calls.specs.declared.cause.Thing.TheVariants as thing
+use Rattle.tracker_calls.specs.declared.reply.Shown.TheVariants as shown
 
 pub a_move : reply_text (reply.Ok (answer.Move (codes "OPS-2") (codes "1|qzzncw:"))) ≡ codes "{\"ok\":{\"issue\":\"OPS-2\",\"rank\":\"1|qzzncw:\"}}"
 unfolding digits serde_json_on_literals reply_text
@@ -162,3 +163,35 @@ no_such_group = refl
 pub created_as_another : reply_text (reply.Refused (refusal.Cause (cause.ExternalIs (codes "J-1") (codes "OPS-1")))) ≡ codes "{\"refused\":{\"external\":\"J-1\",\"kept\":\"OPS-1\",\"no\":13}}"
 unfolding digits serde_json_on_literals reply_text
 created_as_another = refl
+
+-- ---- what there is
+
+-- fields stand by their names
+pub a_list : reply_text (reply.Ok (answer.List (record {
+  created = 0;
+  fields = record { name = codes "status"; value = shown.Text (codes "Open") } ∷ record { name = codes "assignee"; value = shown.Text (codes "amy") } ∷ [];
+  issue = codes "OPS-1";
+  updated = 5;
+} ∷ []) 7))
+    ≡ codes "{\"ok\":{\"issues\":[{\"created\":0,\"fields\":{\"assignee\":\"amy\",\"status\":\"Open\"},\"issue\":\"OPS-1\",\"updated\":5}],\"total\":7}}"
+unfolding digits serde_json_on_literals reply_text
+a_list = refl
+
+pub some_filters : reply_text (reply.Ok (answer.Filters (record { filter = record { 0 = 3 }; jql = codes "type = Bug"; name = codes "Bugs"; owner = codes "amy" } ∷ []) 1))
+    ≡ codes "{\"ok\":{\"filters\":[{\"filter\":3,\"jql\":\"type = Bug\",\"name\":\"Bugs\",\"owner\":\"amy\"}],\"total\":1}}"
+unfolding digits serde_json_on_literals reply_text
+some_filters = refl
+
+pub some_boards : reply_text (reply.Ok (answer.Boards (record { board = record { 0 = 1 }; filter = record { 0 = 3 }; name = codes "Team" } ∷ []) 1))
+    ≡ codes "{\"ok\":{\"boards\":[{\"board\":1,\"filter\":3,\"name\":\"Team\"}],\"total\":1}}"
+unfolding digits serde_json_on_literals reply_text
+some_boards = refl
+
+pub some_sprints : reply_text (reply.Ok (answer.Sprints (record { name = codes "Week 9"; sprint = record { 0 = 1 }; state = phase.Active } ∷ []) 2))
+    ≡ codes "{\"ok\":{\"sprints\":[{\"name\":\"Week 9\",\"sprint\":1,\"state\":\"active\"}],\"total\":2}}"
+unfolding digits serde_json_on_literals reply_text
+some_sprints = refl
+
+pub no_filters : reply_text (reply.Ok (answer.Filters [] 0)) ≡ codes "{\"ok\":{\"filters\":[],\"total\":0}}"
+unfolding digits serde_json_on_literals reply_text
+no_filters = refl

@@ -5,6 +5,7 @@ use Rattle.serde_json.specs.View.{items_of}
 use Rattle.serde_json.specs.Written.{compact_text}
 use Rattle.field_forms.specs.TextLists.{texts_data}
 use Rattle.json_texts.specs.JsonData.{natural, integer, natural_or_null, text_or_null}
+use Rattle.reply_texts.specs.Described.{describe_data}
 use Rattle.tracker_calls.specs.declared.reply.Reply.{Reply}
 use Rattle.tracker_calls.specs.declared.reply.Reply.TheVariants as reply
 use Rattle.tracker_calls.specs.declared.reply.Answer.{Answer}
@@ -20,6 +21,10 @@ use Rattle.tracker_calls.specs.declared.reply.BalanceState.TheVariants as state
 use Rattle.tracker_calls.specs.declared.cause.BalanceKept.{BalanceKept}
 use Rattle.tracker_calls.specs.declared.cause.BalanceKept.TheVariants as kept
 use Rattle.tracker_calls.specs.declared.reply.BurnedRow.{BurnedRow}
+use Rattle.tracker_calls.specs.declared.listed.ListedIssue.{ListedIssue}
+use Rattle.tracker_calls.specs.declared.listed.ToldFilter.{ToldFilter}
+use Rattle.tracker_calls.specs.declared.listed.ToldBoard.{ToldBoard}
+use Rattle.tracker_calls.specs.declared.listed.ToldSprint.{ToldSprint}
 use Rattle.tracker_calls.specs.declared.reply.SprintPhase.{SprintPhase}
 use Rattle.tracker_calls.specs.declared.reply.SprintPhase.TheVariants as phase
 use Rattle.field_values.specs.declared.rules.Permission.{Permission}
@@ -221,6 +226,48 @@ burndown_data left rows start phase total = object
     (member (codes "state") (string (phase_name phase))
     (member (codes "total") (natural total) no_members)))))
 
+-- an issue is listed as it is shown
+abbrev pub listed_data : ListedIssue → Data
+listed_data i = show_data i.created i.fields i.issue i.updated
+
+abbrev pub list_data : List ListedIssue → ℕ → Data
+list_data issues total = object
+    (member (codes "issues") (array (items_of (map listed_data issues)))
+    (member (codes "total") (natural total) no_members))
+
+-- a saved filter, with its text as it was given
+abbrev pub told_filter_data : ToldFilter → Data
+told_filter_data f = object
+    (member (codes "filter") (natural f.filter.0)
+    (member (codes "jql") (string f.jql)
+    (member (codes "name") (string f.name) (member (codes "owner") (string f.owner) no_members))))
+
+abbrev pub filters_data : List ToldFilter → ℕ → Data
+filters_data filters total = object
+    (member (codes "filters") (array (items_of (map told_filter_data filters)))
+    (member (codes "total") (natural total) no_members))
+
+abbrev pub told_board_data : ToldBoard → Data
+told_board_data b = object
+    (member (codes "board") (natural b.board.0)
+    (member (codes "filter") (natural b.filter.0) (member (codes "name") (string b.name) no_members)))
+
+abbrev pub boards_data : List ToldBoard → ℕ → Data
+boards_data boards total = object
+    (member (codes "boards") (array (items_of (map told_board_data boards)))
+    (member (codes "total") (natural total) no_members))
+
+abbrev pub told_sprint_data : ToldSprint → Data
+told_sprint_data s = object
+    (member (codes "name") (string s.name)
+    (member (codes "sprint") (natural s.sprint.0)
+    (member (codes "state") (string (phase_name s.state)) no_members)))
+
+abbrev pub sprints_data : List ToldSprint → ℕ → Data
+sprints_data sprints total = object
+    (member (codes "sprints") (array (items_of (map told_sprint_data sprints)))
+    (member (codes "total") (natural total) no_members))
+
 abbrev pub answer_data : Answer → Data
 answer_data (answer.Create already change issue) = create_data already change issue
 answer_data (answer.Edit change issue) = edit_data change issue
@@ -245,6 +292,11 @@ answer_data (answer.SetGroup group members) = set_group_data group members
 answer_data (answer.SprintPhase sprint phase) = sprint_phase_data sprint.0 phase
 answer_data (answer.Burndown left rows start phase total) =
     burndown_data left rows start phase total
+answer_data (answer.List issues total) = list_data issues total
+answer_data (answer.Filters filters total) = filters_data filters total
+answer_data (answer.Boards boards total) = boards_data boards total
+answer_data (answer.Sprints sprints total) = sprints_data sprints total
+answer_data (answer.Describe told) = describe_data told
 
 -- the members under `refused`
 abbrev pub form_data : List ℕ → Data

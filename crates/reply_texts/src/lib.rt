@@ -2,11 +2,14 @@
 #![tactic(auto)]
 
 mod cause_json;
+mod described_json;
+mod described_words;
 mod filters_json;
 mod groups_json;
 mod history_json;
 mod laws;
 mod list_json;
+mod pages_json;
 mod ranks_json;
 mod reply_json;
 mod show_json;

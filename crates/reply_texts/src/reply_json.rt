@@ -6,11 +6,13 @@ ghost use Rattle.reply_texts.specs.Reply.{edit_data, tick_data, search_data, ref
 ghost use Rattle.reply_texts.specs.Reply.{number_data};
 
 use crate::cause_json::write_cause;
+use crate::described_json::write_describe;
 use crate::filters_json::{
     write_board, write_board_number, write_filter_number, write_save_filter,
 };
 use crate::groups_json::write_set_group;
 use crate::history_json::write_history;
+use crate::pages_json::{write_boards, write_filters, write_issues, write_sprints};
 use crate::ranks_json::{
     write_balance, write_move, write_ranks, write_rebalance_start, write_rebalance_step,
 };
@@ -112,6 +114,11 @@ fn write_answer(alloc: Global, out: &mut JsonText, answer: &Answer) -> Result<()
             state,
             total,
         } => write_burndown(out, *left, rows.as_slice(), *start, *state, *total),
+        Answer::List { issues, total } => write_issues(alloc, out, issues.as_slice(), *total),
+        Answer::Filters { filters, total } => write_filters(out, filters.as_slice(), *total),
+        Answer::Boards { boards, total } => write_boards(out, boards.as_slice(), *total),
+        Answer::Sprints { sprints, total } => write_sprints(out, sprints.as_slice(), *total),
+        Answer::Describe { told } => write_describe(out, told),
     }
 }
 

@@ -143,6 +143,33 @@ pub enum Call {
         sprint: SprintNo,
         part: Part,
     },
+
+    /// A part of the issues of which a query holds, in the query's order, with those of these fields that they have; all that
+    /// they have where none is named.
+    List {
+        jql: Text,
+        /// At most [`MOST_FIELDS`].
+        fields: Option<Names>,
+        part: Part,
+    },
+
+    /// A part of the saved filters that the caller is told, by number.
+    Filters {
+        part: Part,
+    },
+
+    /// A part of the boards, by number.
+    Boards {
+        part: Part,
+    },
+
+    /// A part of the sprints, by number.
+    Sprints {
+        part: Part,
+    },
+
+    /// What the setup and the present say to whoever asks.
+    Describe,
 }
 
 // Written by hand, so that whoever lets one go makes one call, and its proof takes one step there.
@@ -185,7 +212,16 @@ impl Drop for Call {
             | Call::Balance
             | Call::Filter { filter: _, part: _ }
             | Call::Board { board: _, part: _ }
-            | Call::Burndown { sprint: _, part: _ } => {}
+            | Call::Burndown { sprint: _, part: _ }
+            | Call::List {
+                jql: _,
+                fields: _,
+                part: _,
+            }
+            | Call::Filters { part: _ }
+            | Call::Boards { part: _ }
+            | Call::Sprints { part: _ }
+            | Call::Describe => {}
         }
     }
 }
@@ -207,6 +243,12 @@ pub const MOST_ENTRIES: u32 = 50;
 
 /// The greatest `count` of a part of a list of issues, which is also that of a part that names none.
 pub const MOST_LISTED: u32 = 1_000;
+
+/// The greatest `count` of a part of a list of issues with their fields, which is also that of a part that names none.
+pub const MOST_SHOWN: u32 = 100;
+
+/// How many fields a call names at most.
+pub const MOST_FIELDS: usize = 50;
 
 /// How many members a call names at most.
 pub const MOST_MEMBERS: usize = 200;

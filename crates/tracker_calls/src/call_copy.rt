@@ -2,9 +2,9 @@
 ghost use Rattle.std.specs.Prelude.{◌≡◌, IfOk, option_map};
 ghost use Rattle.tracker_calls.specs.declared.call.Call.TheVariants as calls;
 
-use crate::call::Call;
+use crate::call::{Call, Part};
 use crate::given::{Given, GivenField, GivenFields};
-use crate::reply_copy::text_if_any;
+use crate::reply_copy::{names_if_any, text_if_any};
 use crate::told_text::ToldText;
 use field_values::{Memory, Names, Text};
 use std::alloc::Global;
@@ -76,6 +76,11 @@ impl Call {
                 sprint: *sprint,
                 part: *part,
             }),
+            Call::List { jql, fields, part } => copy_list(alloc, jql, fields.as_ref(), *part),
+            Call::Filters { part } => Ok(Call::Filters { part: *part }),
+            Call::Boards { part } => Ok(Call::Boards { part: *part }),
+            Call::Sprints { part } => Ok(Call::Sprints { part: *part }),
+            Call::Describe => Ok(Call::Describe),
         }
     }
 }
@@ -161,6 +166,15 @@ fn copy_set_group(alloc: Global, group: &Text, members: &Names) -> Result<Call, 
     let group = group.copy(alloc)?;
     let members = members.copy(alloc)?;
     Ok(Call::SetGroup { group, members })
+}
+
+fn copy_list(alloc: Global, jql: &Text, fields: Option<&Names>, part: Part) -> Result<Call, Memory>
+    ensures { IfOk result
+        (λ c. c ≡ calls.List jql.now (option_map (λ names. names.now) fields.entry) part) }
+{
+    let jql = jql.copy(alloc)?;
+    let fields = names_if_any(alloc, fields)?;
+    Ok(Call::List { jql, fields, part })
 }
 
 impl Given {

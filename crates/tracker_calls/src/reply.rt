@@ -2,6 +2,8 @@ ghost use Rattle.std.specs.Prelude.{◌≡◌, ◌∷◌, ◌++◌, [], OnOk, On
 ghost use Rattle.tracker_calls.specs.declared.reply.Refusal.TheVariants.{Memory as OutOfMemory};
 
 use crate::cause::Cause;
+use crate::described::Description;
+use crate::listed::{ListedIssues, ToldBoards, ToldFilters, ToldSprints};
 use crate::told_text::ToldText;
 use field_values::{BoardNo, FilterNo, Memory, Moment, Names, Sequence, SprintNo, Text};
 use std::alloc::Global;
@@ -158,6 +160,35 @@ pub enum Answer {
         start: i64,
         state: SprintPhase,
         total: u64,
+    },
+
+    /// Some of the issues that were found, with fields that they have, and how many were found.
+    List {
+        issues: ListedIssues,
+        total: u64,
+    },
+
+    /// Some of the filters that the caller is told, and how many these are.
+    Filters {
+        filters: ToldFilters,
+        total: u64,
+    },
+
+    /// Some of the boards, and how many there are.
+    Boards {
+        boards: ToldBoards,
+        total: u64,
+    },
+
+    /// Some of the sprints, and how many there are.
+    Sprints {
+        sprints: ToldSprints,
+        total: u64,
+    },
+
+    /// What the setup and the present say to the caller.
+    Describe {
+        told: Description,
     },
 }
 

@@ -3,6 +3,7 @@ ghost use Rattle.std.specs.Prelude.{◌≡◌, IfOk, option_map};
 ghost use Rattle.tracker_calls.specs.declared.reply.Answer.TheVariants as answers;
 
 use crate::copied::{Copied, copy_all};
+use crate::listed::{ListedIssues, ToldBoards, ToldFilters, ToldSprints};
 use crate::reply::{
     Answer, BurnedRow, Column, Columns, RankedKey, RankedKeys, Refusal, Reply, Shown, ShownField,
     ShownFields, ToldEntries, ToldEntry,
@@ -100,6 +101,14 @@ impl Answer {
                     state: *state,
                     total: *total,
                 })
+            }
+            Answer::List { issues, total } => copy_listed(alloc, issues, *total),
+            Answer::Filters { filters, total } => copy_filters(alloc, filters, *total),
+            Answer::Boards { boards, total } => copy_boards(alloc, boards, *total),
+            Answer::Sprints { sprints, total } => copy_sprints(alloc, sprints, *total),
+            Answer::Describe { told } => {
+                let told = told.copy(alloc)?;
+                Ok(Answer::Describe { told })
             }
         }
     }
@@ -204,6 +213,34 @@ fn copy_set_group(alloc: Global, group: &Text, members: u64) -> Result<Answer, M
     Ok(Answer::SetGroup { group, members })
 }
 
+fn copy_listed(alloc: Global, issues: &ListedIssues, total: u64) -> Result<Answer, Memory>
+    ensures { IfOk result (λ a. a ≡ answers.List issues.now total) }
+{
+    let issues = copy_all(alloc, issues)?;
+    Ok(Answer::List { issues, total })
+}
+
+fn copy_filters(alloc: Global, filters: &ToldFilters, total: u64) -> Result<Answer, Memory>
+    ensures { IfOk result (λ a. a ≡ answers.Filters filters.now total) }
+{
+    let filters = copy_all(alloc, filters)?;
+    Ok(Answer::Filters { filters, total })
+}
+
+fn copy_boards(alloc: Global, boards: &ToldBoards, total: u64) -> Result<Answer, Memory>
+    ensures { IfOk result (λ a. a ≡ answers.Boards boards.now total) }
+{
+    let boards = copy_all(alloc, boards)?;
+    Ok(Answer::Boards { boards, total })
+}
+
+fn copy_sprints(alloc: Global, sprints: &ToldSprints, total: u64) -> Result<Answer, Memory>
+    ensures { IfOk result (λ a. a ≡ answers.Sprints sprints.now total) }
+{
+    let sprints = copy_all(alloc, sprints)?;
+    Ok(Answer::Sprints { sprints, total })
+}
+
 // ---- the parts of answers
 
 impl Copied for BurnedRow {
@@ -281,7 +318,7 @@ impl ShownField {
 }
 
 impl ShownFields {
-    fn copy(&self, alloc: Global) -> Result<Self, Memory>
+    pub(crate) fn copy(&self, alloc: Global) -> Result<Self, Memory>
         ensures { IfOk result (λ fields. fields ≡ self.now) }
     {
         let mut fields = ShownFields::new(alloc);
@@ -330,6 +367,19 @@ pub(crate) fn text_if_any(alloc: Global, text: Option<&Text>) -> Result<Option<T
         Some(text) => {
             let text = text.copy(alloc)?;
             Ok(Some(text))
+        }
+    }
+}
+
+/// A copy of a list of texts, where there is one.
+pub(crate) fn names_if_any(alloc: Global, names: Option<&Names>) -> Result<Option<Names>, Memory>
+    ensures { IfOk result (λ copy. copy ≡ option_map (λ n. n.now) names.entry) }
+{
+    match names {
+        None => Ok(None),
+        Some(names) => {
+            let names = names.copy(alloc)?;
+            Ok(Some(names))
         }
     }
 }

@@ -8,12 +8,13 @@ use Rattle.tracker_machine.specs.Machine.{Machine}
 use Rattle.tracker_machine.specs.Meaning.{Meaning, cost}
 use Rattle.tracker_machine.specs.Meaning.Meaning.{Makes}
 
--- a search asks each issue at most, since it asks none that its caller may not browse
+-- a search and a list ask each issue at most, since they ask none that their caller may not browse
 abbrev pub searches : Call → Bool
 searches (call.Search jql part) = true
+searches (call.List jql fields part) = true
 searches c = false
 
--- before anything is kept, a filter that is saved asks each issue once, and no other call but a search asks any
+-- before anything is kept, a filter that is saved asks each issue once, and of the others only a search and a list ask any
 abbrev pub asked_before : Call → Machine → ℕ
 asked_before (call.SaveFilter name jql) m = length m.histories
 asked_before c m = 0

@@ -2,7 +2,7 @@
 ghost use Rattle.std.specs.Prelude.{◌≡◌, ◌≤◌, ◌<◌, ◌+◌, false, None, Ok, length, option_map, IfOk};
 ghost use Rattle.std.specs.Option.{option_copied};
 ghost use Rattle.tracker_calls.specs.Part.{part_fault};
-ghost use Rattle.tracker_machine.specs.Checks.{or_then, count_refusal, external_refusal, few_refusal, other_refusal, title_refusal, twins_refusal};
+ghost use Rattle.tracker_machine.specs.Checks.{or_then, count_refusal, external_refusal, few_fields_refusal, few_refusal, other_refusal, part_refusal, title_refusal, twins_refusal};
 ghost use Rattle.tracker_machine.specs.Step.{meaning, meaning_for, form_refusal};
 ghost use Rattle.tracker_state.specs.Plan.{IsPrepared, cost_to_prepare};
 ghost use Rattle.tracker_state.specs.declared.plan.Prepared.{Prepared};
@@ -10,7 +10,7 @@ ghost use Rattle.tracker_core.specs.Counts.{searches, asked_before};
 
 use external_ids::is_external;
 use field_forms::name_form::is_title;
-use fields::{Memory, Steps, Text, UserNo};
+use fields::{Memory, Names, Steps, Text, UserNo};
 use issue_calls::create::create;
 use issue_calls::edit::edit;
 use issue_calls::history::history;
@@ -23,6 +23,11 @@ use list_calls::filter_issues::filter;
 use list_calls::make_board::make_board;
 use list_calls::save_filter::save_filter;
 use list_calls::search::search;
+use page_calls::board_list::boards;
+use page_calls::describe::describe;
+use page_calls::filter_list::filters;
+use page_calls::issue_list::list;
+use page_calls::sprint_list::sprints;
 use rank_calls::moves::{move_after, move_before};
 use rank_calls::ranks::ranks;
 use rank_calls::rebalance::{balance, rebalance_start, rebalance_step};
@@ -34,8 +39,8 @@ use setting_calls::turn_sprint::{close_sprint, start_sprint};
 use std::alloc::Global;
 use std::sync::ledger::Ledger;
 use tracker_calls::{
-    Call, Cause, GivenField, MOST_ENTRIES, MOST_FROM, MOST_LISTED, MOST_MEMBERS, Part, Refusal,
-    Thing, UserName, has_twins,
+    Call, Cause, GivenField, MOST_ENTRIES, MOST_FIELDS, MOST_FROM, MOST_LISTED, MOST_MEMBERS,
+    MOST_SHOWN, Part, Refusal, Thing, UserName, has_twins,
 };
 use tracker_state::{Prepared, State, malformed, unknown};
 
@@ -158,6 +163,19 @@ fn prepare_for<L: Ledger>(
             set_group(alloc, state, user, group.as_str(), members.as_slice())
         }
         Call::Burndown { sprint, part } => burndown(alloc, state, user, *sprint, *part),
+        Call::List { jql, fields, part } => list(
+            alloc,
+            state,
+            user,
+            jql.as_str(),
+            fields,
+            *part,
+            steps,
+        ),
+        Call::Filters { part } => filters(alloc, state, user, *part),
+        Call::Boards { part } => boards(alloc, state, *part),
+        Call::Sprints { part } => sprints(alloc, state, *part),
+        Call::Describe => describe(alloc, state, user),
     }
 }
 
@@ -172,6 +190,17 @@ fn part_fault(part: Part, most: u32) -> Option<&'static str>
         return Some("count");
     }
     None
+}
+
+// More fields than a call may name, which no line does, and then a part that is out of range.
+fn list_fault(fields: &Option<Names>, part: Part) -> Option<&'static str>
+    ensures { option_map (λ name. Cause.Form name.now) result
+        ≡ or_then (few_fields_refusal fields.now) (part_refusal 100 part) }
+{
+    match fields {
+        Some(names) if names.as_slice().len() > MOST_FIELDS => Some("fields"),
+        _ => part_fault(part, MOST_SHOWN),
+    }
 }
 
 // Two names in `set` that differ in case alone, which no line gives.
@@ -283,11 +312,16 @@ fn fault_of_form(alloc: Global, call: &Call) -> Result<Option<&'static str>, Mem
         Call::Filter { part, .. } | Call::Board { part, .. } | Call::Burndown { part, .. } => {
             Ok(part_fault(*part, MOST_LISTED))
         }
+        Call::List { fields, part, .. } => Ok(list_fault(fields, *part)),
+        Call::Filters { part } | Call::Boards { part } | Call::Sprints { part } => {
+            Ok(part_fault(*part, MOST_LISTED))
+        }
         Call::SetGroup { members, .. } => Ok(few_fault(members.as_slice())),
         Call::Tick { .. }
         | Call::Show { .. }
         | Call::RebalanceStart
         | Call::Balance
+        | Call::Describe
         | Call::DropFilter { .. }
         | Call::DropBoard { .. }
         | Call::StartSprint { .. }

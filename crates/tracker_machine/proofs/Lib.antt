@@ -22,6 +22,7 @@ pub mod WorkedFilters
 pub mod WorkedSprints
 pub mod WorkedRanks
 pub mod WorkedMembers
+pub mod WorkedOverviews
 pub mod WorkedExternals
 pub mod Naming
 pub mod InOrder

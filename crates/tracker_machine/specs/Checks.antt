@@ -15,7 +15,7 @@ use Rattle.change_history.specs.declared.entry.Entry.{Entry}
 use Rattle.change_history.specs.History.{History}
 use Rattle.tracker_calls.specs.Given.{has_twins}
 use Rattle.external_ids.specs.Form.{is_external}
-use Rattle.tracker_calls.specs.Named.{are_few}
+use Rattle.tracker_calls.specs.Named.{are_few, are_few_fields}
 use Rattle.tracker_calls.specs.Part.{part_fault}
 use Rattle.tracker_calls.specs.declared.call.Part.{Part}
 use Rattle.tracker_calls.specs.declared.given.GivenField.{GivenField}
@@ -61,6 +61,11 @@ external_refusal (Some id) = only_if (is_external id) (cause.Form (codes "extern
 -- at most 200 members are named
 abbrev pub few_refusal : List (List ℕ) → Option Cause
 few_refusal names = only_if (are_few names) (cause.Form (codes "members"))
+
+-- at most 50 fields are named, if any are
+abbrev pub few_fields_refusal : Option (List (List ℕ)) → Option Cause
+few_fields_refusal None = None
+few_fields_refusal (Some names) = only_if (are_few_fields names) (cause.Form (codes "fields"))
 
 -- a part is in range
 abbrev pub part_refusal : ℕ → Part → Option Cause

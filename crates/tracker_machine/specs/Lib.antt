@@ -28,5 +28,8 @@ pub mod Search
 pub mod Filters
 pub mod Boards
 pub mod Sprints
+pub mod IssueList
+pub mod Overviews
+pub mod Describe
 pub mod Step
 pub mod Laws

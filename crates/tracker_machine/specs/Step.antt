@@ -6,7 +6,7 @@ use Rattle.tracker_calls.specs.declared.cause.Cause.{Cause}
 use Rattle.tracker_calls.specs.declared.reply.Reply.{Reply}
 use Rattle.tracker_machine.specs.Machine.{Machine}
 use Rattle.tracker_machine.specs.Known.{known_place}
-use Rattle.tracker_machine.specs.Checks.{or_then, caller_refusal, twins_refusal, external_refusal, few_refusal, part_refusal, count_refusal, other_refusal, title_refusal}
+use Rattle.tracker_machine.specs.Checks.{or_then, caller_refusal, twins_refusal, external_refusal, few_refusal, few_fields_refusal, part_refusal, count_refusal, other_refusal, title_refusal}
 use Rattle.tracker_machine.specs.Meaning.{Meaning, unless, reply_to, next_after, allowance, Performs}
 use Rattle.tracker_machine.specs.Create.{create_meaning}
 use Rattle.tracker_machine.specs.Members.{set_group_meaning}
@@ -22,6 +22,9 @@ use Rattle.tracker_machine.specs.Search.{search_meaning}
 use Rattle.tracker_machine.specs.Filters.{save_filter_meaning, drop_filter_meaning, filter_meaning}
 use Rattle.tracker_machine.specs.Boards.{make_board_meaning, drop_board_meaning, board_meaning}
 use Rattle.tracker_machine.specs.Sprints.{make_sprint_meaning, start_sprint_meaning, close_sprint_meaning, burndown_meaning}
+use Rattle.tracker_machine.specs.IssueList.{list_meaning}
+use Rattle.tracker_machine.specs.Describe.{describe_meaning}
+use Rattle.tracker_machine.specs.Overviews.{filters_meaning, boards_meaning, sprints_meaning}
 
 -- the call of a user, who is known, by place
 unfoldable pub meaning_for : Machine → ℕ → Call → Meaning
@@ -51,6 +54,11 @@ meaning_for m user (call.StartSprint sprint) = start_sprint_meaning m user sprin
 meaning_for m user (call.CloseSprint sprint) = close_sprint_meaning m user sprint
 meaning_for m user (call.SetGroup group members) = set_group_meaning m user group members
 meaning_for m user (call.Burndown sprint part) = burndown_meaning m user sprint part
+meaning_for m user (call.List jql fields part) = list_meaning m user jql fields part
+meaning_for m user (call.Filters part) = filters_meaning m user part
+meaning_for m user (call.Boards part) = boards_meaning m part
+meaning_for m user (call.Sprints part) = sprints_meaning m part
+meaning_for m user call.Describe = describe_meaning m user
 
 -- the fault of a call's form; a call that was read from a line has none
 unfoldable pub form_refusal : Call → Option Cause
@@ -71,6 +79,11 @@ form_refusal (call.Board board part) = part_refusal 1_000 part
 form_refusal (call.MakeSprint name) = title_refusal name
 form_refusal (call.SetGroup group members) = few_refusal members
 form_refusal (call.Burndown sprint part) = part_refusal 1_000 part
+form_refusal (call.List jql fields part) =
+    or_then (few_fields_refusal fields) (part_refusal 100 part)
+form_refusal (call.Filters part) = part_refusal 1_000 part
+form_refusal (call.Boards part) = part_refusal 1_000 part
+form_refusal (call.Sprints part) = part_refusal 1_000 part
 form_refusal _ = None
 
 -- the caller by place

@@ -48,6 +48,9 @@ use Rattle.tracker_machine.specs.Ranks.{ranks_answer}
 use Rattle.tracker_machine.specs.Rebalance.{balance_answer}
 use Rattle.tracker_machine.specs.Query.{Query, asked}
 use Rattle.tracker_machine.specs.Search.{comes_before, found, listed, search_answer, searched, search_meaning}
+use Rattle.tracker_machine.specs.IssueList.{fields_refusal, list_answer, list_meaning, listed_issue, issues_listed, wanted_fields}
+use Rattle.tracker_machine.specs.Overviews.{filters_meaning, boards_meaning, sprints_meaning}
+use Rattle.tracker_machine.specs.Describe.{describe_meaning}
 use Rattle.tracker_machine.specs.Saved.{SavedFilter, saved_query}
 use Rattle.tracker_machine.specs.Filters.{filter_numbered, shown, filter_answer, filter_told, filter_meaning}
 use Rattle.tracker_machine.specs.Boards.{by_rank, board_issues, board_numbered, columns_from, board_answer, board_told, board_meaning}
@@ -166,6 +169,26 @@ module _ (m : Machine) (order : List Pair) (balance : Balance) (has : HasRanks m
           subst (λ a. Alike (Finds (search_answer m caller part query)) (Finds a)) (sym (answer_same caller part query))
           (λ room more. plain_alike m order balance same (Finds (search_answer m caller part query)) tt)
 
+  list_answer_same : (caller : ℕ) (numbers : List ℕ) (part : Part) (query : Query) → list_answer new caller numbers part query ≡ list_answer m caller numbers part query
+  unfolding found listed
+  list_answer_same caller numbers part query =
+      sym (ap (λ before. answer.List (map (listed_issue m.setup numbers) (part_of part (in_order before (found m caller query.condition)))) (length (found m caller query.condition)))
+      (before_same m.setup query.keys))
+
+  listed_alike : (caller : ℕ) (numbers : List ℕ) (part : Part) (query : Result Query Cause) → Alike (issues_listed m caller numbers part query) (issues_listed new caller numbers part query)
+  listed_alike caller numbers part (Err r) = λ room more. plain_alike m order balance same (Refuses r) tt
+  listed_alike caller numbers part (Ok query) =
+      subst (λ a. Alike (Finds (list_answer m caller numbers part query)) (Finds a)) (sym (list_answer_same caller numbers part query))
+      (λ room more. plain_alike m order balance same (Finds (list_answer m caller numbers part query)) tt)
+
+  list_alike : (caller : ℕ) (jql : List ℕ) (fields : Option (List (List ℕ))) (part : Part) → Alike (list_meaning m caller jql fields part) (list_meaning new caller jql fields part)
+  unfolding list_meaning
+  list_alike caller jql fields part =
+      let numbers : List ℕ = wanted_fields m.setup.field fields in
+      unless_alike m order balance same (fields_refusal m.setup.field fields)
+      (issues_listed m caller numbers part (asked m.setup caller jql)) (issues_listed new caller numbers part (asked m.setup caller jql))
+      (listed_alike caller numbers part (asked m.setup caller jql))
+
   -- ---- a filter and a board go by places too
 
   filter_answer_same : (caller : ℕ) (part : Part) (f : SavedFilter) → filter_answer new caller part f ≡ filter_answer m caller part f
@@ -252,6 +275,11 @@ module _ (m : Machine) (order : List Pair) (balance : Balance) (has : HasRanks m
   call_alike user (call.CloseSprint sprint) form other = same_alike _ _ (close_sprint_same m order balance user sprint) (close_sprint_plain m user sprint)
   call_alike user (call.SetGroup group members) form other = same_alike _ _ (set_group_same m order balance user group members) (set_group_plain m user group members)
   call_alike user (call.Burndown sprint part) form other = same_alike _ _ (burndown_same m order balance user sprint part) (burndown_plain m user sprint part)
+  call_alike user (call.List jql fields part) form other = list_alike user jql fields part
+  call_alike user (call.Filters part) form other = same_alike (filters_meaning m user part) (filters_meaning new user part) refl tt
+  call_alike user (call.Boards part) form other = same_alike (boards_meaning m part) (boards_meaning new part) refl tt
+  call_alike user (call.Sprints part) form other = same_alike (sprints_meaning m part) (sprints_meaning new part) refl tt
+  call_alike user call.Describe form other = same_alike (describe_meaning m user) (describe_meaning new user) refl tt
 
   pub meaning_alike : (caller : List ℕ) (c : Call) → rebalances c ≡ false → Alike (meaning m caller c) (meaning new caller c)
   unfolding meaning

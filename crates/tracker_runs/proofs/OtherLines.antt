@@ -14,7 +14,7 @@ use Rattle.tracker_machine.specs.Checks.{caller_refusal}
 use Rattle.tracker_machine.specs.Step.{meaning, meaning_for, form_refusal, user_of, reply_of, next_of}
 use Rattle.tracker_runs.specs.Run.{asked_reply, asked_next}
 use Rattle.tracker_runs.specs.RankLaws.{IsAccepted, changes_ranks, asks_to_change_ranks, LeavesRanks, OthersLeaveRanks}
-use Rattle.tracker_runs.proofs.Plain.{IsPlain, unless_plain, edit_plain, transition_plain, tick_plain, show_plain, history_plain, search_plain, ranks_plain, save_filter_plain, drop_filter_plain, filter_plain, make_board_plain, drop_board_plain, board_plain, make_sprint_plain, start_sprint_plain, close_sprint_plain, set_group_plain, burndown_plain}
+use Rattle.tracker_runs.proofs.Plain.{IsPlain, unless_plain, edit_plain, transition_plain, tick_plain, show_plain, history_plain, search_plain, list_plain, ranks_plain, save_filter_plain, drop_filter_plain, filter_plain, make_board_plain, drop_board_plain, board_plain, make_sprint_plain, start_sprint_plain, close_sprint_plain, set_group_plain, burndown_plain}
 
 effect_leaves : (a : Answer) (effect : Effect) (m : Machine) → IsPlain (Makes a effect) → LeavesRanks m (applied effect m)
 unfolding applied
@@ -65,6 +65,11 @@ call_plain m user (call.StartSprint sprint) other = start_sprint_plain m user sp
 call_plain m user (call.CloseSprint sprint) other = close_sprint_plain m user sprint
 call_plain m user (call.SetGroup group members) other = set_group_plain m user group members
 call_plain m user (call.Burndown sprint part) other = burndown_plain m user sprint part
+call_plain m user (call.List jql fields part) other = list_plain m user jql fields part
+call_plain m user (call.Filters part) other = tt
+call_plain m user (call.Boards part) other = tt
+call_plain m user (call.Sprints part) other = tt
+call_plain m user call.Describe other = tt
 
 meaning_plain : (m : Machine) (user : List ℕ) (c : Call) → changes_ranks c ≡ false → IsPlain (meaning m user c)
 unfolding meaning

@@ -40,6 +40,7 @@ use Rattle.tracker_machine.specs.Entries.{history_meaning, history_refusal, hist
 use Rattle.tracker_machine.specs.Ranks.{ranks_meaning, ranks_answer}
 use Rattle.tracker_machine.specs.Query.{Query, asked}
 use Rattle.tracker_machine.specs.Search.{search_meaning, searched}
+use Rattle.tracker_machine.specs.IssueList.{list_meaning, fields_refusal, issues_listed, wanted_fields}
 use Rattle.tracker_machine.specs.Saved.{SavedFilter}
 use Rattle.tracker_machine.specs.Filters.{filters_refusal, filter_for, is_kept, save_answer, saved, save_filter_meaning, drop_filter_refusal, drop_filter_meaning, filter_numbered, filter_told, filter_meaning}
 use Rattle.tracker_machine.specs.Boards.{make_board_refusal, made_board, make_board_meaning, drop_board_refusal, drop_board_meaning, board_numbered, board_told, board_meaning}
@@ -116,6 +117,16 @@ search_plain m caller jql part = by (asked m.setup caller jql)
     by : (query : Result Query Cause) → IsPlain (searched m caller part query)
     by (Err r) = tt
     by (Ok query) = tt
+
+listed_plain : (m : Machine) (caller : ℕ) (numbers : List ℕ) (part : Part) (query : Result Query Cause) → IsPlain (issues_listed m caller numbers part query)
+listed_plain m caller numbers part (Err r) = tt
+listed_plain m caller numbers part (Ok query) = tt
+
+pub list_plain : (m : Machine) (caller : ℕ) (jql : List ℕ) (fields : Option (List (List ℕ))) (part : Part) → IsPlain (list_meaning m caller jql fields part)
+unfolding list_meaning
+list_plain m caller jql fields part =
+    let numbers : List ℕ = wanted_fields m.setup.field fields in
+    unless_plain (fields_refusal m.setup.field fields) (issues_listed m caller numbers part (asked m.setup caller jql)) (listed_plain m caller numbers part (asked m.setup caller jql))
 
 pub show_plain : (m : Machine) (caller : ℕ) (issue : List ℕ) → IsPlain (show_meaning m caller issue)
 show_plain m caller issue = unless_plain (show_refusal m caller issue) (Tells (show_answer_of m (history_named m issue))) tt

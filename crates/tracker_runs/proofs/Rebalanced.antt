@@ -88,6 +88,11 @@ call_reranks m user (call.StartSprint sprint) has is = absurd (cc)
 call_reranks m user (call.CloseSprint sprint) has is = absurd (cc)
 call_reranks m user (call.SetGroup group members) has is = absurd (cc)
 call_reranks m user (call.Burndown sprint part) has is = absurd (cc)
+call_reranks m user (call.List jql fields part) has is = absurd (cc)
+call_reranks m user (call.Filters part) has is = absurd (cc)
+call_reranks m user (call.Boards part) has is = absurd (cc)
+call_reranks m user (call.Sprints part) has is = absurd (cc)
+call_reranks m user call.Describe has is = absurd (cc)
 
 asked_reranks : (m : Machine) (asked : Result (List ℕ × Call) Cause) → HasRanks m → asks_to_rebalance asked ≡ true → Reranks m (asked_next m asked)
 unfolding next_of meaning

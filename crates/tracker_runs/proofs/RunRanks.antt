@@ -42,7 +42,9 @@ use Rattle.tracker_machine.specs.Checks.{caller_refusal}
 use Rattle.tracker_runs.specs.Run.{Mark, plain, memory, keeper, asked_next, marked_next}
 use Rattle.tracker_runs.specs.RankLaws.{TrackersHaveRanks, NewTrackersHaveRanks, RunsKeepRanks}
 use Rattle.tracker_machine.proofs.Tracker.{runs_on}
-use Rattle.tracker_runs.proofs.Plain.{plain_keeps, called_plain, edit_plain, transition_plain, tick_plain, show_plain, history_plain, search_plain, ranks_plain, save_filter_plain, drop_filter_plain, filter_plain, make_board_plain, drop_board_plain, board_plain, make_sprint_plain, start_sprint_plain, close_sprint_plain, set_group_plain, burndown_plain}
+use Rattle.tracker_machine.specs.Describe.{describe_meaning}
+use Rattle.tracker_machine.specs.Overviews.{filters_meaning, boards_meaning, sprints_meaning}
+use Rattle.tracker_runs.proofs.Plain.{plain_keeps, called_plain, edit_plain, transition_plain, tick_plain, show_plain, history_plain, search_plain, list_plain, ranks_plain, save_filter_plain, drop_filter_plain, filter_plain, make_board_plain, drop_board_plain, board_plain, make_sprint_plain, start_sprint_plain, close_sprint_plain, set_group_plain, burndown_plain}
 use Rattle.tracker_machine.proofs.Placed.{apart, are_numbered}
 
 -- each issue has its rank after what a call means
@@ -181,6 +183,11 @@ call_keeps m user (call.StartSprint sprint) has form = plain_keeps _ m (start_sp
 call_keeps m user (call.CloseSprint sprint) has form = plain_keeps _ m (close_sprint_plain m user sprint) has
 call_keeps m user (call.SetGroup group members) has form = plain_keeps _ m (set_group_plain m user group members) has
 call_keeps m user (call.Burndown sprint part) has form = plain_keeps _ m (burndown_plain m user sprint part) has
+call_keeps m user (call.List jql fields part) has form = plain_keeps _ m (list_plain m user jql fields part) has
+call_keeps m user (call.Filters part) has form = plain_keeps (filters_meaning m user part) m tt has
+call_keeps m user (call.Boards part) has form = plain_keeps (boards_meaning m part) m tt has
+call_keeps m user (call.Sprints part) has form = plain_keeps (sprints_meaning m part) m tt has
+call_keeps m user call.Describe has form = plain_keeps (describe_meaning m user) m tt has
 
 pub next_keeps : (m : Machine) (caller : List ℕ) (c : Call) → HasRanks m → HasRanks (next_of m caller c)
 unfolding next_of meaning

@@ -14,7 +14,7 @@ use Rattle.call_lines.specs.declared.kind.CallKind.{CallKind}
 use Rattle.call_lines.specs.declared.kind.CallKind.TheVariants as kind
 use Rattle.call_lines.specs.Asked.{Asked, line_of, call_of, asked_by, need, no_other, names_of, kind_named, is_member, first_other, number_at, moment_of, moment_at, other_than}
 use Rattle.call_lines.specs.Given.{given_set, set_at, none_or, set_if_there}
-use Rattle.call_lines.specs.Named.{external_or_none, external_if_there, names_given, names_at}
+use Rattle.call_lines.specs.Named.{external_or_none, external_if_there, names_given, names_at, fields_or_none, fields_if_there}
 use Rattle.call_lines.specs.Part.{whole_within, whole_or, from_if_there, count_if_there, count_at}
 use Rattle.call_lines.specs.Body.{body_of, body_kind, members_call, is_body_member, first_unknown, asked_alone, asked_beside}
 use Rattle.tracker_sight.specs.Bodies.{is_user, IsLineOf, asks_to_tick, BodiesAskAsLines}
@@ -83,6 +83,9 @@ module _ (members own : Members) (values : (name : List ℕ) → is_user name �
 
   external_same : external_if_there (object own) ≡ external_if_there (object members)
   external_same = ap external_or_none (values (codes "external") refl)
+
+  fields_same : fields_if_there (object own) ≡ fields_if_there (object members)
+  fields_same = ap fields_or_none (values (codes "fields") refl)
 
   from_same : from_if_there (object own) ≡ from_if_there (object members)
   from_same = ap (whole_or 0 0 2_000_000) (values (codes "from") refl)
@@ -201,6 +204,25 @@ module _ (members own : Members) (values : (name : List ℕ) → is_user name �
       first same (from_if_there (object own)) (from_if_there (object members)) (codes "from") _ _ from_same (λ from.
       first same (count_if_there 1000 (object own)) (count_if_there 1000 (object members)) (codes "count") _ _ (part_same 1000) (λ count.
       told same _)))
+  looked kind.List same =
+      first same (text_at (codes "jql") (object own)) (text_at (codes "jql") (object members)) (codes "jql") _ _ (text_same (codes "jql") refl) (λ jql.
+      first same (fields_if_there (object own)) (fields_if_there (object members)) (codes "fields") _ _ fields_same (λ fields.
+      first same (from_if_there (object own)) (from_if_there (object members)) (codes "from") _ _ from_same (λ from.
+      first same (count_if_there 100 (object own)) (count_if_there 100 (object members)) (codes "count") _ _ (part_same 100) (λ count.
+      told same _))))
+  looked kind.Filters same =
+      first same (from_if_there (object own)) (from_if_there (object members)) (codes "from") _ _ from_same (λ from.
+      first same (count_if_there 1000 (object own)) (count_if_there 1000 (object members)) (codes "count") _ _ (part_same 1000) (λ count.
+      told same _))
+  looked kind.Boards same =
+      first same (from_if_there (object own)) (from_if_there (object members)) (codes "from") _ _ from_same (λ from.
+      first same (count_if_there 1000 (object own)) (count_if_there 1000 (object members)) (codes "count") _ _ (part_same 1000) (λ count.
+      told same _))
+  looked kind.Sprints same =
+      first same (from_if_there (object own)) (from_if_there (object members)) (codes "from") _ _ from_same (λ from.
+      first same (count_if_there 1000 (object own)) (count_if_there 1000 (object members)) (codes "count") _ _ (part_same 1000) (λ count.
+      told same _))
+  looked kind.Describe same = told same _
 
 -- each call knows the member `user`
 knows_user : (kind : CallKind) → is_member kind (codes "user") ≡ true
@@ -228,6 +250,11 @@ knows_user kind.Balance = refl
 knows_user kind.Filter = refl
 knows_user kind.Board = refl
 knows_user kind.Burndown = refl
+knows_user kind.List = refl
+knows_user kind.Filters = refl
+knows_user kind.Boards = refl
+knows_user kind.Sprints = refl
+knows_user kind.Describe = refl
 
 knows : (kind : CallKind) (name : List ℕ) → is_user name ≡ true → is_member kind name ≡ true
 knows kind name is = ap (is_member kind) ((bytes_eq-Decides name (codes "user")).0 is) ∙ knows_user kind

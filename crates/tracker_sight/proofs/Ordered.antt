@@ -34,7 +34,7 @@ use Rattle.tracker_machine.specs.Wanted.{changes_of}
 use Rattle.tracker_machine.specs.Move.{move_meaning, move_refusal, move_answer, moved_beside, newly_ranked}
 use Rattle.tracker_machine.specs.Rebalance.{started, stepped, with_planned}
 use Rattle.tracker_machine.specs.Step.{meaning, meaning_for, form_refusal, user_of}
-use Rattle.tracker_runs.proofs.Plain.{IsPlain, edit_plain, transition_plain, tick_plain, show_plain, history_plain, search_plain, ranks_plain, save_filter_plain, drop_filter_plain, filter_plain, make_board_plain, drop_board_plain, board_plain, make_sprint_plain, start_sprint_plain, close_sprint_plain, set_group_plain, burndown_plain}
+use Rattle.tracker_runs.proofs.Plain.{IsPlain, edit_plain, transition_plain, tick_plain, show_plain, history_plain, search_plain, list_plain, ranks_plain, save_filter_plain, drop_filter_plain, filter_plain, make_board_plain, drop_board_plain, board_plain, make_sprint_plain, start_sprint_plain, close_sprint_plain, set_group_plain, burndown_plain}
 
 -- the moves of a step of a rebalancing leave the order of issues
 abbrev pub LeavesOrder : Machine → Effect → Type 0
@@ -145,6 +145,11 @@ module _ (m : Machine) where
   call_leaves user (call.CloseSprint sprint) has = plain_leaves _ (close_sprint_plain m user sprint)
   call_leaves user (call.SetGroup group members) has = plain_leaves _ (set_group_plain m user group members)
   call_leaves user (call.Burndown sprint part) has = plain_leaves _ (burndown_plain m user sprint part)
+  call_leaves user (call.List jql fields part) has = plain_leaves _ (list_plain m user jql fields part)
+  call_leaves user (call.Filters part) has = tt
+  call_leaves user (call.Boards part) has = tt
+  call_leaves user (call.Sprints part) has = tt
+  call_leaves user call.Describe has = tt
 
 pub meaning_leaves : (m : Machine) (caller : List ℕ) (c : Call) → HasRanks m → MeansOrder m (meaning m caller c)
 unfolding meaning

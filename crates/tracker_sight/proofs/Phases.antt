@@ -1,14 +1,21 @@
 -- Lists of sprints that are as far: their states, one by one, and with one state changed.
-use Rattle.std.proofs.Common.{◌≡◌, ℕ, zero, suc, ◌-◌, ◌==◌, Bool, true, false, List, [], ◌∷◌, ◌++◌, length, slice_get, Option, Some, None, option_map, refl, sym, ◌∙◌, ap, ap₂}
+use Rattle.std.proofs.Common.{◌≡◌, ℕ, zero, suc, ◌+◌, ◌-◌, ◌==◌, Bool, true, false, List, [], ◌∷◌, ◌++◌, length, slice_get, Option, Some, None, option_map, refl, sym, ◌∙◌, ap, ap₂}
 use Rattle.std.specs.Prelude.{slice_set, if◌then◌else◌}
 use Rattle.std.specs.Option.{option_map_or}
 use Rattle.std.proofs.lemmas.List.{map-append, length-map}
 use Rattle.std.proofs.lemmas.Option.{slice_get-map}
 use Rattle.jql_bound.specs.declared.context.Phase.{Phase}
+use Rattle.jql_bound.specs.declared.context.Phase.TheVariants as phase
 use Rattle.sprints.specs.declared.sprint.Sprint.{Sprint}
 use Rattle.sprints.specs.declared.state.SprintState.{SprintState}
+use Rattle.sprints.specs.declared.state.SprintState.TheVariants.{Future, Active, Closed}
 use Rattle.sprints.specs.Sprint.{sprint_of, state_of}
+use Rattle.tracker_calls.specs.declared.listed.ToldSprint.{ToldSprint}
+use Rattle.tracker_calls.specs.declared.reply.SprintPhase.{SprintPhase}
+use Rattle.tracker_calls.specs.declared.reply.SprintPhase.TheVariants as told
+use Rattle.tracker_machine.specs.Overviews.{sprints_from}
 use Rattle.tracker_machine.specs.SprintRules.{phase_of, in_state, with_future}
+use Rattle.tracker_machine.specs.Sprints.{told_phase}
 use Rattle.tracker_sight.specs.Sight.{phases, sprint_names}
 
 -- ---- one state
@@ -29,6 +36,33 @@ phase_at ss n = phase_there (sprint_of ss n) ∙ by (n == 0)
 
 pub as_far : (ss ts : List Sprint) (n : ℕ) → phases ss ≡ phases ts → option_map phase_of (state_of ss n) ≡ option_map phase_of (state_of ts n)
 as_far ss ts n same = phase_at ss n ∙ ap (λ (ps : List Phase). if n == 0 then None else slice_get ps (n - 1)) same ∙ sym (phase_at ts n)
+
+-- ---- what is told of all of them
+
+-- how far a sprint is, as it is told
+told_as : Phase → SprintPhase
+told_as phase.Future = told.Future
+told_as phase.Active = told.Active
+told_as phase.Closed = told.Closed
+
+told_as_far : (s : SprintState) → told_phase s ≡ told_as (phase_of s)
+told_as_far Future = refl
+told_as_far (Active at change) = refl
+told_as_far (Closed start_at start_change at change) = refl
+
+-- sprints that are as far and are called so, from this number on
+told_from : ℕ → List Phase → List (List ℕ) → List ToldSprint
+told_from n [] names = []
+told_from n (p ∷ ps) [] = []
+told_from n (p ∷ ps) (name ∷ names) = (record { name = name; sprint = record { 0 = n }; state = told_as p }) ∷ told_from (n + 1) ps names
+
+told_is : (n : ℕ) (ss : List Sprint) → sprints_from n ss ≡ told_from n (phases ss) (sprint_names ss)
+told_is n [] = refl
+told_is n (s ∷ ss) =
+    ap₂ (λ (p : SprintPhase) (more : List ToldSprint). (record { name = s.name; sprint = record { 0 = n }; state = p }) ∷ more) (told_as_far s.state) (told_is (n + 1) ss)
+
+pub told_alike : (n : ℕ) (ss ts : List Sprint) → phases ss ≡ phases ts → sprint_names ss ≡ sprint_names ts → sprints_from n ss ≡ sprints_from n ts
+told_alike n ss ts far names = told_is n ss ∙ ap₂ (told_from n) far names ∙ sym (told_is n ts)
 
 -- ---- one more
 

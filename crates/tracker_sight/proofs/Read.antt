@@ -20,6 +20,7 @@ use Rattle.tracker_machine.specs.Meaning.{Meaning, unless, reply_to, next_after}
 use Rattle.tracker_machine.specs.Meaning.Meaning.{Tells}
 use Rattle.tracker_machine.specs.Query.{Query, asked}
 use Rattle.tracker_machine.specs.Saved.{SavedFilter}
+use Rattle.tracker_machine.specs.IssueList.{fields_refusal, wanted_fields, list_meaning, issues_listed}
 use Rattle.tracker_machine.specs.Search.{search_meaning, searched}
 use Rattle.tracker_machine.specs.Filters.{filter_meaning, filter_numbered, filter_told}
 use Rattle.tracker_machine.specs.Boards.{board_meaning, board_numbered, board_told}
@@ -44,8 +45,12 @@ module _ (m : Machine) where
   searched_stays user part (Err r) = refl
   searched_stays user part (Ok query) = refl
 
+  listed_stays : (user : ℕ) (numbers : List ℕ) (part : Part) (query : Result Query Cause) → next_after (issues_listed m user numbers part query) m ≡ m
+  listed_stays user numbers part (Err r) = refl
+  listed_stays user numbers part (Ok query) = refl
+
   for_stays : (user : ℕ) (c : Call) → Reads m user c → next_after (meaning_for m user c) m ≡ m
-  unfolding meaning_for search_meaning filter_meaning board_meaning
+  unfolding meaning_for search_meaning list_meaning filter_meaning board_meaning
   for_stays user (call.Search jql part) reads = searched_stays user part (asked m.setup user jql)
   for_stays user (call.Filter filter_no part) reads = by (filter_numbered m filter_no)
     where
@@ -57,6 +62,13 @@ module _ (m : Machine) where
       by : (o : Option Board) → next_after (board_told m user board_no part o) m ≡ m
       by None = refl
       by (Some b) = refl
+  for_stays user (call.List jql fields part) reads =
+      unless_stays (fields_refusal m.setup.field fields) (issues_listed m user (wanted_fields m.setup.field fields) part (asked m.setup user jql))
+      (listed_stays user (wanted_fields m.setup.field fields) part (asked m.setup user jql))
+  for_stays user (call.Filters part) reads = refl
+  for_stays user (call.Boards part) reads = refl
+  for_stays user (call.Sprints part) reads = refl
+  for_stays user call.Describe reads = refl
   for_stays user (call.Show issue) reads = unless_stays _ (Tells _) refl
   for_stays user (call.History issue part) reads = unless_stays _ (Tells _) refl
   for_stays user _ reads = absurd reads
@@ -98,6 +110,11 @@ module _ (m other : Machine) (user : ℕ) (alike : SeemAlike user m other) where
   reads_on (call.Search jql part) reads = tt
   reads_on (call.Filter filter_no part) reads = tt
   reads_on (call.Board board_no part) reads = tt
+  reads_on (call.List jql fields part) reads = tt
+  reads_on (call.Filters part) reads = tt
+  reads_on (call.Boards part) reads = tt
+  reads_on (call.Sprints part) reads = tt
+  reads_on call.Describe reads = tt
   reads_on (call.Show issue) reads = named_on issue reads
   reads_on (call.History issue part) reads = named_on issue reads
   reads_on _ reads = absurd reads
@@ -109,6 +126,11 @@ reads_alike : (m other : Machine) (caller : List ℕ) (c : Call) → SeemAlike (
 reads_alike m other caller (call.Search jql part) alike reads = answers_tell_of_the_seen m other caller (call.Search jql part) alike refl
 reads_alike m other caller (call.Filter filter_no part) alike reads = answers_tell_of_the_seen m other caller (call.Filter filter_no part) alike refl
 reads_alike m other caller (call.Board board_no part) alike reads = answers_tell_of_the_seen m other caller (call.Board board_no part) alike refl
+reads_alike m other caller (call.List jql fields part) alike reads = answers_tell_of_the_seen m other caller (call.List jql fields part) alike refl
+reads_alike m other caller (call.Filters part) alike reads = answers_tell_of_the_seen m other caller (call.Filters part) alike refl
+reads_alike m other caller (call.Boards part) alike reads = answers_tell_of_the_seen m other caller (call.Boards part) alike refl
+reads_alike m other caller (call.Sprints part) alike reads = answers_tell_of_the_seen m other caller (call.Sprints part) alike refl
+reads_alike m other caller call.Describe alike reads = answers_tell_of_the_seen m other caller call.Describe alike refl
 reads_alike m other caller (call.Show issue) alike reads =
     issues_tell_of_the_seen m other caller (call.Show issue) issue alike refl (there_in_both m other (user_of m caller) alike issue reads)
 reads_alike m other caller (call.History issue part) alike reads =

@@ -281,6 +281,11 @@ module _ (user : ℕ) (m : Machine) (text : List ℕ) (change : ℕ) (hs : List 
   for_lead v (call.Filter filter_no part) is = absurd (true≢false (sym is))
   for_lead v (call.Board board_no part) is = absurd (true≢false (sym is))
   for_lead v (call.Burndown sprint part) is = absurd (true≢false (sym is))
+  for_lead v (call.List jql fields part) is = absurd (true≢false (sym is))
+  for_lead v (call.Filters part) is = absurd (true≢false (sym is))
+  for_lead v (call.Boards part) is = absurd (true≢false (sym is))
+  for_lead v (call.Sprints part) is = absurd (true≢false (sym is))
+  for_lead v call.Describe is = absurd (true≢false (sym is))
 
   lead_on : (caller : List ℕ) (c : Call) → is_setting c ≡ true → LeadOn (meaning m caller c) (meaning new caller c)
   unfolding meaning

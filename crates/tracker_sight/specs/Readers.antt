@@ -43,11 +43,16 @@ pub record SeesNamed (m : Machine) (user : ℕ) (issue : List ℕ) : Type 0 wher
   pub there : history_named m issue ≡ Some h
   pub seen : sees m.setup user h ≡ true
 
--- the call only tells: of many issues, or of one that the user sees
+-- the call only tells: of many issues, of filters, boards and sprints, of the setup, or of an issue that the user sees
 abbrev pub Reads : Machine → ℕ → Call → Type 0
 Reads m user (call.Search jql part) = Unit {0}
 Reads m user (call.Filter filter part) = Unit {0}
 Reads m user (call.Board board part) = Unit {0}
+Reads m user (call.List jql fields part) = Unit {0}
+Reads m user (call.Filters part) = Unit {0}
+Reads m user (call.Boards part) = Unit {0}
+Reads m user (call.Sprints part) = Unit {0}
+Reads m user call.Describe = Unit {0}
 Reads m user (call.Show issue) = SeesNamed m user issue
 Reads m user (call.History issue part) = SeesNamed m user issue
 Reads m user _ = ⊥

@@ -1,0 +1,7 @@
+mod Cut
+mod Tests
+mod Conditions
+mod Fields
+mod Values
+mod Validators
+mod PostFunctions
