@@ -25,28 +25,40 @@ use Rattle.tracker_state.specs.declared.plan.GroupPlan.{GroupPlan}
 use Rattle.tracker_state.specs.declared.plan.Plan.TheVariants as plans
 use Rattle.issue_calls.specs.Group.{ComesToGroup, IsDueGroup, IsGroupOf}
 use Rattle.issue_calls.specs.declared.group.DueGroup.{DueGroup}
+use Rattle.issue_calls.proofs.Ops.{group_ops_are}
+use Rattle.tracker_keeper.specs.declared.row.Row.{Row}
+use Rattle.tracker_keeper.specs.declared.row.RowOp.TheVariants.{Put}
+use Rattle.tracker_state.specs.Rows.{present_op}
+use Rattle.rank_balancer.specs.declared.balance.Balance.{Balance}
 
 -- what changes come to is what the call means by them
-pub comes_to_group : (s : Held) (answer : Option ℕ → Answer) (caller place : ℕ) (h : History) (changes : List Change) (due : Option DueGroup)
-    → IsGroupOf s caller place h changes due → ComesToGroup s answer (grouped answer s.machine caller place h changes) (Ok due)
-comes_to_group s answer caller place h changes None none = rw none refl
-comes_to_group s answer caller place h [] (Some new) is = absurd (is.0 refl)
-comes_to_group s answer caller place h (c ∷ cs) (Some new) is = (rw (is.1, is.2) refl, (h, is.3))
+pub comes_to_group : (m : Machine) (answer : Option ℕ → Answer) (caller place : ℕ) (h : History) (changes : List Change) (due : Option DueGroup)
+    → IsGroupOf m caller place h changes due → ComesToGroup m answer (grouped answer m caller place h changes) (Ok due)
+comes_to_group m answer caller place h changes None none = rw none refl
+comes_to_group m answer caller place h [] (Some new) is = absurd (is.0 refl)
+comes_to_group m answer caller place h (c ∷ cs) (Some new) is = (rw (is.1, is.2) refl, (h, is.3))
 
 -- a group for which there is room, and whose operations keep it, is ready
-pub group_ready : (s next : Held) (h : History) (meaning : Meaning) (new : DueGroup) (plan : GroupPlan) (answer : Answer) (ops : List RowOp)
-    → IsDueGroup s h new → next.machine ≡ s.machine → plan ≡ new.plan → meaning ≡ Makes answer (NewGroup new.plan.place new.plan.group)
-    → GroupFits next plan → ops ≡ ops_of (NewGroup new.plan.place new.plan.group) s.machine
+pub group_ready : (m : Machine) (next : Held) (h : History) (meaning : Meaning) (new : DueGroup) (plan : GroupPlan) (answer : Answer) (ops : List RowOp)
+    → IsDueGroup m h new → next.machine ≡ m → plan ≡ new.plan → meaning ≡ Makes answer (NewGroup new.plan.place new.plan.group)
+    → GroupFits next new.plan → ops ≡ ops_of (NewGroup new.plan.place new.plan.group) m
     → IsReady meaning next (plans.Group plan) answer ops
 unfolding IsAllowed
-group_ready s next h meaning new plan answer ops is same own means fits keeps = record {
+group_ready m next h meaning new plan answer ops is same own means fits keeps = record {
   means = means ∙ ap (λ (p : GroupPlan). Makes answer (NewGroup p.place p.group)) (sym own);
-  keeps = keeps ∙ ap (λ (p : GroupPlan). ops_of (NewGroup p.place p.group) s.machine) (sym own)
+  keeps = keeps ∙ ap (λ (p : GroupPlan). ops_of (NewGroup p.place p.group) m) (sym own)
       ∙ ap (ops_of (NewGroup plan.place plan.group)) (sym same);
-  allowed = subst (λ (m : Machine). MayGroup m plan.place plan.group) (sym same)
-      (subst (λ (p : GroupPlan). MayGroup s.machine p.place p.group) (sym own) is.allowed);
-  fits = fits;
+  allowed = subst (λ (n : Machine). MayGroup n plan.place plan.group) (sym same)
+      (subst (λ (p : GroupPlan). MayGroup m p.place p.group) (sym own) is.allowed);
+  fits = subst (GroupFits next) (sym own) fits;
 }
+
+-- what keeps a group that may come
+pub group_kept : (m : Machine) (h : History) (new : DueGroup) (balance : Balance) (change at : ℕ) (row : Row) → IsDueGroup m h new
+    → balance ≡ m.balance → change ≡ new.plan.group.change → at ≡ new.plan.group.at → row ≡ new.row
+    → present_op balance change at ∷ Put row ∷ [] ≡ ops_of (NewGroup new.plan.place new.plan.group) m
+group_kept m h new balance change at row is kept number moment own =
+    rw (kept, number ∙ is.allowed.change, moment ∙ is.allowed.at, own ∙ is.row) (group_ops_are m new.plan.place new.plan.group h is.there)
 
 -- ---- what an edit and a transition mean that no check refuses
 

@@ -55,7 +55,7 @@ pub fn due_group(
     net: Vec<Change>,
 ) -> Result<Option<DueGroup>, Memory>
     requires { MayChange state.now.machine caller.0 found.place found.issue.now.history net.items }
-    ensures { IfOk result (IsGroupOf state.now caller.0 found.entry.place
+    ensures { IfOk result (IsGroupOf state.now.machine caller.0 found.entry.place
         found.entry.issue.now.history net.items) }
 {
     if net.is_empty() {
@@ -79,7 +79,7 @@ fn due_of_some(
     ensures place { IfOk result (λ new. new.plan.place ≡ found.entry.place) }
     ensures group { IfOk result (λ new. new.plan.group
         ≡ next_group state.now.machine caller.0 found.entry.issue.now.history net.items) }
-    ensures due { IfOk result (IsDueGroup state.now found.entry.issue.now.history) }
+    ensures due { IfOk result (IsDueGroup state.now.machine found.entry.issue.now.history) }
 {
     let group = group_of(alloc, state, caller, found, net)?;
     let bytes = bytes_of_entries(group.entries.as_slice());
@@ -108,22 +108,23 @@ pub fn ready(
     name: &str,
     due: Option<DueGroup>,
 ) -> Result<Prepared, Refusal>
-    requires { IfSome due (IsDueThere state.old) }
+    requires { IfSome due (IsDueThere state.old.machine) }
     // Nothing changes yet: not the tracker, nor the filters and their verdicts.
     ensures same { state.new.machine ≡ state.old.machine }
     ensures table { state.new.watched.views.table ≡ state.old.watched.views.table }
     ensures filters { state.new.watched.filters ≡ state.old.watched.filters }
     // What is prepared is whatever meaning came to this group, or to none.
     ensures prepared { (meaning : Meaning)
-        → ComesToGroup state.old (group_answer call name.now) meaning (Ok due)
+        → ComesToGroup state.old.machine (group_answer call name.now) meaning (Ok due)
         → IsPrepared meaning state.new result }
 {
     let told = ToldText::copy_of(alloc, name)?;
     let Some(new) = due else {
         return Ok(Prepared::Tell(answer_of(call, told, None)));
     };
-    let answer = answer_of(call, told, Some(new.plan.group.change));
+    reserve(state, &new)?;
     let (plan, rows) = kept(alloc, state, new)?;
+    let answer = answer_of(call, told, Some(plan.group.change));
     Ok(Prepared::Make {
         plan: Plan::Group(plan),
         answer,
@@ -140,24 +141,20 @@ fn answer_of(call: GroupCall, issue: ToldText, change: Option<u64>) -> Answer
     }
 }
 
-// The group, for which there is room then, and the operations that keep it.
+// The group, and the operations that keep it.
 fn kept(
     alloc: Global,
     state: &mut State,
     new: DueGroup,
 ) -> Result<(GroupPlan, Vec<RowOp>), Memory>
-    requires { IsDueThere state.old new }
-    // Nothing changes but room: not the tracker, nor the filters and their verdicts.
-    ensures same { state.new.machine ≡ state.old.machine }
-    ensures table { state.new.watched.views.table ≡ state.old.watched.views.table }
-    ensures filters { state.new.watched.filters ≡ state.old.watched.filters }
-    // The plan stays as it was decided, and finds room; what keeps it is what keeps such a group.
+    requires { IsDueThere state.old.machine new }
+    // Nothing changes, and the plan stays as it was decided.
+    ensures same { state.new ≡ state.old }
     ensures plan { IfOk result (λ r. r.0 ≡ new.plan) }
-    ensures fits { IfOk result (λ r. GroupFits state.new r.0) }
+    // The operations are those that keep such a group.
     ensures rows { IfOk result (λ r. r.1.items
         ≡ ops_of (NewGroup new.plan.place new.plan.group) state.old.machine) }
 {
-    reserve(state, &new)?;
     let DueGroup { plan, row, .. } = new;
     let change = plan.group.change;
     let at = plan.group.at;
@@ -168,7 +165,7 @@ fn kept(
 
 // Makes room for the group's entries, and for a row of each sprint that its issue is in before and after them.
 fn reserve(state: &mut State, new: &DueGroup) -> Result<(), Memory>
-    requires { IsDueThere state.old new.now }
+    requires { IsDueThere state.old.machine new.now }
     // The tracker stays as it is.
     ensures machine { state.new.machine ≡ state.old.machine }
     // Where memory sufficed, the group finds room.
