@@ -26,10 +26,8 @@ use Rattle.tracker_state.specs.declared.plan.Plan.TheVariants as plans
 use Rattle.issue_calls.specs.Group.{ComesToGroup, IsDueGroup, IsGroupOf}
 use Rattle.issue_calls.specs.declared.group.DueGroup.{DueGroup}
 use Rattle.issue_calls.proofs.Ops.{group_ops_are}
-use Rattle.tracker_keeper.specs.declared.row.Row.{Row}
 use Rattle.tracker_keeper.specs.declared.row.RowOp.TheVariants.{Put}
 use Rattle.tracker_state.specs.Rows.{present_op}
-use Rattle.rank_balancer.specs.declared.balance.Balance.{Balance}
 
 -- what changes come to is what the call means by them
 pub comes_to_group : (m : Machine) (answer : Option ℕ → Answer) (caller place : ℕ) (h : History) (changes : List Change) (due : Option DueGroup)
@@ -54,11 +52,9 @@ group_ready m next h meaning new plan answer ops is same own means fits keeps = 
 }
 
 -- what keeps a group that may come
-pub group_kept : (m : Machine) (h : History) (new : DueGroup) (balance : Balance) (change at : ℕ) (row : Row) → IsDueGroup m h new
-    → balance ≡ m.balance → change ≡ new.plan.group.change → at ≡ new.plan.group.at → row ≡ new.row
-    → present_op balance change at ∷ Put row ∷ [] ≡ ops_of (NewGroup new.plan.place new.plan.group) m
-group_kept m h new balance change at row is kept number moment own =
-    rw (kept, number ∙ is.allowed.change, moment ∙ is.allowed.at, own ∙ is.row) (group_ops_are m new.plan.place new.plan.group h is.there)
+pub group_kept : (m : Machine) (h : History) (new : DueGroup) → IsDueGroup m h new
+    → present_op m.balance new.plan.group.change new.plan.group.at ∷ Put new.row ∷ [] ≡ ops_of (NewGroup new.plan.place new.plan.group) m
+group_kept m h new is = rw (is.allowed.change, is.allowed.at, is.row) (group_ops_are m new.plan.place new.plan.group h is.there)
 
 -- ---- what an edit and a transition mean that no check refuses
 

@@ -1,5 +1,5 @@
 // A change group of an issue, as edits and transitions make it.
-ghost use Rattle.std.specs.Prelude.{◌≡◌, ◌≢◌, ◌<◌, ◌≤◌, ◌+◌, ℕ, [], length, slice_get, IfOk, IfSome, OnOk, Ok, Some};
+ghost use Rattle.std.specs.Prelude.{◌≡◌, ◌≢◌, ◌<◌, ◌≤◌, ◌+◌, ◌∷◌, ℕ, [], length, slice_get, IfOk, IfSome, OnOk, Ok, Some};
 ghost use Rattle.std.specs.List.{All};
 ghost use Rattle.change_history.specs.History.{present, updated, last_change, MayAdd};
 ghost use Rattle.field_forms.specs.Known.{Names};
@@ -18,6 +18,7 @@ ghost use Rattle.workflow.specs.Laws.{AllFit};
 ghost use Rattle.wanted_values.specs.InSprints.{AreOfSprints};
 ghost use Rattle.wanted_values.specs.Weight.{AllLight, GroupsAreLight};
 ghost use Rattle.tracker_state.specs.Plan.{GroupFits, IsPrepared};
+ghost use Rattle.tracker_state.specs.Rows.{present_op};
 ghost use Rattle.issue_calls.specs.Group.{ComesToGroup, IsDueGroup, IsDueThere, IsGroupOf, MayChange, group_answer};
 ghost use Rattle.issue_calls.specs.Rows.{group_row};
 
@@ -124,7 +125,7 @@ pub fn ready(
     };
     reserve(state, &new)?;
     let (plan, rows) = kept(alloc, state, new)?;
-    let answer = answer_of(call, told, Some(plan.group.change));
+    let answer = told_group(call, told, &plan);
     Ok(Prepared::Make {
         plan: Plan::Group(plan),
         answer,
@@ -141,6 +142,13 @@ fn answer_of(call: GroupCall, issue: ToldText, change: Option<u64>) -> Answer
     }
 }
 
+// The answer of a call that made this group.
+fn told_group(call: GroupCall, issue: ToldText, new: &GroupPlan) -> Answer
+    ensures { result ≡ group_answer call issue (Some new.now.group.change) }
+{
+    answer_of(call, issue, Some(new.group.change))
+}
+
 // The group, and the operations that keep it.
 fn kept(
     alloc: Global,
@@ -155,12 +163,30 @@ fn kept(
     ensures rows { IfOk result (λ r. r.1.items
         ≡ ops_of (NewGroup new.plan.place new.plan.group) state.old.machine) }
 {
-    let DueGroup { plan, row, .. } = new;
-    let change = plan.group.change;
-    let at = plan.group.at;
+    let DueGroup {
+        plan,
+        row,
+        before: _,
+        after: _,
+    } = new;
     let room = state.take_row_room(alloc);
-    let rows = row_ops(alloc, room, state.balance(), change, at, row)?;
+    let rows = group_ops(alloc, room, state, row, &plan)?;
     Ok((plan, rows))
+}
+
+// The operations that keep a group with this row, in the room of these.
+fn group_ops(
+    alloc: Global,
+    room: Vec<RowOp>,
+    state: &State,
+    row: Row,
+    new: &GroupPlan,
+) -> Result<Vec<RowOp>, Memory>
+    ensures { IfOk result (λ ops. ops.items ≡ present_op state.now.machine.balance
+        new.now.group.change new.now.group.at ∷ RowOp.Put row ∷ []) }
+{
+    let group = &new.group;
+    row_ops(alloc, room, state.balance(), group.change, group.at, row)
 }
 
 // Makes room for the group's entries, and for a row of each sprint that its issue is in before and after them.
