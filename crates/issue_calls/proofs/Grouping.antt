@@ -1,5 +1,5 @@
 -- A group of an issue, as edits and transitions come to it.
-use Rattle.std.proofs.Common.{◌≡◌, ℕ, List, [], ◌∷◌, Option, Some, None, slice_get, ◌∙◌, refl, sym, ap, subst}
+use Rattle.std.proofs.Common.{◌≡◌, ◌+◌, ℕ, List, [], ◌∷◌, Option, Some, None, slice_get, ◌∙◌, refl, sym, ap, ap₂, subst}
 use Rattle.std.specs.Prelude.{Ok, option_and_then}
 use Rattle.change_history.specs.declared.change.Change.{Change}
 use Rattle.change_history.specs.History.{History, present}
@@ -26,6 +26,7 @@ use Rattle.tracker_state.specs.declared.plan.Plan.TheVariants as plans
 use Rattle.issue_calls.specs.Group.{ComesToGroup, IsDueGroup, IsGroupOf}
 use Rattle.issue_calls.specs.declared.group.DueGroup.{DueGroup}
 use Rattle.issue_calls.proofs.Ops.{group_ops_are}
+use Rattle.tracker_keeper.specs.declared.row.Row.{Row}
 use Rattle.tracker_keeper.specs.declared.row.RowOp.TheVariants.{Put}
 use Rattle.tracker_state.specs.Rows.{present_op}
 
@@ -54,7 +55,10 @@ group_ready m next h meaning new plan answer ops is same own means fits keeps = 
 -- what keeps a group that may come
 pub group_kept : (m : Machine) (h : History) (new : DueGroup) → IsDueGroup m h new
     → present_op m.balance new.plan.group.change new.plan.group.at ∷ Put new.row ∷ [] ≡ ops_of (NewGroup new.plan.place new.plan.group) m
-group_kept m h new is = rw (is.allowed.change, is.allowed.at, is.row) (group_ops_are m new.plan.place new.plan.group h is.there)
+group_kept m h new is =
+    ap₂ (λ (change at : ℕ). present_op m.balance change at ∷ Put new.row ∷ []) is.allowed.change is.allowed.at
+    ∙ ap (λ (row : Row). present_op m.balance (m.change + 1) m.moment ∷ Put row ∷ []) is.row
+    ∙ group_ops_are m new.plan.place new.plan.group h is.there
 
 -- ---- what an edit and a transition mean that no check refuses
 
@@ -65,7 +69,7 @@ pub edit_means : (m : Machine) (caller : ℕ) (issue : List ℕ) (set : List Giv
 edit_means m caller issue set place h net passed at there is =
     unrefused (edit_refusal m caller issue set) _ passed
     ∙ ap (λ (o : Option ℕ). grouped_at (edit_answer issue) m caller o (option_and_then (λ place. slice_get m.histories place) o)
-      (edit_news m set (option_and_then (λ place. slice_get m.histories place) o))) at
+    (edit_news m set (option_and_then (λ place. slice_get m.histories place) o))) at
     ∙ ap (λ (o : Option History). grouped_at (edit_answer issue) m caller (Some place) o (edit_news m set o)) there
     ∙ ap (grouped (edit_answer issue) m caller place h) (sym is)
 
@@ -76,6 +80,6 @@ pub transition_means : (m : Machine) (caller : ℕ) (issue transition : List ℕ
 transition_means m caller issue transition set place h net passed at there is =
     unrefused (transition_refusal m caller issue transition set) _ passed
     ∙ ap (λ (o : Option ℕ). grouped_at (transition_answer issue) m caller o (option_and_then (λ place. slice_get m.histories place) o)
-      (transition_news m caller set (option_and_then (λ place. slice_get m.histories place) o) (transition_named m transition))) at
+    (transition_news m caller set (option_and_then (λ place. slice_get m.histories place) o) (transition_named m transition))) at
     ∙ ap (λ (o : Option History). grouped_at (transition_answer issue) m caller (Some place) o (transition_news m caller set o (transition_named m transition))) there
     ∙ ap (grouped (transition_answer issue) m caller place h) (sym is)

@@ -150,11 +150,7 @@ fn told_group(call: GroupCall, issue: ToldText, new: &GroupPlan) -> Answer
 }
 
 // The group, and the operations that keep it.
-fn kept(
-    alloc: Global,
-    state: &mut State,
-    new: DueGroup,
-) -> Result<(GroupPlan, Vec<RowOp>), Memory>
+fn kept(alloc: Global, state: &mut State, new: DueGroup) -> Result<(GroupPlan, Vec<RowOp>), Memory>
     requires { IsDueThere state.old.machine new }
     // Nothing changes, and the plan stays as it was decided.
     ensures same { state.new ≡ state.old }
