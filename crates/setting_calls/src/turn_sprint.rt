@@ -55,7 +55,8 @@ pub fn close_sprint(
     ensures { IsPrepared (close_sprint_meaning state.now.machine caller.0 sprint) state.now result }
 {
     let found = sprint_to_plan(alloc, state, caller, sprint)?;
-    match found.state {
+    let kept = found.state;
+    match kept {
         SprintState::Active { at, change } => turn(
             alloc,
             state,
