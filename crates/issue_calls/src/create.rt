@@ -1,5 +1,5 @@
 // The call `create`: a new issue of a project, or what is told of the one that has its external id already.
-ghost use Rattle.std.specs.Prelude.{◌≡◌, ◌<◌, ◌≤◌, ℕ, List, Option, length, option_and_then, slice_get, IfOk, IfSome, Some, None, true, ◌-◌};
+ghost use Rattle.std.specs.Prelude.{◌≡◌, ◌<◌, ◌≤◌, ℕ, List, Option, length, option_map, IfOk, IfSome, Some, None, true, ◌-◌};
 ghost use Rattle.std.specs.Option.{option_copied};
 ghost use Rattle.field_forms.specs.Names.{place_named};
 ghost use Rattle.tracker_limits.specs.Limits.{most_issues, most_text_bytes, text_reserve};
@@ -26,7 +26,7 @@ use crate::check::{
 use crate::due::{Due, NewValues};
 use crate::external::told_before;
 use crate::new_issue::place_last;
-use change_history::Change;
+use change_history::{Change, Issue};
 use fields::{Permission, ProjectNo, UserNo};
 use std::alloc::Global;
 use tracker_calls::{GivenField, Refusal};
@@ -134,7 +134,7 @@ fn due_in(
         (issue_called state.now.machine (option_copied external.entry))) result }
 {
     match called(state, external) {
-        Some((place, id)) => match told_before(alloc, state, place, project, opening, id) {
+        Some((issue, id)) => match told_before(alloc, state, issue, project, opening, id) {
             Ok(answer) => Ok(Due::Told(answer)),
             Err(refusal) => Err(refusal),
         },
@@ -142,19 +142,18 @@ fn due_in(
     }
 }
 
-// The place of the issue that has the external id, and that id, where an issue has it.
-fn called<'a>(state: &State, external: Option<&'a str>) -> Option<(usize, &'a str)>
+// The issue that has the external id, and that id, where an issue has it.
+fn called<'a>(state: &'a State, external: Option<&'a str>) -> Option<(&'a Issue, &'a str)>
     requires { IfSome external (λ id. is_external id.now ≡ true) }
-    ensures issue { option_and_then (λ r. slice_get state.now.machine.histories r.0) result
+    ensures issue { option_map (λ r. r.0.now.history) result
         ≡ issue_called state.now.machine (option_copied external.entry) }
-    ensures there { IfSome result (λ r. r.0 < length state.now.machine.histories) }
     ensures id { IfSome result (λ r. option_copied external.entry ≡ Some r.1.now) }
     ensures none { result ≡ None
         → MayName state.now.machine.externals (option_copied external.entry) }
 {
     let id = external?;
-    let place = state.place_called(id)?;
-    Some((place, id))
+    let issue = state.issue_called(id)?;
+    Some((issue, id))
 }
 
 // The values of a new issue of the project.

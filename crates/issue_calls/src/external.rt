@@ -1,5 +1,5 @@
 // The issue that has the external id of a create already: whether it was created so, and what is told.
-ghost use Rattle.std.specs.Prelude.{◌≡◌, ◌<◌, IfOk, IfSome, Some, length, slice_get, true};
+ghost use Rattle.std.specs.Prelude.{◌≡◌, IfOk, Some, true};
 ghost use Rattle.std.specs.Str.{bytes_eq};
 ghost use Rattle.field_values.specs.declared.value.Value.{Value};
 ghost use Rattle.field_values.specs.declared.numbers.TheConstants.FieldNo as number;
@@ -20,29 +20,8 @@ use tracker_state::State;
 use wanted_values::Opening;
 use workflow::is_same;
 
-/// What a create tells where the issue at a place has its external id. It is refused where that issue
-/// was created as another one.
+/// What a create tells where this issue has its external id. It is refused where the issue was created as another one.
 pub fn told_before(
-    alloc: Global,
-    state: &State,
-    place: usize,
-    project: ProjectNo,
-    opening: Opening<'_>,
-    external: &str,
-) -> Result<Answer, Refusal>
-    requires { place < length state.now.machine.histories }
-    ensures { IfSome (slice_get state.now.machine.histories place) (λ h. IsTold (called_before
-        (is_created_as state.now.machine (key_of_project state.now.machine project)
-        opening.entry.issue_type.now opening.entry.summary.now h) external.now h) result) }
-{
-    let Some(issue) = state.issue_at(place) else {
-        unreachable!()
-    };
-    told_of(alloc, state, issue, project, opening, external)
-}
-
-// The same of an issue that is there.
-fn told_of(
     alloc: Global,
     state: &State,
     issue: &Issue,

@@ -1,26 +1,26 @@
 // A change group of an issue, as edits and transitions make it.
-ghost use Rattle.std.specs.Prelude.{◌≡◌, ◌≢◌, ◌<◌, ◌≤◌, ◌+◌, ℕ, [], ◌∷◌, length, slice_get, IfOk, IfSome, OnOk, OnErr, Some, ◌-◌};
+ghost use Rattle.std.specs.Prelude.{◌≡◌, ◌≢◌, ◌<◌, ◌≤◌, ◌+◌, ◌∷◌, ℕ, [], length, slice_get, IfOk, IfSome, OnOk, Ok, Some};
+ghost use Rattle.std.specs.List.{All};
 ghost use Rattle.change_history.specs.History.{present, updated, last_change, MayAdd};
 ghost use Rattle.field_forms.specs.Known.{Names};
+ghost use Rattle.field_values.specs.declared.numbers.FieldNo.{FieldNo};
 ghost use Rattle.fields.specs.SetupParts.{names_in, names};
+ghost use Rattle.tracker_keeper.specs.Forms.{IsGroupEntry};
+ghost use Rattle.tracker_limits.specs.Limits.{entries_reserve};
+ghost use Rattle.tracker_machine.specs.Effect.Effect.{NewGroup};
+ghost use Rattle.tracker_machine.specs.Group.{next_group};
+ghost use Rattle.tracker_machine.specs.Kept.{ops_of};
+ghost use Rattle.tracker_machine.specs.Meaning.{Meaning};
+ghost use Rattle.tracker_machine.specs.SprintRules.{BringsSprints};
+ghost use Rattle.tracker_machine.specs.Tracker.{AllEntriesFit, Holds, MayGroup};
 ghost use Rattle.workflow.specs.Difference.{AreNews, entries_of};
 ghost use Rattle.workflow.specs.Laws.{AllFit};
-ghost use Rattle.tracker_machine.specs.Checks.{entries_kept, bytes_kept};
-ghost use Rattle.tracker_machine.specs.Group.{grouped, next_group};
-ghost use Rattle.tracker_machine.specs.Tracker.{AllEntriesFit, Holds, MayGroup};
-ghost use Rattle.field_values.specs.declared.numbers.FieldNo.{FieldNo};
-ghost use Rattle.burndown.specs.ChartLaws.{with_entries};
-ghost use Rattle.tracker_work.specs.Seen.{share_now};
-ghost use Rattle.tracker_machine.specs.SprintRules.{BringsSprints};
 ghost use Rattle.wanted_values.specs.InSprints.{AreOfSprints};
 ghost use Rattle.wanted_values.specs.Weight.{AllLight, GroupsAreLight};
-ghost use Rattle.issue_calls.specs.Group.{group_answer};
-ghost use Rattle.tracker_state.specs.Plan.{HasRowsRoom, GroupFits, IsPrepared};
-ghost use Rattle.issue_calls.specs.Rows.{group_row};
+ghost use Rattle.tracker_state.specs.Plan.{GroupFits, IsPrepared};
 ghost use Rattle.tracker_state.specs.Rows.{present_op};
-ghost use Rattle.tracker_keeper.specs.Forms.{IsGroupEntry};
-ghost use Rattle.std.specs.List.{All};
-ghost use Rattle.tracker_limits.specs.Limits.{entries_reserve, most_entries, most_text_bytes, text_reserve};
+ghost use Rattle.issue_calls.specs.Group.{ComesToGroup, IsDueGroup, IsDueThere, IsGroupOf, MayChange, group_answer};
+ghost use Rattle.issue_calls.specs.Rows.{group_row};
 
 use crate::rows::row_ops;
 use change_history::{Change, Entries, Entry, Group, Issue};
@@ -28,7 +28,7 @@ use fields::{Memory, Moment, Setup, SprintNo, UserNo};
 use std::alloc::Global;
 use tracker_calls::{Answer, Refusal, ToldText};
 use tracker_keeper::{Row, RowOp, group_text};
-use tracker_state::{GroupPlan, Plan, Prepared, State};
+use tracker_state::{Found, GroupPlan, Plan, Prepared, State};
 use wanted_values::{bytes_of_entries, fitting_is_light, sprint_after};
 
 /// A call that changes an issue.
@@ -38,44 +38,96 @@ pub enum GroupCall {
     Transition,
 }
 
-/// Prepares a group of these changes of the issue at a place, which the caller named so; no change makes no group.
-#[tactic(auto, using(crate::proofs::Grouping::nothing_grouped, crate::proofs::Grouping::group_made))]
-pub fn grouped(
+/// A group that is decided, and what it needs: its row, and a row more of each sprint that its issue is in before and after it.
+#[derive(Drop)]
+pub struct DueGroup {
+    pub plan: GroupPlan,
+    pub row: Row,
+    pub before: Option<SprintNo>,
+    pub after: Option<SprintNo>,
+}
+
+/// The group of these changes of the issue; no change makes no group.
+pub fn due_group(
+    alloc: Global,
+    state: &State,
+    caller: UserNo,
+    found: Found<'_>,
+    net: Vec<Change>,
+) -> Result<Option<DueGroup>, Memory>
+    requires { MayChange state.now.machine caller.0 found.place found.issue.now.history net.items }
+    ensures { IfOk result (IsGroupOf state.now.machine caller.0 found.entry.place
+        found.entry.issue.now.history net.items) }
+{
+    if net.is_empty() {
+        return Ok(None);
+    }
+    let new = due_of_some(alloc, state, caller, found, net)?;
+    Ok(Some(new))
+}
+
+// The group of some changes.
+fn due_of_some(
+    alloc: Global,
+    state: &State,
+    caller: UserNo,
+    found: Found<'_>,
+    net: Vec<Change>,
+) -> Result<DueGroup, Memory>
+    requires may { MayChange state.now.machine caller.0 found.place found.issue.now.history
+        net.items }
+    requires some { net.items ≢ [] }
+    ensures place { IfOk result (λ new. new.plan.place ≡ found.entry.place) }
+    ensures group { IfOk result (λ new. new.plan.group
+        ≡ next_group state.now.machine caller.0 found.entry.issue.now.history net.items) }
+    ensures due { IfOk result (IsDueGroup state.now.machine found.entry.issue.now.history) }
+{
+    let group = group_of(alloc, state, caller, found, net)?;
+    let bytes = bytes_of_entries(group.entries.as_slice());
+    let row = row_of(alloc, state, found, &group)?;
+    let before = state.work().share(found.issue).sprint;
+    let after = sprint_after(before, group.entries.as_slice());
+    let plan = GroupPlan {
+        place: found.place,
+        group,
+        bytes,
+    };
+    Ok(DueGroup {
+        plan,
+        row,
+        before,
+        after,
+    })
+}
+
+/// The group of a call that names the issue so is ready to come, where there is one: there is room for it, and the operations that
+/// keep it are there.
+pub fn ready(
     alloc: Global,
     state: &mut State,
-    caller: UserNo,
     call: GroupCall,
-    place: usize,
     name: &str,
-    net: Vec<Change>,
+    due: Option<DueGroup>,
 ) -> Result<Prepared, Refusal>
-    // Issue and caller are there, and so is room for the entries and texts of one more group.
-    requires there { place < length state.old.machine.histories }
-    requires user { caller.0 < length state.old.machine.setup.users }
-    requires few { entries_kept state.old.machine.histories ≤ most_entries - entries_reserve }
-    requires light { bytes_kept state.old.machine.histories ≤ most_text_bytes - text_reserve }
-    // Each change is to another value than the present one, which fits and names no missing sprint.
-    requires news { IfSome (slice_get state.old.machine.histories place) (λ h.
-        AreNews (present h) 0 net.items) }
-    requires fitting { AllFit (names_in state.old.machine.setup) net.items }
-    requires sprints { AreOfSprints (length state.old.machine.sprints) net.items }
+    requires { IfSome due (IsDueThere state.old.machine) }
     // Nothing changes yet: not the tracker, nor the filters and their verdicts.
     ensures same { state.new.machine ≡ state.old.machine }
     ensures table { state.new.watched.views.table ≡ state.old.watched.views.table }
     ensures filters { state.new.watched.filters ≡ state.old.watched.filters }
-    // What is prepared is what a group of these changes means, with the answer of the call.
-    ensures prepared { IfSome (slice_get state.old.machine.histories place) (λ h.
-        IsPrepared (grouped (group_answer call name.now) state.old.machine caller.0 place h
-        net.items) state.new result) }
+    // What is prepared is whatever meaning came to this group, or to none.
+    ensures prepared { (meaning : Meaning)
+        → ComesToGroup state.old.machine (group_answer call name.now) meaning (Ok due)
+        → IsPrepared meaning state.new result }
 {
     let told = ToldText::copy_of(alloc, name)?;
-    if net.is_empty() {
+    let Some(new) = due else {
         return Ok(Prepared::Tell(answer_of(call, told, None)));
-    }
-    let (new, rows) = new_group(alloc, state, caller, place, net)?;
-    let answer = answer_of(call, told, Some(new.group.change));
+    };
+    reserve(state, &new)?;
+    let (plan, rows) = kept(alloc, state, new)?;
+    let answer = told_group(call, told, &plan);
     Ok(Prepared::Make {
-        plan: Plan::Group(new),
+        plan: Plan::Group(plan),
         answer,
         rows,
     })
@@ -90,106 +142,74 @@ fn answer_of(call: GroupCall, issue: ToldText, change: Option<u64>) -> Answer
     }
 }
 
-// The group with all that is kept of it, for which there is room then, and the operations that keep it.
-fn new_group(
-    alloc: Global,
-    state: &mut State,
-    caller: UserNo,
-    place: usize,
-    net: Vec<Change>,
-) -> Result<(GroupPlan, Vec<RowOp>), Memory>
-    // Issue and caller are there, and so is room for the entries and texts of one more group.
-    requires there { place < length state.old.machine.histories }
-    requires user { caller.0 < length state.old.machine.setup.users }
-    requires few { entries_kept state.old.machine.histories ≤ most_entries - entries_reserve }
-    requires light { bytes_kept state.old.machine.histories ≤ most_text_bytes - text_reserve }
-    // There are changes, each to another value than the present one, which fits and names no
-    // missing sprint.
-    requires news { IfSome (slice_get state.old.machine.histories place) (λ h.
-        AreNews (present h) 0 net.items) }
-    requires some { net.items ≢ [] }
-    requires fitting { AllFit (names_in state.old.machine.setup) net.items }
-    requires sprints { AreOfSprints (length state.old.machine.sprints) net.items }
-    // The changes are some, as before, and nothing changes but room: not the tracker, nor the
-    // filters and their verdicts.
-    ensures some { net.items ≢ [] }
-    ensures same { state.new.machine ≡ state.old.machine }
-    ensures table { state.new.watched.views.table ≡ state.old.watched.views.table }
-    ensures filters { state.new.watched.filters ≡ state.old.watched.filters }
-    // The plan is for the next group of that issue, which may come and finds room.
-    ensures place { IfOk result (λ r. r.0.place ≡ place) }
-    ensures group { IfOk result (λ r. IfSome (slice_get state.old.machine.histories place) (λ h.
-        r.0.group ≡ next_group state.old.machine caller.0 h net.items)) }
-    ensures allowed { IfOk result (λ r. MayGroup state.old.machine place r.0.group) }
-    ensures fits { IfOk result (λ r. GroupFits state.new r.0) }
-    // What keeps it is a row of where the tracker stands then, and one of the group.
-    ensures rows { IfOk result (λ r. IfSome (slice_get state.old.machine.histories place) (λ h.
-        r.1.items ≡ present_op state.old.machine.balance
-        (state.old.machine.change + 1) state.old.machine.moment
-        ∷ RowOp.Put (group_row (names_in state.old.machine.setup) h r.0.group) ∷ [])) }
+// The answer of a call that made this group.
+fn told_group(call: GroupCall, issue: ToldText, new: &GroupPlan) -> Answer
+    ensures { result ≡ group_answer call issue (Some new.now.group.change) }
 {
-    let group = group_of(alloc, state, caller, place, net)?;
-    let bytes = bytes_of_entries(group.entries.as_slice());
-    let row = row_of(alloc, state, place, &group)?;
-    let room = state.take_row_room(alloc);
-    let rows = row_ops(alloc, room, state.balance(), group.change, group.at, row)?;
-    reserve(state, place, group.entries.as_slice())?;
-    let new = GroupPlan {
-        place,
-        group,
-        bytes,
-    };
-    Ok((new, rows))
+    answer_of(call, issue, Some(new.group.change))
 }
 
-// Makes room for these entries of the issue at a place, and for a row of each sprint that it is in before and after them.
-fn reserve(state: &mut State, place: usize, entries: &[Entry]) -> Result<(), Memory>
-    requires { place < length state.old.machine.histories }
+// The group, and the operations that keep it.
+fn kept(alloc: Global, state: &mut State, new: DueGroup) -> Result<(GroupPlan, Vec<RowOp>), Memory>
+    requires { IsDueThere state.old.machine new }
+    // Nothing changes, and the plan stays as it was decided.
+    ensures same { state.new ≡ state.old }
+    ensures plan { IfOk result (λ r. r.0 ≡ new.plan) }
+    // The operations are those that keep such a group.
+    ensures rows { IfOk result (λ r. r.1.items
+        ≡ ops_of (NewGroup new.plan.place new.plan.group) state.old.machine) }
+{
+    let DueGroup {
+        plan,
+        row,
+        before: _,
+        after: _,
+    } = new;
+    let room = state.take_row_room(alloc);
+    let rows = group_ops(alloc, room, state, row, &plan)?;
+    Ok((plan, rows))
+}
+
+// The operations that keep a group with this row, in the room of these.
+fn group_ops(
+    alloc: Global,
+    room: Vec<RowOp>,
+    state: &State,
+    row: Row,
+    new: &GroupPlan,
+) -> Result<Vec<RowOp>, Memory>
+    ensures { IfOk result (λ ops. ops.items ≡ present_op state.now.machine.balance
+        new.now.group.change new.now.group.at ∷ RowOp.Put row ∷ []) }
+{
+    let group = &new.group;
+    row_ops(alloc, room, state.balance(), group.change, group.at, row)
+}
+
+// Makes room for the group's entries, and for a row of each sprint that its issue is in before and after them.
+fn reserve(state: &mut State, new: &DueGroup) -> Result<(), Memory>
+    requires { IsDueThere state.old.machine new.now }
     // The tracker stays as it is.
     ensures machine { state.new.machine ≡ state.old.machine }
-    // Where memory sufficed, the entries find room, and so do the rows of both sprints.
-    ensures room { OnOk result (slice_get state.new.rooms place ≡ Some (length entries.now)) }
-    ensures rows { OnOk result (IfSome (slice_get state.new.machine.histories place) (λ h.
-        HasRowsRoom state.new h entries.now)) }
+    // Where memory sufficed, the group finds room.
+    ensures fits { OnOk result (GroupFits state.new new.now.plan) }
     // The filters and their verdicts stay.
     ensures table { state.new.watched.views.table ≡ state.old.watched.views.table }
     ensures filters { state.new.watched.filters ≡ state.old.watched.filters }
 {
-    let (before, after) = sprints_of(state, place, entries);
-    state.reserve_rows(before, after)?;
-    state.reserve_entries(place, entries.len())
+    state.reserve_rows(new.before, new.after)?;
+    state.reserve_entries(new.plan.place, new.plan.group.entries.as_slice().len())
 }
 
-// The sprints that the issue at a place is in before and after these entries.
-fn sprints_of(
-    state: &State,
-    place: usize,
-    entries: &[Entry],
-) -> (Option<SprintNo>, Option<SprintNo>)
-    requires { place < length state.now.machine.histories }
-    ensures before { IfSome (slice_get state.now.machine.histories place) (λ h.
-        result.0 ≡ (share_now state.now.work.seen h).sprint) }
-    ensures after { IfSome (slice_get state.now.machine.histories place) (λ h.
-        result.1 ≡ (share_now state.now.work.seen (with_entries h entries.now)).sprint) }
-{
-    let Some(issue) = state.issue_at(place) else {
-        unreachable!()
-    };
-    let before = state.work().share(issue).sprint;
-    (before, sprint_after(before, entries))
-}
-
-// The row of a group of the issue at a place.
-fn row_of(alloc: Global, state: &State, place: usize, group: &Group) -> Result<Row, Memory>
-    requires may { MayGroup state.now.machine place group.now }
-    ensures { IfOk result (λ row. IfSome (slice_get state.now.machine.histories place) (λ h.
-        row ≡ group_row (names_in state.now.machine.setup) h group.now)) }
+// The row of a group of the issue.
+fn row_of(alloc: Global, state: &State, found: Found<'_>, group: &Group) -> Result<Row, Memory>
+    requires there { slice_get state.now.machine.histories found.place
+        ≡ Some found.issue.now.history }
+    requires may { MayGroup state.now.machine found.place group.now }
+    ensures { IfOk result (λ row. row ≡ group_row (names_in state.now.machine.setup)
+        found.entry.issue.now.history group.now) }
 {
     state.is_tracker();
-    let Some(issue) = state.issue_at(place) else {
-        unreachable!()
-    };
-    issue_row_of(alloc, state.setup(), issue, group)
+    issue_row_of(alloc, state.setup(), found.issue, group)
 }
 
 #[tactic(auto, unfolding(tracker_keeper::specs::Bodies::body_text))]
@@ -211,26 +231,20 @@ fn group_of(
     alloc: Global,
     state: &State,
     caller: UserNo,
-    place: usize,
+    found: Found<'_>,
     net: Vec<Change>,
 ) -> Result<Group, Memory>
-    // The issue is there, and there are changes, each to another value than the present one, which
-    // fits and names no missing sprint.
-    requires there { place < length state.now.machine.histories }
-    requires news { IfSome (slice_get state.now.machine.histories place) (λ h.
-        AreNews (present h) 0 net.items) }
+    requires may { MayChange state.now.machine caller.0 found.place found.issue.now.history
+        net.items }
     requires some { net.items ≢ [] }
-    requires fitting { AllFit (names_in state.now.machine.setup) net.items }
-    requires sprints { AreOfSprints (length state.now.machine.sprints) net.items }
     // The group is the tracker's next change, by the caller at the present moment, with the entries
     // that these changes make.
     ensures change { IfOk result (λ group. group.change ≡ state.now.machine.change + 1) }
     ensures at { IfOk result (λ group. group.at ≡ state.now.machine.moment) }
     ensures author { IfOk result (λ group. group.author ≡ caller) }
-    ensures entries { IfOk result (λ group.
-        IfSome (slice_get state.now.machine.histories place) (λ h.
-        group.entries ≡ entries_of (present h)
-        (state.now.machine.change + 1) state.now.machine.moment caller net.items)) }
+    ensures entries { IfOk result (λ group. group.entries
+        ≡ entries_of (present found.entry.issue.now.history) (state.now.machine.change + 1)
+        state.now.machine.moment caller net.items) }
     // It brings no more entries and no more text than a call may.
     ensures few { IfOk result (λ group. length group.entries ≤ entries_reserve) }
     ensures light { IfOk result (λ group. AllLight group.entries) }
@@ -239,15 +253,13 @@ fn group_of(
         AllEntriesFit (names_in state.now.machine.setup) group.entries) }
     ensures sprints { IfOk result (λ group.
         BringsSprints (length state.now.machine.sprints) group.entries) }
-    ensures may { IfOk result (λ group. IfSome (slice_get state.now.machine.histories place) (λ h.
-        MayAdd h group.change group.at group.author group.entries)) }
+    ensures may { IfOk result (λ group. MayAdd found.entry.issue.now.history
+        group.change group.at group.author group.entries) }
 {
-    let Some(issue) = state.issue_at(place) else {
-        unreachable!()
-    };
+    state.is_tracker();
     let change = state.next_change();
     let at = state.moment();
-    let entries = net_entries(alloc, issue, change, at, caller, net)?;
+    let entries = net_entries(alloc, found.issue, change, at, caller, net)?;
     fitting_is_light(state.setup());
     Ok(Group {
         change,

@@ -1,10 +1,10 @@
 // The call `history`: a part of an issue's entries.
-ghost use Rattle.std.specs.Prelude.{◌≡◌, ◌<◌, ◌++◌, length, IfOk, OnOk, map, slice_get, take, drop};
+ghost use Rattle.std.specs.Prelude.{◌≡◌, length, IfOk, map};
 ghost use Rattle.fields.specs.SetupParts.{parts, names_in};
 ghost use Rattle.tracker_calls.specs.Part.{part_of};
 ghost use Rattle.tracker_machine.specs.Known.{history_named};
 ghost use Rattle.tracker_state.specs.Plan.{IsPrepared};
-ghost use Rattle.tracker_machine.specs.Entries.{history_meaning, history_answer_of, told_entry};
+ghost use Rattle.tracker_machine.specs.Entries.{history_meaning, told_entry};
 ghost use Rattle.tracker_machine.specs.Tracker.{AllEntriesHold, Holds};
 
 use crate::show::check_show;
@@ -26,20 +26,9 @@ pub fn history(
     ensures { IsPrepared (history_meaning state.now.machine caller.0 issue.now part)
         state.now result }
 {
-    let place = check_show(alloc, state, caller, issue)?;
-    let answer = told(alloc, state, place, part)?;
+    let issue = check_show(alloc, state, caller, issue)?;
+    let answer = issue_answer(alloc, state.setup(), issue, part)?;
     Ok(Prepared::Tell(answer))
-}
-
-fn told(alloc: Global, state: &State, place: usize, part: Part) -> Result<Answer, Memory>
-    requires { place < length state.now.machine.histories }
-    ensures { IfOk result (λ answer. answer
-        ≡ history_answer_of state.now.machine part (slice_get state.now.machine.histories place)) }
-{
-    let Some(issue) = state.issue_at(place) else {
-        unreachable!()
-    };
-    issue_answer(alloc, state.setup(), issue, part)
 }
 
 #[tactic(auto, using(crate::proofs::Holding::held_part))]

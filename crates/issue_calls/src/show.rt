@@ -1,13 +1,13 @@
 // The call `show`: an issue's present values.
-ghost use Rattle.std.specs.Prelude.{◌≡◌, ◌<◌, ◌++◌, [], length, IfOk, OnOk, map, slice_get};
+ghost use Rattle.std.specs.Prelude.{◌≡◌, ◌++◌, [], IfOk, OnOk, Some, map};
 ghost use Rattle.fields.specs.SetupParts.{parts, names_in};
 ghost use Rattle.change_history.specs.History.{present, updated};
 ghost use Rattle.fields.specs.Naming.{field_name};
 ghost use Rattle.tracker_machine.specs.Known.{history_named};
 ghost use Rattle.tracker_state.specs.Plan.{IsPrepared};
-ghost use Rattle.tracker_machine.specs.Show.{show_refusal, show_meaning, show_answer_of, shown_issue, shown_fields, shown_value, with_shown};
+ghost use Rattle.tracker_machine.specs.Show.{show_refusal, show_meaning, shown_issue, shown_fields, shown_value, with_shown};
 ghost use Rattle.tracker_state.specs.Check.{Checks};
-ghost use Rattle.tracker_machine.specs.Tracker.{Holds};
+ghost use Rattle.tracker_machine.specs.Tracker.{Holds, IsSettled};
 
 use crate::told::shown_value;
 use change_history::{Issue, Small};
@@ -20,39 +20,29 @@ use tracker_state::{Prepared, State, check_access, known_issue};
 pub fn show(alloc: Global, state: &State, caller: UserNo, issue: &str) -> Result<Prepared, Refusal>
     ensures { IsPrepared (show_meaning state.now.machine caller.0 issue.now) state.now result }
 {
-    let place = check_show(alloc, state, caller, issue)?;
-    match shown(alloc, state, place) {
+    let issue = check_show(alloc, state, caller, issue)?;
+    match issue_answer(alloc, state.setup(), issue) {
         Ok(answer) => Ok(Prepared::Tell(answer)),
         Err(_) => Err(Refusal::Memory),
     }
 }
 
-/// The place of the issue, which the caller may browse.
-pub fn check_show(
+/// The issue of that key, which the caller may browse.
+pub fn check_show<'a>(
     alloc: Global,
-    state: &State,
+    state: &'a State,
     caller: UserNo,
     issue: &str,
-) -> Result<usize, Refusal>
+) -> Result<&'a Issue, Refusal>
     ensures check { Checks (show_refusal state.now.machine caller.0 issue.now) result }
-    ensures place { IfOk result (λ place. history_named state.now.machine issue.now
-        ≡ slice_get state.now.machine.histories place) }
-    ensures there { IfOk result (λ place. place < length state.now.machine.histories) }
+    ensures named { IfOk result (λ i.
+        history_named state.now.machine issue.now ≡ Some i.now.history) }
+    ensures settled { IfOk result (λ i. IsSettled (names_in state.now.machine.setup)
+        state.now.machine.moment state.now.machine.change i.now.history) }
 {
-    let place = known_issue(alloc, state, issue)?;
-    check_access(alloc, state, caller, Permission::Browse, place)?;
-    Ok(place)
-}
-
-fn shown(alloc: Global, state: &State, place: usize) -> Result<Answer, Memory>
-    requires { place < length state.now.machine.histories }
-    ensures { IfOk result (λ answer. answer ≡ show_answer_of state.now.machine
-        (slice_get state.now.machine.histories place)) }
-{
-    let Some(issue) = state.issue_at(place) else {
-        unreachable!()
-    };
-    issue_answer(alloc, state.setup(), issue)
+    let found = known_issue(alloc, state, issue)?;
+    check_access(alloc, state, caller, Permission::Browse, found)?;
+    Ok(found.issue)
 }
 
 fn issue_answer(alloc: Global, setup: &Setup, issue: &Issue) -> Result<Answer, Memory>

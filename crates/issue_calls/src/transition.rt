@@ -1,30 +1,29 @@
 // The call `transition`: an issue goes to another status, as one change group with all that comes with it.
-ghost use Rattle.std.specs.Prelude.{◌≡◌, ◌<◌, ◌≤◌, ℕ, length, slice_get, IfOk, IfSome, Some, true, ◌-◌};
+ghost use Rattle.std.specs.Prelude.{◌≡◌, ◌<◌, ℕ, length, slice_get, IfOk, Some, true};
 ghost use Rattle.change_history.specs.History.{present};
 ghost use Rattle.fields.specs.SetupParts.{names_in, parts};
 ghost use Rattle.workflow.specs.Plan.{planned};
 ghost use Rattle.workflow.specs.Difference.{AreNews};
 ghost use Rattle.field_values.specs.declared.numbers.TheConstants.FieldNo.{REPORTER as reporter};
 ghost use Rattle.workflow.specs.Laws.{AllFit, IsSoundTransition};
-ghost use Rattle.tracker_machine.specs.Checks.{entries_kept, bytes_kept};
 ghost use Rattle.tracker_machine.specs.Known.{place_of_issue};
-ghost use Rattle.tracker_machine.specs.Transition.{transition_named, transition_refusal, transition_meaning, condition_refusal, validator_refusal, plan_refusal, transition_news};
+ghost use Rattle.tracker_machine.specs.Transition.{transition_named, transition_refusal, transition_meaning, condition_refusal, validator_refusal, plan_refusal, transition_answer, transition_news};
 ghost use Rattle.tracker_state.specs.Check.{Checks};
 ghost use Rattle.tracker_machine.specs.Tracker.{Holds};
 ghost use Rattle.field_forms.specs.SoundRules.{rules_are_sound};
-ghost use Rattle.tracker_limits.specs.Limits.{entries_reserve, most_entries, most_text_bytes, text_reserve};
 ghost use Rattle.wanted_values.specs.InSprints.{GivesKnownSprint, AreOfSprints};
 ghost use Rattle.tracker_state.specs.Plan.{IsPrepared};
+ghost use Rattle.issue_calls.specs.Group.{ComesToGroup, MayChange};
 
 use crate::check::{
     check_bytes, check_closed, check_entries, check_set, known_transition, known_values,
 };
-use crate::group::{GroupCall, grouped};
+use crate::group::{DueGroup, GroupCall, due_group, ready};
 use change_history::{Change, Issue};
 use fields::{Memory, Permission, Setup, Transition, UserNo};
 use std::alloc::Global;
 use tracker_calls::{Cause, GivenField, Refusal};
-use tracker_state::{Prepared, State, check_access, known_issue};
+use tracker_state::{Found, Prepared, State, check_access, known_issue};
 use wanted_values::ResolvedSet;
 use workflow::{failing_condition, failing_validator, planned};
 
@@ -45,29 +44,41 @@ pub fn transition(
         transition.now set.now) state.new result }
 {
     let given = ResolvedSet::of(alloc, state.setup(), set)?;
-    let checked = check_transition(alloc, state, caller, issue, transition, &given);
+    let due = due_for(alloc, state, caller, issue, transition, &given);
     drop(given);
-    let (place, net) = checked?;
-    grouped(
-        alloc,
-        state,
-        caller,
-        GroupCall::Transition,
-        place,
-        issue,
-        net,
-    )
+    ready(alloc, state, GroupCall::Transition, issue, due?)
 }
 
-// The place of the issue, and what the transition changes of it.
-fn check_transition(
+// What the transition comes to.
+fn due_for(
     alloc: Global,
     state: &State,
     caller: UserNo,
     issue: &str,
     transition: &str,
     set: &ResolvedSet<'_>,
-) -> Result<(usize, Vec<Change>), Refusal>
+) -> Result<Option<DueGroup>, Refusal>
+    requires setup { set.now.setup ≡ state.now.machine.setup }
+    requires user { caller.0 < length state.now.machine.setup.users }
+    ensures { ComesToGroup state.now.machine (transition_answer issue.now) (transition_meaning
+        state.now.machine caller.0 issue.now transition.now set.now.set) result }
+{
+    let (found, net) = check_transition(alloc, state, caller, issue, transition, set)?;
+    match due_group(alloc, state, caller, found, net) {
+        Ok(due) => Ok(due),
+        Err(_) => Err(Refusal::Memory),
+    }
+}
+
+// The issue, and what the transition changes of it.
+fn check_transition<'a>(
+    alloc: Global,
+    state: &'a State,
+    caller: UserNo,
+    issue: &str,
+    transition: &str,
+    set: &ResolvedSet<'_>,
+) -> Result<(Found<'a>, Vec<Change>), Refusal>
     // The names were read by this tracker's setup, and the caller is a user.
     requires setup { set.now.setup ≡ state.now.machine.setup }
     requires user { caller.0 < length state.now.machine.setup.users }
@@ -75,34 +86,26 @@ fn check_transition(
     // memory.
     ensures check { Checks (transition_refusal state.now.machine caller.0 issue.now transition.now
         set.now.set) result }
-    // At the place is the issue of that name.
+    // The issue is the one of that name.
     ensures place { IfOk result (λ r. place_of_issue issue.now state.now.machine.histories
-        ≡ Some r.0) }
-    ensures there { IfOk result (λ r. r.0 < length state.now.machine.histories) }
-    // What changes is what the transition makes of the issue: other values than the present ones,
-    // which fit and name no missing sprint.
+        ≡ Some r.0.place) }
+    // What changes is what the transition makes of the issue, and it may come.
     ensures net { IfOk result (λ r. r.1.items
-        ≡ transition_news state.now.machine caller.0 set.now.set
-        (slice_get state.now.machine.histories r.0)
+        ≡ transition_news state.now.machine caller.0 set.now.set (Some r.0.issue.now.history)
         (transition_named state.now.machine transition.now)) }
-    ensures news { IfOk result (λ r.
-        IfSome (slice_get state.now.machine.histories r.0) (λ h. AreNews (present h) 0 r.1.items)) }
-    ensures fitting { IfOk result (λ r. AllFit (names_in state.now.machine.setup) r.1.items) }
-    ensures sprints { IfOk result (λ r. AreOfSprints (length state.now.machine.sprints) r.1.items) }
-    // There is room for the entries and texts of one more group.
-    ensures few { IfOk result (λ r. entries_kept state.now.machine.histories ≤ most_entries - entries_reserve) }
-    ensures light { IfOk result (λ r. bytes_kept state.now.machine.histories ≤ most_text_bytes - text_reserve) }
+    ensures may { IfOk result (λ r. MayChange state.now.machine caller.0 r.0.place
+        r.0.issue.now.history r.1.items) }
 {
-    let place = known_issue(alloc, state, issue)?;
+    let found = known_issue(alloc, state, issue)?;
     let number = known_transition(alloc, state, transition)?;
     check_set(alloc, state, set)?;
-    check_access(alloc, state, caller, Permission::Browse, place)?;
-    check_access(alloc, state, caller, Permission::Transition, place)?;
-    check_closed(state, set, state.issue_at(place))?;
+    check_access(alloc, state, caller, Permission::Browse, found)?;
+    check_access(alloc, state, caller, Permission::Transition, found)?;
+    check_closed(state, set, Some(found.issue))?;
     check_entries(state)?;
     check_bytes(state)?;
-    let net = check_plan(alloc, state, caller, place, number, set)?;
-    Ok((place, net))
+    let net = check_plan(alloc, state, caller, found, number, set)?;
+    Ok((found, net))
 }
 
 // What the transition changes, unless one of its checks fails.
@@ -110,7 +113,7 @@ fn check_plan(
     alloc: Global,
     state: &State,
     caller: UserNo,
-    place: usize,
+    found: Found<'_>,
     transition: usize,
     set: &ResolvedSet<'_>,
 ) -> Result<Vec<Change>, Refusal>
@@ -118,31 +121,30 @@ fn check_plan(
     // is given are there.
     requires setup { set.now.setup ≡ state.now.machine.setup }
     requires user { caller.0 < length state.now.machine.setup.users }
-    requires there { place < length state.now.machine.histories }
+    requires there { slice_get state.now.machine.histories found.place
+        ≡ Some found.issue.now.history }
     requires named { transition < length state.now.machine.setup.transition }
     requires known { GivesKnownSprint state.now.machine set.now.set }
     // It passes only where conditions, values and validators hold, and else names the first that
     // doesn't, or want of memory.
     ensures check { Checks (plan_refusal state.now.machine caller.0 set.now.set
-        (slice_get state.now.machine.histories place)
+        (Some found.entry.issue.now.history)
         (slice_get state.now.machine.setup.transition transition)) result }
     // What changes is what the transition makes of the issue: other values than the present ones,
     // which fit and name no missing sprint.
     ensures net { IfOk result (λ net. net.items
         ≡ transition_news state.now.machine caller.0 set.now.set
-        (slice_get state.now.machine.histories place)
+        (Some found.entry.issue.now.history)
         (slice_get state.now.machine.setup.transition transition)) }
-    ensures news { IfOk result (λ net. IfSome (slice_get state.now.machine.histories place) (λ h.
-        AreNews (present h) 0 net.items)) }
+    ensures news { IfOk result (λ net.
+        AreNews (present found.entry.issue.now.history) 0 net.items) }
     ensures fitting { IfOk result (λ net. AllFit (names_in state.now.machine.setup) net.items) }
     ensures sprints { IfOk result (λ net.
         AreOfSprints (length state.now.machine.sprints) net.items) }
 {
-    let Some(issue) = state.issue_at(place) else {
-        unreachable!()
-    };
+    state.is_tracker();
     let transition = &state.setup().transition.as_slice()[transition];
-    plan_of(alloc, state, caller, issue, transition, set)
+    plan_of(alloc, state, caller, found.issue, transition, set)
 }
 
 // The same of an issue and a transition that are there.

@@ -1,5 +1,5 @@
 // The calls `move_before` and `move_after`: an issue goes to the place beside another one.
-ghost use Rattle.std.specs.Prelude.{◌≡◌, ◌≢◌, ◌<◌, ◌+◌, ◌∷◌, [], false, Ok, Some, IfOk, length, slice_get, option_map};
+ghost use Rattle.std.specs.Prelude.{◌≡◌, ◌≢◌, ◌+◌, ◌∷◌, [], false, Ok, Some, IfOk, length, slice_get, option_map};
 ghost use Rattle.std.specs.Str.{bytes_eq};
 ghost use Rattle.board.specs.declared.place.Place.TheVariants.{Before, After};
 ghost use Rattle.tracker_ranks.specs.Ranked.{AreNumbered, IsOneOf};
@@ -18,7 +18,7 @@ use std::alloc::Global;
 use tracker_calls::{Answer, Refusal, ToldText};
 use tracker_keeper::RowOp;
 use tracker_state::no_room::refusal_of;
-use tracker_state::{Plan, Prepared, RankPlan, State, check_access, known_issue};
+use tracker_state::{Found, Plan, Prepared, RankPlan, State, check_access, known_issue};
 
 /// Prepares that the issue goes to the place before the other one, or says why not.
 pub fn move_before(
@@ -74,27 +74,23 @@ fn check_move(
     ensures beside { IfOk result (λ r. IsOneOf (length state.now.machine.order) r.1.0) }
     ensures apart { IfOk result (λ r. r.0.0 ≢ r.1.0) }
 {
-    let place = known_issue(alloc, state, issue)?;
+    let moved = known_issue(alloc, state, issue)?;
     let beside = known_issue(alloc, state, other)?;
-    check_access(alloc, state, caller, Permission::Browse, place)?;
-    check_access(alloc, state, caller, Permission::Rank, place)?;
+    check_access(alloc, state, caller, Permission::Browse, moved)?;
+    check_access(alloc, state, caller, Permission::Rank, moved)?;
     check_access(alloc, state, caller, Permission::Browse, beside)?;
-    Ok((number_at(state, place), number_at(state, beside)))
+    Ok((number_of(state, moved), number_of(state, beside)))
 }
 
-// The number of the issue at a place, which is one more.
-fn number_at(state: &State, place: usize) -> IssueNo
-    requires { place < length state.now.machine.histories }
-    ensures number { option_map (λ h. h.no) (slice_get state.now.machine.histories place)
-        ≡ Some result }
-    ensures next { result.0 ≡ place + 1 }
+// The number of the issue, which is one more than its place.
+fn number_of(state: &State, found: Found<'_>) -> IssueNo
+    requires { slice_get state.now.machine.histories found.place ≡ Some found.issue.now.history }
+    ensures number { result ≡ found.entry.issue.now.history.no }
+    ensures next { result.0 ≡ found.entry.place + 1 }
     ensures one { IsOneOf (length state.now.machine.order) result.0 }
 {
     state.is_tracker();
-    let Some(issue) = state.issue_at(place) else {
-        unreachable!()
-    };
-    issue.no()
+    found.issue.no()
 }
 
 // The issue of that name and number goes to a place.

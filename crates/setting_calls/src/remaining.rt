@@ -24,7 +24,7 @@ pub fn burndown(
         state.now result }
 {
     let kept = sprint_to_plan(alloc, state, caller, sprint)?;
-    let answer = told(alloc, state, sprint, kept, part)?;
+    let answer = told(alloc, state, sprint, kept.state, part)?;
     Ok(Prepared::Tell(answer))
 }
 

@@ -1,6 +1,6 @@
 // The calls `start_sprint` and `close_sprint`: a sprint that comes to its next state.
 ghost use Rattle.std.specs.Prelude.{◌≡◌, IfOk, Some};
-ghost use Rattle.sprints.specs.Sprint.{IsThere, state_of, name_of};
+ghost use Rattle.sprints.specs.Sprint.{name_of, state_of};
 ghost use Rattle.tracker_machine.specs.Effect.{IsAllowed};
 ghost use Rattle.tracker_machine.specs.Effect.Effect.{NewState};
 ghost use Rattle.tracker_machine.specs.Kept.{ops_of};
@@ -9,7 +9,7 @@ ghost use Rattle.tracker_machine.specs.SprintRules.{MayTurn};
 ghost use Rattle.tracker_state.specs.Check.{Checks};
 ghost use Rattle.tracker_state.specs.Plan.{IsPrepared};
 
-use crate::check::known_sprint;
+use crate::check::{FoundSprint, known_sprint};
 use crate::rows::sprint_ops;
 use fields::{Memory, Permission, SprintNo, UserNo};
 use sprints::SprintState;
@@ -27,11 +27,13 @@ pub fn start_sprint(
 ) -> Result<Prepared, Refusal>
     ensures { IsPrepared (start_sprint_meaning state.now.machine caller.0 sprint) state.now result }
 {
-    match sprint_to_plan(alloc, state, caller, sprint)? {
+    let found = sprint_to_plan(alloc, state, caller, sprint)?;
+    match found.state {
         SprintState::Future => turn(
             alloc,
             state,
             sprint,
+            found.name,
             SprintState::Active {
                 at: state.moment(),
                 change: state.change(),
@@ -52,11 +54,14 @@ pub fn close_sprint(
 ) -> Result<Prepared, Refusal>
     ensures { IsPrepared (close_sprint_meaning state.now.machine caller.0 sprint) state.now result }
 {
-    match sprint_to_plan(alloc, state, caller, sprint)? {
+    let found = sprint_to_plan(alloc, state, caller, sprint)?;
+    let kept = found.state;
+    match kept {
         SprintState::Active { at, change } => turn(
             alloc,
             state,
             sprint,
+            found.name,
             SprintState::Closed {
                 start_at: at,
                 start_change: change,
@@ -70,19 +75,22 @@ pub fn close_sprint(
     }
 }
 
-/// The state of the sprint of that number, where the caller may plan.
-pub fn sprint_to_plan(
+/// The sprint of that number, where the caller may plan.
+pub fn sprint_to_plan<'a>(
     alloc: Global,
-    state: &State,
+    state: &'a State,
     caller: UserNo,
     sprint: SprintNo,
-) -> Result<SprintState, Refusal>
-    ensures kept { IfOk result (λ kept. state_of state.now.machine.sprints sprint.0 ≡ Some kept) }
+) -> Result<FoundSprint<'a>, Refusal>
+    ensures kept { IfOk result (λ found.
+        state_of state.now.machine.sprints sprint.0 ≡ Some found.state) }
+    ensures name { IfOk result (λ found.
+        name_of state.now.machine.sprints sprint.0 ≡ Some found.name.now) }
     ensures check { Checks (plan_sprint_refusal state.now.machine caller.0 sprint) result }
 {
-    let kept = known_sprint(alloc, state, sprint)?;
+    let found = known_sprint(alloc, state, sprint)?;
     check_permission(alloc, state, caller, Permission::Plan, None)?;
-    Ok(kept)
+    Ok(found)
 }
 
 /// How far a sprint of this state is, as an answer tells it.
@@ -96,23 +104,25 @@ pub fn phase_of(state: &SprintState) -> SprintPhase
     }
 }
 
-// The sprint comes to its next state.
+// The sprint of this name comes to its next state.
 #[tactic(auto, unfolding(tracker_machine::specs::Effect::IsAllowed))]
 fn turn(
     alloc: Global,
     state: &State,
     sprint: SprintNo,
+    name: &str,
     next: SprintState,
 ) -> Result<Prepared, Refusal>
-    requires { MayTurn state.now.machine.moment state.now.machine.change state.now.machine.sprints
-        sprint next }
+    requires named { name_of state.now.machine.sprints sprint.0 ≡ Some name.now }
+    requires may { MayTurn state.now.machine.moment state.now.machine.change
+        state.now.machine.sprints sprint next }
     ensures { (kept : SprintState) → IsPrepared (turned sprint kept (Some next)) state.now result }
 {
     let answer = Answer::SprintPhase {
         sprint,
         state: phase_of(&next),
     };
-    let rows = turn_ops(alloc, state, sprint, &next)?;
+    let rows = turn_ops(alloc, state, sprint, name, &next)?;
     Ok(Prepared::Make {
         plan: Plan::State {
             sprint,
@@ -123,28 +133,18 @@ fn turn(
     })
 }
 
-// The operation that keeps a sprint in its next state.
+// The operation that keeps a sprint of this name in its next state.
 #[tactic(auto, using(crate::proofs::Ops::state_ops_are))]
 fn turn_ops(
     alloc: Global,
     state: &State,
     sprint: SprintNo,
+    name: &str,
     next: &SprintState,
 ) -> Result<Vec<RowOp>, Memory>
-    requires { MayTurn state.now.machine.moment state.now.machine.change state.now.machine.sprints
-        sprint next.now }
+    requires { name_of state.now.machine.sprints sprint.0 ≡ Some name.now }
     ensures { IfOk result (λ ops. ops.items ≡ ops_of (NewState sprint next.now) state.now.machine) }
 {
-    sprint_ops(alloc, sprint, name_of(state, sprint), next)
-}
-
-// The name of a sprint that is there.
-fn name_of(state: &State, sprint: SprintNo) -> &str
-    requires { IsThere state.now.machine.sprints sprint.0 }
-    ensures { name_of state.now.machine.sprints sprint.0 ≡ Some result.now }
-{
-    let Some(name) = state.work().name(sprint) else {
-        unreachable!()
-    };
-    name.as_str()
+    let _ = state;
+    sprint_ops(alloc, sprint, name, next)
 }

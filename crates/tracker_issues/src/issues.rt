@@ -127,6 +127,14 @@ impl Issues {
         self.list.get(place)
     }
 
+    /// The issue at a place where one is.
+    pub fn at(&self, place: usize) -> &Issue
+        requires { place < length self.now.kept }
+        ensures { slice_get self.now.kept place ≡ Some result.now }
+    {
+        &self.list[place]
+    }
+
     /// The place of the issue of that key, in exact letters.
     pub fn place_of(&self, key: &str) -> Option<usize>
         ensures place { result ≡ place_of_issue key.now (histories_of self.now.kept) }

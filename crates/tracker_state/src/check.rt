@@ -1,11 +1,14 @@
 // The checks that calls of every kind make, each of which may refuse a call.
-ghost use Rattle.std.specs.Prelude.{◌≡◌, ◌<◌, length, option_map, slice_get, decimal, IfOk, Some};
+ghost use Rattle.std.specs.Prelude.{◌≡◌, option_map, slice_get, decimal, IfOk, Some};
 ghost use Rattle.fields.specs.Naming.{name_at};
+ghost use Rattle.fields.specs.SetupParts.{names_in};
 ghost use Rattle.tracker_machine.specs.Known.{project_keys, place_of_issue};
 ghost use Rattle.tracker_machine.specs.Checks.{unless_known, permission_refusal};
 ghost use Rattle.tracker_machine.specs.Access.{access_refusal};
+ghost use Rattle.tracker_machine.specs.Tracker.{IsSettled};
 ghost use Rattle.tracker_state.specs.Check.{Checks, IsRefusal};
 
+use crate::found::Found;
 use crate::state::State;
 use fields::{Permission, ProjectNo, Text, UserNo};
 use std::alloc::Global;
@@ -31,17 +34,20 @@ pub fn unknown(alloc: Global, kind: Thing, name: &str) -> Refusal
     }
 }
 
-/// The place of the issue of that key.
-pub fn known_issue(alloc: Global, state: &State, name: &str) -> Result<usize, Refusal>
-    ensures place { IfOk result (λ place.
-        place_of_issue name.now state.now.machine.histories ≡ Some place) }
-    ensures there { IfOk result (λ place. place < length state.now.machine.histories) }
+/// The issue of that key.
+pub fn known_issue<'a>(alloc: Global, state: &'a State, name: &str) -> Result<Found<'a>, Refusal>
+    ensures place { IfOk result (λ found.
+        place_of_issue name.now state.now.machine.histories ≡ Some found.place) }
+    ensures issue { IfOk result (λ found.
+        slice_get state.now.machine.histories found.place ≡ Some found.issue.now.history) }
+    ensures settled { IfOk result (λ found. IsSettled (names_in state.now.machine.setup)
+        state.now.machine.moment state.now.machine.change found.issue.now.history) }
     ensures check { Checks (unless_known
         (place_of_issue name.now state.now.machine.histories)
         (Cause.Unknown Thing.Issue name.now)) result }
 {
-    match state.place_of_issue(name) {
-        Some(place) => Ok(place),
+    match state.issue_named(name) {
+        Some(found) => Ok(found),
         None => Err(unknown(alloc, Thing::Issue, name)),
     }
 }
@@ -102,19 +108,23 @@ pub fn check_permission(
     Err(forbidden(alloc, state, permission, project))
 }
 
-/// The caller has a permission in the project of the issue at a place.
+/// The caller has a permission in the project of the issue.
 pub fn check_access(
     alloc: Global,
     state: &State,
     caller: UserNo,
     permission: Permission,
-    place: usize,
+    found: Found<'_>,
 ) -> Result<(), Refusal>
+    requires { slice_get state.now.machine.histories found.place ≡ Some found.issue.now.history }
     ensures { Checks (access_refusal state.now.machine caller.0 permission
-        (slice_get state.now.machine.histories place)) result }
+        (Some found.entry.issue.now.history)) result }
 {
-    match state.issue_at(place) {
-        Some(_) => check_permission(alloc, state, caller, permission, state.project_at(place)),
-        None => Ok(()),
-    }
+    check_permission(
+        alloc,
+        state,
+        caller,
+        permission,
+        state.project_at(found.place),
+    )
 }

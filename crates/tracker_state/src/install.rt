@@ -97,9 +97,7 @@ impl State {
         self.change += 1;
         let before = share_at(&self.issues, &self.work, new.place);
         self.issues.add(new.place, new.group, new.bytes);
-        let Some(issue) = self.issues.get(new.place) else {
-            unreachable!()
-        };
+        let issue = self.issues.at(new.place);
         self.filters
             .see_change(issue, &self.setting.context, self.moment, steps);
         self.work.see_group(
@@ -256,10 +254,7 @@ fn share_at(issues: &Issues, work: &Work, place: usize) -> Share
     ensures { IfSome (slice_get issues.now.kept place) (λ i.
         result ≡ share_now work.now.seen i.history) }
 {
-    let Some(issue) = issues.get(place) else {
-        unreachable!()
-    };
-    work.share(issue)
+    work.share(issues.at(place))
 }
 
 // Starts or closes a sprint, which comes to this state.

@@ -3,6 +3,7 @@
 
 mod asking;
 mod check;
+mod found;
 mod install;
 mod keys;
 pub mod no_room;
@@ -14,6 +15,7 @@ mod state;
 
 pub use asking::asked;
 pub use check::{check_access, check_permission, known_issue, malformed, unknown, unnumbered};
+pub use found::Found;
 pub use install::phase_of;
 pub use keys::key_numbered;
 pub use part::part_of;

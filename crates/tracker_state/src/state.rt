@@ -20,6 +20,7 @@ ghost use Rattle.tracker_machine.specs.Checks.{entries_kept, bytes_kept};
 ghost use Rattle.tracker_machine.specs.Tracker.{IsSettled, IsTracker};
 ghost use Rattle.tracker_state.specs.State.{machine_of, saved_filters, HasSprintRoom, HaveSeen, IsBound, IsState};
 
+use crate::found::Found;
 use change_history::Issue;
 use external_ids::ExternalIds;
 use fields::{GroupNo, Memory, Moment, Permission, ProjectNo, Setup, SprintNo, UserNo};
@@ -262,16 +263,32 @@ impl State {
         self.issues.bytes()
     }
 
-    /// The place of the issue of that key, in exact letters; `None` exactly where there is none.
-    pub fn place_of_issue(&self, key: &str) -> Option<usize>
-        ensures place { result ≡ place_of_issue key.now self.now.machine.histories }
-        ensures there { IfSome result (λ place. place < length self.now.machine.histories) }
+    /// The issue of that key, in exact letters; `None` exactly where there is none.
+    pub fn issue_named(&self, key: &str) -> Option<Found<'_>>
+        ensures place { option_map (λ found. found.place) result
+            ≡ place_of_issue key.now self.now.machine.histories }
+        ensures issue { IfSome result (λ found.
+            slice_get self.now.machine.histories found.place ≡ Some found.issue.now.history) }
+        ensures settled { IfSome result (λ found. IsSettled (names_in self.now.machine.setup)
+            self.now.machine.moment self.now.machine.change found.issue.now.history) }
     {
-        self.issues.place_of(key)
+        let place = self.issues.place_of(key)?;
+        let issue = self.issue_at(place)?;
+        Some(Found { place, issue })
     }
 
-    /// The place of the issue of that external id, in exact letters; `None` exactly where there is none.
-    pub fn place_called(&self, id: &str) -> Option<usize>
+    /// The issue of that external id, in exact letters; `None` exactly where there is none.
+    pub fn issue_called(&self, id: &str) -> Option<&Issue>
+        ensures issue { option_map (λ i. i.now.history) result
+            ≡ issue_called self.now.machine (Some id.now) }
+        ensures none { result ≡ None → external_named id.now self.now.machine.externals ≡ None }
+    {
+        let place = self.place_called(id)?;
+        self.issue_at(place)
+    }
+
+    // The place of the issue of that external id.
+    fn place_called(&self, id: &str) -> Option<usize>
         ensures issue { option_and_then (λ place. slice_get self.now.machine.histories place) result
             ≡ issue_called self.now.machine (Some id.now) }
         ensures there { IfSome result (λ place. place < length self.now.machine.histories) }

@@ -1,4 +1,4 @@
-use Rattle.std.proofs.Common.{◌≡◌, Some, slice_get, sym, subst}
+use Rattle.std.proofs.Common.{sym, subst}
 use Rattle.std.specs.List.{All}
 use Rattle.field_values.specs.Parts.{Parts}
 use Rattle.fields.specs.SetupParts.{names_in}
@@ -10,6 +10,5 @@ pub issue_row_of-requires : goal.issue_row_of-requires
 issue_row_of-requires c =
     let m = c.args.state.now.machine in
     let g = c.args.group.now in
-    let at : slice_get m.histories c.args.place ≡ Some c.in-Some.issue.now.history = sym c.in-Some.ensures.history in
     subst (λ (p : Parts). All (IsGroupEntry (names_in p) g.change g.at g.author) g.entries) (sym c.setup.ensures)
-    (group_entries m c.args.place g c.in-Some.issue.now.history c.is_tracker.ensures c.requires.may at)
+    (group_entries m c.args.found.place g c.args.found.issue.now.history c.is_tracker.ensures c.requires.may c.requires.there)

@@ -11,8 +11,8 @@ use Rattle.setting_calls.proofs.turn_sprint.start_sprint.Goals as goal
 pub returns-in-Future : goal.returns-in-Future
 returns-in-Future c =
     let m = c.args.state.now.machine in
-    let kept : state_of m.sprints c.args.sprint.0 ≡ Some Future = c.in_ok-kept.ensures.kept ∙ ap (λ (s : SprintState). Some s) c.in-Future.is in
+    let kept : state_of m.sprints c.args.sprint.0 ≡ Some Future = c.in_ok-found.ensures.kept ∙ ap (λ (s : SprintState). Some s) c.in-Future.is in
     subst (λ (meant : Meaning). IsPrepared meant c.args.state.now c.turn.result)
     (ap₂ (λ (at change : ℕ). turned c.args.sprint Future (Some (Active at change))) c.moment.ensures c.change.ensures
-    ∙ sym (start_turns m c.args.caller.0 c.args.sprint Future kept c.in_ok-kept.ensures.check))
+    ∙ sym (start_turns m c.args.caller.0 c.args.sprint Future kept c.in_ok-found.ensures.check))
     (c.turn.ensures Future)

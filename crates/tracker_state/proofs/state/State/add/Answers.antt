@@ -1,6 +1,6 @@
 use Rattle.std.proofs.Common.{◌≡◌, ◌++◌, ◌+◌, ◌<◌, length, slice_get, set, Some, IfSome, ap, sym, subst, ◌∙◌}
 use Rattle.std.proofs.lemmas.List.{length-map}
-use Rattle.std.specs.Option.{option_map_or, option_copied}
+use Rattle.std.specs.Option.{option_map_or}
 use Rattle.change_history.specs.History.{RoomyHistory, History, MayAdd, histories_of}
 use Rattle.tracker_machine.specs.Machine.{Machine}
 use Rattle.tracker_machine.specs.Effect.{applied, IsAllowed, longer, with_group}
@@ -28,8 +28,8 @@ see_change-requires-clause-there g c =
     let there : place < length m.histories = subst (λ (s : Held). place < length s.machine.histories) (sym c.self.view_is) c.requires.allowed.there in
     let in' : place < length kept = subst (λ n. place < n) (length-map kept (λ (i : RoomyHistory). i.history)) there in
     let found = at_place kept place in' in
-    let issue = c.in-Some.issue.now in
-    let is : issue ≡ with_entries found.0 es = grown_is kept c.add.new.self.kept place found.0 issue es in' found.1 c.add.ensures.kept (sym (ap option_copied c.in-Some.is) ∙ c.get.ensures) in
+    let issue = c.at-issue.result.now in
+    let is : issue ≡ with_entries found.0 es = grown_is kept c.add.new.self.kept place found.0 issue es in' found.1 c.add.ensures.kept (sym c.at-issue.ensures) in
     (numbered_there m c.self.inside.issues.tally c.self.inside.filters c.self.inside.work c.self.inside.setting.context place found.0 issue es c.self.invariant (history_at kept place found.0 found.1) is).1
 
 pub see_group-requires-clause-group : goal.see_group-requires-clause-group
@@ -76,8 +76,8 @@ invariant_of-self g c =
     let w = c.self.inside.filters in
     let seen = c.see_change.new.self in
     let is = c.see_change.ensures in
-    let issue = c.in-Some.issue.now in
-    let same : issue ≡ with_entries i es = grown_is kept c.add.new.self.kept place i issue es in' found.1 c.add.ensures.kept (sym (ap option_copied c.in-Some.is) ∙ c.get.ensures) in
+    let issue = c.at-issue.result.now in
+    let same : issue ≡ with_entries i es = grown_is kept c.add.new.self.kept place i issue es in' found.1 c.add.ensures.kept (sym c.at-issue.ensures) in
     let number : issue.history.no.0 ≡ 1 + place = (numbered_there m c.self.inside.issues.tally w c.self.inside.work c.self.inside.setting.context place i issue es c.self.invariant at same).0 in
     let next = machine_grown m place group i.history (histories_of c.add.new.self.kept) c.see_group.new.self.seen.sprints (saved_filters seen.filters)
     at histories (ap (λ (s : Seen). s.sprints) c.see_group.ensures.seen) (ap saved_filters is.filters) in
