@@ -273,7 +273,7 @@ module _ (ps : List Pair) (few : length ps ≤ most_issues) (from to : ℕ) wher
   on_the_way : (count steps : ℕ) (qs : List Pair) (e : Balance) → 1 ≤ count → to ≡ next_bucket from → Outcome count steps (length ps) qs e → IsOnTheWay count steps (length ps) from qs e
   unfolding Outcome
   on_the_way count steps qs e some next (inl moving) = record {
-    has_room = λ low high is stuck. no_stuck qs moving.1.0 count low high moving.1.1 (subst (λ b. IsStuck qs (from_of b) (to_of b) count low high) moving.0 stuck);
+    has_room = λ other low high is stuck. no_stuck qs moving.1.0 other low high moving.1.1 (subst (λ b. IsStuck qs (from_of b) (to_of b) other low high) moving.0 stuck);
     moves_on = λ less. moving.0 ∙ ap (Moving from) next;
     ends = λ last. absurd (too_many last moving.1.3);
   }
@@ -292,7 +292,7 @@ module _ (ps : List Pair) (few : length ps ≤ most_issues) (from to : ℕ) wher
           let sum = moving.1.2 in
           omega (arith, over, le, more, turned, sum, h)
   on_the_way count steps qs e some next (inr idle) = record {
-    has_room = λ low high is stuck. absurd (subst IsMoving idle.0 is);
+    has_room = λ other low high is stuck. absurd (subst IsMoving idle.0 is);
     moves_on = λ less. absurd (too_few less);
     ends = λ last. (idle.0 ∙ ap Idle next, state_done qs idle.1);
   }

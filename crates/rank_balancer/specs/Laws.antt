@@ -57,9 +57,9 @@ steps_for issues count = max 1 ((issues + (count - 1)) / count)
 
 -- where some steps after a start have led
 pub record IsOnTheWay (count steps issues bucket : ℕ) (qs : List Pair) (e : Balance) : Type 0 where
-  -- no further step is refused for want of room
-  pub has_room : (low high : Option RankParts) → IsMoving e
-      → ¬ IsStuck qs (from_of e) (to_of e) count low high
+  -- no further step is refused for want of room, of whatever count
+  pub has_room : (other : ℕ) (low high : Option RankParts) → IsMoving e
+      → ¬ IsStuck qs (from_of e) (to_of e) other low high
   -- before the last one the balance moves on
   pub moves_on : steps < steps_for issues count → e ≡ Moving bucket (next_bucket bucket)
   -- with the last one it is idle in the next bucket, and every rank has nine bytes

@@ -143,5 +143,5 @@ rebalancings_end m start lines count steps bucket has few is at_least starts amo
     (subst (λ (n : Machine). StepsLead count steps n.order n.balance last.order last.balance) (start_moves m start bucket is starts) lead) in
     record {
       ranks = subst (λ n. IsOnTheWay count steps n bucket last.order last.balance) has.each way;
-      room = λ user. step_has_room last user count (lines_keep lines next has_next) way.has_room;
+      room = λ user other. step_has_room last user other (lines_keep lines next has_next) (way.has_room other);
     }

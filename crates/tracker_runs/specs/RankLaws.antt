@@ -170,8 +170,8 @@ end_of_lines m (line ∷ lines) = end_of_lines (asked_next m (line_of line)) lin
 pub record HasComeSoFar (count steps issues bucket : ℕ) (m : Machine) : Type 0 where
   -- before the last step the balance moves on, and with it it is idle in the next bucket, and every rank has nine bytes
   pub ranks : IsOnTheWay count steps issues bucket m.order m.balance
-  -- whoever asks for one step more, no reply says that no rank is left
-  pub room : (user : List ℕ) → HasRoom (reply_of m user (call.RebalanceStep count))
+  -- whoever asks for one step more, of whatever count, no reply says that no rank is left
+  pub room : (user : List ℕ) (other : ℕ) → HasRoom (reply_of m user (call.RebalanceStep other))
 
 -- from an idle balance with as many issues as a tracker may hold, after an accepted start and so many accepted steps of one count, among lines
 -- that leave the ranks, it is known how far the rebalancing has come
