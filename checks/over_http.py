@@ -4,7 +4,8 @@
 usage: python3 checks/over_http.py [PROGRAM [PORT]]
 
 PROGRAM is the built tracker, crates/tracker/out/tracker by default, and is started on PORT of 127.0.0.1, 8766 by default. Each case
-has a line. The last one counts them, and the status is 1 where one is not ok. bench/http_requests.py times requests.
+has a line. The last one counts them, and the status is 1 where one is not ok. It takes two minutes, most of them behind clients that are
+slow. bench/http_requests.py times requests.
 """
 import http.client
 import json
@@ -16,6 +17,7 @@ import struct
 import subprocess
 import sys
 import tempfile
+import threading
 import time
 
 TOP = pathlib.Path(__file__).resolve().parent.parent
@@ -86,9 +88,9 @@ class Asking:
             self.bad += 1
             print(f'not ok  {name}: wanted {wanted!r}, came {came!r}')
 
-    def exchange(self, sent, piece=None, finish=True):
+    def exchange(self, sent, piece=None, finish=True, patience=20):
         """What comes back, until the program closes, to bytes that are sent at once or in pieces."""
-        with socket.create_connection((HOST, self.port), 20) as link:
+        with socket.create_connection((HOST, self.port), patience) as link:
             try:
                 for at in range(0, len(sent), piece or len(sent)):
                     link.sendall(sent[at:at + (piece or len(sent))])
@@ -286,6 +288,83 @@ def curl(ask):
              run('-G', '-H', 'X-User: cy', '--data-urlencode', 'jql=points = 3', base + '/search')[0])
 
 
+def silent(link, _stop):
+    """Sends nothing."""
+
+
+def half_a_head(link, _stop):
+    link.sendall(request(SHOW)[:20])
+
+
+def trickle(link, stop):
+    """Sends a byte of a long head each two seconds."""
+    for byte in head_of(8_000):
+        try:
+            link.sendall(bytes([byte]))
+        except OSError:
+            return
+        if stop.wait(2):
+            return
+
+
+def never_reads(link, _stop):
+    """Asks for more than the sockets hold, and takes none of it."""
+    asked = b'{"call":"show","issue":"%s"}' % (b'A' * 60_000)
+    link.settimeout(3)
+    try:
+        link.sendall(posted(asked) * 16)
+    except OSError:
+        pass
+
+
+def slow_clients(ask):
+    """Clients that hold a connection up, and how long the next one waits behind them."""
+    for name, hold, limit in (('a client that sends nothing', silent, 12), ('half a head', half_a_head, 12), ('one that never reads', never_reads, 15),
+                              ('a byte each two seconds', trickle, 62)):
+        stop = threading.Event()
+        with socket.socket() as link:
+            link.setsockopt(socket.SOL_SOCKET, socket.SO_RCVBUF, 4_096)
+            link.connect((HOST, ask.port))
+            holder = threading.Thread(target=hold, args=(link, stop))
+            holder.start()
+            time.sleep(0.3)
+            begun = time.time()
+            came = answers(ask.exchange(request(SHOW, CLOSE), finish=False, patience=90))
+            took = time.time() - begun
+            stop.set()
+            holder.join()
+        ask.tell(f'behind {name} the next client is served within {limit} seconds', ([200], True), ([it.status for it in came], took <= limit))
+        print(f'        after {took:.1f} seconds')
+
+
+def long_bodies(ask):
+    """The answer comes through, although the client still sends."""
+    for _ in range(20):
+        found = answers(ask.exchange(posted(b' ' * 9_000_000), finish=False))
+        if [it.status for it in found] != [413]:
+            break
+    ask.tell('9,000,000 bytes of body, twenty times', ([413], True), ([it.status for it in found], found[0].closes() if found else None))
+
+
+def without_descriptors(ask, running):
+    """No descriptor is free for some seconds. Who comes then is served as soon as there is one."""
+    if not shutil.which('prlimit'):
+        print('prlimit is not there: its case is left out')
+        return
+
+    def limit(number):
+        subprocess.run(['prlimit', f'--pid={running.pid}', f'--nofile={number}:65536'], check=True)
+
+    limit(4)
+    back = threading.Timer(3, limit, (1_024,))
+    back.start()
+    begun = time.time()
+    found = answers(ask.exchange(request(SHOW, CLOSE), finish=False))
+    took = time.time() - begun
+    back.join()
+    ask.tell('a client that comes while no descriptor is free', ([200], True, None), ([it.status for it in found], 2 < took < 10, running.poll()))
+
+
 def started(program, port):
     """The program, which listens."""
     running = subprocess.Popen([program, ':memory:', 'serve', str(port)], stdout=subprocess.DEVNULL)
@@ -309,8 +388,9 @@ def main():
     ask = Asking(int(words[1]) if len(words) > 1 else 8766)
     running = started(program, ask.port)
     try:
-        for cases in (calls, targets, heads, methods, connections, python_client, curl):
+        for cases in (calls, targets, heads, methods, connections, python_client, curl, long_bodies, slow_clients):
             cases(ask)
+        without_descriptors(ask, running)
     finally:
         running.kill()
         running.wait()
