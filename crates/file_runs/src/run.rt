@@ -19,7 +19,7 @@ use tracker_cli::run;
 /// Carries out a command over the files at the path, which are made where there are none, and ends with all copied into the database
 /// file; `S` stands for what they held. **What was acknowledged is found again**: a run of `exec` begins in the tracker that the
 /// files hold, and whatever may be found of them, at any moment, holds the tracker behind the lines that were answered as made, or
-/// that with the one line more that was under way; so the next run begins there. In the end that is so of the database file alone.
+/// that with one more of the input's lines; so the next run begins there. In the end that is so of the database file alone.
 pub fn run_over_files<S: Start, I: Source, O: Sink>(
     rt: &HostRuntime,
     words: &[String],

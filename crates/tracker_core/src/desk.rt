@@ -126,8 +126,8 @@ impl<P: Keeper + Drop> Desk<P> {
     /// Makes one call by that user, as the abstract tracker makes it: either the call is carried out and answered, or it is
     /// refused for the first cause that there is, or there was not enough memory, or the keeper failed where something was to be
     /// kept. After a refusal all is as before, and the rows that are kept are always the tracker's. The keeper isn't asked where
-    /// there is nothing to keep. A crash leaves the rows of the tracker, or of what might be left before, or of the tracker with this
-    /// call; once the call is carried out, just those of the tracker.
+    /// there is nothing to keep. A crash leaves the rows of the tracker, or what it might leave before, or those of the tracker with this
+    /// call.
     #[tactic(auto, unfolding(tracker_machine::specs::Step::IsStep, tracker_machine::specs::Step::evaluations), using(crate::proofs::Steps::told_step, crate::proofs::Steps::refused_step))]
     pub fn call<L: Ledger>(&mut self, caller: &UserName, call: &Call, steps: &mut Steps<L>) -> Reply
         // The call is made as the abstract tracker makes it, and what is kept are the rows after
