@@ -8,11 +8,11 @@ use sqlite_disk::{Crash, Fuse, Memory};
 use std::alloc::Global;
 use tracker_keeper::{Keeper, NeverFails, Row};
 
-type Fused = Fuse<Memory>;
+pub(crate) type Fused = Fuse<Memory>;
 
-type Over = ToldKeeper<FileStore<Fused>>;
+pub(crate) type Over = ToldKeeper<FileStore<Fused>>;
 
-const OPTIONS: Options = Options {
+pub(crate) const OPTIONS: Options = Options {
     cache_pages: 8,
     spill_pages: 8,
     checkpoint_frames: 1000,
@@ -20,7 +20,7 @@ const OPTIONS: Options = Options {
 };
 
 /// What an opening, a tick and two new issues put, three rows a commit.
-const COMMITS: [[(u8, u32, &str); 3]; 4] = [
+pub(crate) const COMMITS: [[(u8, u32, &str); 3]; 4] = [
     [(1, 0, "users = []"), (2, 0, "{\"moment\":0}"), (9, 9, "")],
     [(2, 0, "{\"moment\":1709251200}"), (9, 9, ""), (9, 8, "")],
     [
@@ -44,7 +44,11 @@ fn commit_at<K: Keeper>(alloc: Global, keeper: &mut K, at: usize) -> Option<bool
 }
 
 /// How many commits are acknowledged, of so many, and whether none is after one that failed.
-fn commit_all<K: Keeper>(alloc: Global, keeper: &mut K, most: usize) -> Option<(usize, bool)> {
+pub(crate) fn commit_all<K: Keeper>(
+    alloc: Global,
+    keeper: &mut K,
+    most: usize,
+) -> Option<(usize, bool)> {
     let mut done = 0;
     let mut stays = true;
     for at in 0..most {
@@ -82,12 +86,12 @@ fn are_same(one: &[Row], other: &[Row]) -> bool {
 }
 
 /// Whether these are the rows after so many commits, or after all.
-fn are_after(alloc: Global, found: &[Row], commits: usize) -> Option<bool> {
+pub(crate) fn are_after(alloc: Global, found: &[Row], commits: usize) -> Option<bool> {
     let rows = rows_after(alloc, COMMITS.len().min(commits))?;
     Some(are_same(found, &rows))
 }
 
-fn fused(alloc: Global, calls: u64) -> Files<Fused> {
+pub(crate) fn fused(alloc: Global, calls: u64) -> Files<Fused> {
     Files {
         log: Fuse::new(Memory::new(alloc), calls),
         db: Fuse::new(Memory::new(alloc), calls),
@@ -118,7 +122,7 @@ fn left_after(alloc: Global, files: Files<Fused>) -> Option<(Files<Fused>, usize
     Some((keeper.release().into_store().close(), done, stays && tells))
 }
 
-fn reopened(alloc: Global, mut files: Files<Fused>) -> Option<Over> {
+pub(crate) fn reopened(alloc: Global, mut files: Files<Fused>) -> Option<Over> {
     files.log.crash();
     files.db.crash();
     over(alloc, Connection::open_files(alloc, files, OPTIONS).ok()?)
