@@ -1,0 +1,65 @@
+"""The team of the page's day: what it did in the nine days before, as request lines."""
+import time
+
+DAY = 86_400
+SPRINT = 'December, first half'
+ISSUES = [
+    ('anna', 'Task', 'Sign people in by the company’s directory', {'points': '5', 'priority': 'High', 'labels': ['login']}),
+    ('anna', 'Bug', 'A crash on start where the settings file is empty', {'points': '3', 'priority': 'High', 'labels': ['settings']}),
+    ('bo', 'Task', 'Write the guide for new people', {'points': '2', 'labels': ['docs']}),
+    ('bo', 'Bug', 'Search is slow with many labels', {'points': '3', 'priority': 'Medium', 'labels': ['search', 'speed']}),
+    ('anna', 'Task', 'Dark colours for the settings', {'points': '2', 'priority': 'Low', 'labels': ['settings', 'ui']}),
+    ('root', 'Bug', 'The import of old issues loses their dates', {'points': '3', 'priority': 'High', 'labels': ['import']}),
+    ('bo', 'Task', 'A mail when an issue is assigned', {'points': '5', 'labels': ['mail']}),
+    ('anna', 'Task', 'Keys for everything on the board', {'points': '3', 'priority': 'Medium', 'labels': ['board', 'ui']}),
+    ('root', 'Task', 'Export with chosen columns', {'labels': ['export']}),
+    ('bo', 'Bug', 'The login page forgets where one wanted to go', {'points': '1', 'priority': 'Medium', 'labels': ['login']}),
+    ('anna', 'Bug', 'A total is wrong after the clock goes back', {'priority': 'Medium'}),
+    ('root', 'Task', 'Move the old branches to the archive', {'priority': 'Low'}),
+]
+DUE = {1: 2, 4: -1, 6: 5, 8: 9}
+
+
+def day_text(moment):
+    return time.strftime('%Y-%m-%d', time.gmtime(moment))
+
+
+def past(now):
+    """The lines, from nine days before `now` up to it."""
+    begin = now - 9 * DAY
+    yield {'user': 'root', 'call': 'tick', 'to': begin}
+    for number, (user, kind, summary, values) in enumerate(ISSUES, 1):
+        given = values | ({'due': day_text(now + DUE[number] * DAY)} if number in DUE else {})
+        yield {'user': user, 'call': 'create', 'project': 'OPS', 'type': kind, 'summary': summary, 'set': given}
+    yield {'user': 'anna', 'call': 'edit', 'issue': 'OPS-1', 'set': {'description': DESCRIPTION}}
+    yield {'user': 'anna', 'call': 'make_sprint', 'name': SPRINT}
+    for number in (1, 2, 3, 4, 5, 6, 7):
+        yield {'user': 'anna', 'call': 'edit', 'issue': f'OPS-{number}', 'set': {'sprint': 1}}
+    yield {'user': 'anna', 'call': 'start_sprint', 'sprint': 1}
+    for days, lines in WORK:
+        yield {'user': 'root', 'call': 'tick', 'to': begin + int(days * DAY)}
+        for user, call, issue, rest in lines:
+            yield {'user': user, 'call': call, 'issue': issue, **rest}
+    yield {'user': 'anna', 'call': 'save_filter', 'name': 'Everything', 'jql': 'ORDER BY updated DESC'}
+    yield {'user': 'anna', 'call': 'save_filter', 'name': 'Mine', 'jql': 'assignee = currentUser() AND resolution = Unresolved ORDER BY priority DESC'}
+    yield {'user': 'anna', 'call': 'save_filter', 'name': 'Late', 'jql': 'due < startOfDay() AND resolution = Unresolved'}
+    yield {'user': 'bo', 'call': 'save_filter', 'name': 'In no sprint', 'jql': 'sprint IS EMPTY ORDER BY rank'}
+    yield {'user': 'anna', 'call': 'make_board', 'name': 'The team', 'filter': 1}
+
+
+DESCRIPTION = """People should not need a password of their own here.
+
+- Ask the directory once a day, and keep the answer.
+- Whoever left is signed out within the hour."""
+
+WORK = [
+    (0.4, [('bo', 'transition', 'OPS-3', {'transition': 'Start'}), ('anna', 'transition', 'OPS-2', {'transition': 'Start'})]),
+    (1.2, [('bo', 'transition', 'OPS-3', {'transition': 'Finish'})]),
+    (2.3, [('anna', 'transition', 'OPS-2', {'transition': 'Review'}), ('bo', 'transition', 'OPS-4', {'transition': 'Start'})]),
+    (3.1, [('anna', 'transition', 'OPS-2', {'transition': 'Finish'})]),
+    (3.8, [('anna', 'edit', 'OPS-8', {'set': {'sprint': 1}})]),
+    (4.6, [('bo', 'transition', 'OPS-4', {'transition': 'Review'}), ('root', 'transition', 'OPS-6', {'transition': 'Start'})]),
+    (5.5, [('anna', 'transition', 'OPS-4', {'transition': 'Finish'}), ('anna', 'transition', 'OPS-1', {'transition': 'Start'})]),
+    (7.2, [('root', 'transition', 'OPS-6', {'transition': 'Review'}), ('bo', 'edit', 'OPS-1', {'set': {'assignee': 'bo'}})]),
+    (8.1, [('anna', 'transition', 'OPS-6', {'transition': 'Finish'}), ('bo', 'transition', 'OPS-7', {'transition': 'Start'})]),
+]
