@@ -13,7 +13,7 @@ export function wordsOf(error) {
     error.members,
     error.call,
   );
-  if (error instanceof Unreachable) return lostWords(error.status);
+  if (error instanceof Unreachable) return lostWords(error);
   return `The page made a mistake: ${error.message}`;
 }
 
@@ -32,11 +32,29 @@ export function fieldAtFault(error) {
   return null;
 }
 
-function lostWords(status) {
+const READS = [
+  'balance',
+  'board',
+  'boards',
+  'burndown',
+  'describe',
+  'filter',
+  'filters',
+  'history',
+  'list',
+  'search',
+  'show',
+  'sprints',
+];
+
+function lostWords({ status, call }) {
   if (status === 401) return 'You are signed out. Load the page again to sign in; what you typed is kept.';
   if (status === 403) return 'The front server refused this, since it didn’t come from the tracker’s own page.';
   if (status === 413) return 'That is too long for one call: at most 65,536 bytes.';
   if (status === 429) return 'That was too much in a short time. Try again in a moment; what you typed is kept.';
+  if ((status === 0 || status === 504) && !READS.includes(call)) {
+    return 'No answer came. It may have been done all the same: look before you try again. What you typed is kept.';
+  }
   return 'The tracker doesn’t answer just now. What you typed is kept; try again when it is back.';
 }
 
@@ -96,6 +114,7 @@ function validator({ index }, members) {
 }
 
 const FITS = {
+  __proto__: null,
   summary: '1 to 255 bytes in one line',
   description: 'at most 4,096 bytes',
   labels: 'at most 16 labels of 1 to 64 bytes, without spaces',
@@ -103,6 +122,7 @@ const FITS = {
   due: 'a day from 1970 to 2099',
   status: 'a status is reached by a transition',
 };
+const FEW = 12;
 const KIND_FITS = {
   number: 'up to 9 digits, and up to 3 behind a point',
   date: 'a day from 1970 to 2099',
@@ -112,8 +132,12 @@ const KIND_FITS = {
 
 function noFit({ field }) {
   const known = fieldOf(field);
-  const hint = FITS[field] ?? KIND_FITS[known?.kind] ?? (known?.options ? listText(known.options, 'or') : null);
+  const hint = FITS[field] ?? KIND_FITS[known?.kind] ?? (known?.options ? choicesText(known.options) : null);
   return `This doesn’t fit ${labelOf(field)}${hint ? `: ${hint}` : ''}.`;
+}
+
+function choicesText(options) {
+  return options.length <= FEW ? listText(options, 'or') : `one of the ${options.length} that the setup has`;
 }
 
 const LIMITS = {

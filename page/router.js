@@ -19,6 +19,11 @@ function plain(part) {
   }
 }
 
+/** The number in a part of a path, or the part itself where it is none: the tracker refuses it by its words then. */
+export function numberOf(part = '') {
+  return /^\d{1,10}$/.test(part) ? Number(part) : part;
+}
+
 /** The link to a view; members of the query that are empty or absent are left out. */
 export function href(path, query = {}) {
   const given = new URLSearchParams();

@@ -1,7 +1,7 @@
 // What the tracker says of itself and of who asks: fields, statuses, transitions, groups, permissions.
 
 import { ask } from './calls.js';
-import { setOffset } from './texts.js';
+import { setClock } from './texts.js';
 
 const changes = new EventTarget();
 
@@ -13,7 +13,7 @@ export async function learnTeam(options) {
   const came = await ask('describe', {}, options);
   const differs = team !== null && JSON.stringify({ ...came, moment: 0 }) !== JSON.stringify({ ...team, moment: 0 });
   team = came;
-  setOffset(came.offset_minutes);
+  setClock(came.moment, came.offset_minutes);
   if (differs) changes.dispatchEvent(new Event('change'));
   return team;
 }
@@ -63,6 +63,7 @@ export function labelOf(name) {
 }
 
 const LABELS = {
+  __proto__: null,
   key: 'Key',
   type: 'Type',
   summary: 'Summary',

@@ -1,10 +1,17 @@
 // Numbers, moments and lists in words.
 
 let offset = 0;
+let ahead = 0;
 
-/** Local time is the team's, which the tracker tells, and not the browser's. */
-export function setOffset(minutes) {
+/** The clock and local time are the tracker's, which it tells, and not the browser's. */
+export function setClock(moment, minutes) {
+  ahead = moment - Math.floor(Date.now() / 1000);
   offset = minutes;
+}
+
+/** The present moment. */
+export function presentMoment() {
+  return Math.floor(Date.now() / 1000) + ahead;
 }
 
 function local(moment) {
@@ -46,12 +53,12 @@ function ofDate(text) {
 
 /** Today's local date as a field has it. */
 export function today() {
-  return local(Date.now() / 1000).toISOString().slice(0, 10);
+  return local(presentMoment()).toISOString().slice(0, 10);
 }
 
 /** How long ago a moment was, roughly. */
 export function agoText(moment) {
-  const seconds = Math.max(0, Math.floor(Date.now() / 1000) - moment);
+  const seconds = Math.max(0, presentMoment() - moment);
   if (seconds < 60) return 'just now';
   if (seconds < 3600) return plural(Math.floor(seconds / 60), 'minute ago', 'minutes ago');
   if (seconds < 86_400) return plural(Math.floor(seconds / 3600), 'hour ago', 'hours ago');

@@ -7,6 +7,8 @@ import { labelOf, team } from '../team.js';
 import { button } from '../parts/small.js';
 
 const NEVER_EMPTY = ['type', 'summary'];
+// What a date is sent as that is typed in part: the tracker refuses it, where an empty value would empty the field.
+const HALF = 'a part of a date';
 
 /** An editor of a field that holds a value. `id` is that of its input; `changed` is told after each change. */
 export function editor(field, value, { id, changed = () => {}, describedby = null }) {
@@ -133,7 +135,7 @@ function date(field, value, given, changed) {
       on: { input: changed },
     },
   );
-  return { element: input, input, read: () => (input.value === '' ? null : input.value) };
+  return { element: input, input, read: () => (input.value !== '' ? input.value : input.validity.badInput ? HALF : null) };
 }
 
 function set(field, value, given, changed) {

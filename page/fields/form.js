@@ -11,10 +11,14 @@ export function fieldForm(
   values,
   { must = [], changed = () => {}, wide = ['summary', 'description'] } = {},
 ) {
-  const rows = fields.map((field) => row(field, values[field.name], must.includes(field.name), wide.includes(field.name), () => {
-    clear(field.name);
-    changed();
-  }));
+  const rows = fields.map((field) => {
+    const { name } = field;
+    const value = Object.hasOwn(values, name) ? values[name] : undefined;
+    return row(field, value, must.includes(name), wide.includes(name), () => {
+      clear(name);
+      changed();
+    });
+  });
   const of = (name) => rows.find((one) => one.field.name === name);
   const clear = (name) => { of(name).fault.hidden = true; of(name).input.removeAttribute('aria-invalid'); };
 

@@ -7,6 +7,7 @@ import { bind } from '../keys.js';
 import { waitingLines } from '../parts/small.js';
 import { tell, warnOf } from '../parts/toasts.js';
 import { again } from '../poll.js';
+import { numberOf } from '../router.js';
 import { allSprints } from '../sprints.js';
 import { boardData } from './board_data.js';
 import { boardFrame } from './board_frame.js';
@@ -21,7 +22,7 @@ const TOLD = 3;
 
 /** Shows the view. */
 export async function boardView(place, route, signal) {
-  const number = Number(route.path[1]);
+  const number = numberOf(route.path[1]);
   document.title = 'Board · Vuglastej';
   refill(place, waitingLines(10));
   performance.mark('board asked');

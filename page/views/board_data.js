@@ -40,11 +40,7 @@ export function boardData(number, signal) {
     if (since > 999) {
       issues.clear();
     } else {
-      const came = await ask('list',
-        { jql: `updated >= "-${since}m"`, fields: FIELDS, count: PART },
-        { signal },
-      );
-      for (const issue of came.issues) {
+      for (const issue of await changedSince(since)) {
         const known = issues.get(issue.issue);
         if (!known || JSON.stringify(known) === JSON.stringify(issue)) continue;
         issues.set(issue.issue, issue);
@@ -53,6 +49,22 @@ export function boardData(number, signal) {
     }
     askedAt = now;
     return differs || changed > 0;
+  }
+
+  /** The issues that changed in so many minutes, part by part. */
+  async function changedSince(minutes) {
+    const found = [];
+    let total = 1;
+    while (found.length < total) {
+      const came = await ask('list',
+        { jql: `updated >= "-${minutes}m"`, fields: FIELDS, from: found.length, count: PART },
+        { signal },
+      );
+      if (came.issues.length === 0) break;
+      found.push(...came.issues);
+      ({ total } = came);
+    }
+    return found;
   }
 
   /** Reads the issues that aren't known yet, those at the heads of columns first. `told` gets the keys of each part. */

@@ -3,6 +3,7 @@
 import { ask } from '../calls.js';
 import { fresh, h, icon, put, refill } from '../dom.js';
 import { confirmed, openDialog } from '../parts/dialog.js';
+import { nameField } from '../parts/names.js';
 import { button, emptyState } from '../parts/small.js';
 import { warnOf } from '../parts/toasts.js';
 import { again } from '../poll.js';
@@ -97,9 +98,9 @@ function noFilter() {
 }
 
 function form(filters) {
-  const [nameId, filterId] = [fresh('name'), fresh('filter')];
-  const name = h('input', { id: nameId, type: 'text', maxlength: 100, autocomplete: 'off' });
-  const filter = h('select', { id: filterId },
+  const id = fresh('filter');
+  const name = nameField('board');
+  const filter = h('select', { id },
     filters.map((one) => h('option', { value: one.filter },
       one.owner === team.user ? one.name : `${one.name} (${one.owner})`,
     )),
@@ -108,12 +109,14 @@ function form(filters) {
     title: 'New board',
     narrow: true,
     body: [
-      h('div', { class: 'field' }, h('label', { for: nameId }, 'Name'), name),
-      h('div', { class: 'field' }, h('label', { for: filterId }, 'Issues of the filter'), filter),
+      name.element,
+      h('div', { class: 'field' }, h('label', { for: id }, 'Issues of the filter'), filter),
     ],
     verb: 'Make the board',
-    act: async () => (await ask('make_board',
-      { name: name.value.trim(), filter: Number(filter.value) },
-    )).board,
+    act: async () => {
+      const { board } = await ask('make_board', { name: name.read(), filter: Number(filter.value) });
+      name.used();
+      return board;
+    },
   };
 }

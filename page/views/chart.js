@@ -1,7 +1,7 @@
 // The burndown as a drawing: what is left as steps, and a straight line beside it. The table next to it says the same in numbers.
 
 import { h, refill, s } from '../dom.js';
-import { changeText, dayOfMoment, pointsText } from '../texts.js';
+import { changeText, dayOfMoment, pointsText, presentMoment } from '../texts.js';
 
 const LEFT = 40;
 const RIGHT = 16;
@@ -31,7 +31,7 @@ export function burndownChart(told, { days }) {
 /** The drawing at this size: grid, days, ideal line, steps. */
 function drawing({ start, left, rows, state }, days, wide, high) {
   const begin = rows[0].at;
-  const now = state === 'closed' ? rows.at(-1).at : Math.floor(Date.now() / 1000);
+  const now = state === 'closed' ? rows.at(-1).at : presentMoment();
   const end = Math.max(begin + days * DAY, now, rows.at(-1).at);
   const most = niceTop(Math.max(start, ...rows.map((row) => row.left)) / 1000);
   const x = (moment) => LEFT + ((moment - begin) / (end - begin)) * (wide - LEFT - RIGHT);

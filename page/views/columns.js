@@ -1,6 +1,7 @@
 // The columns of what a search finds: the key, fields, and two moments.
 
 import { fresh, h, icon } from '../dom.js';
+import { warn } from '../parts/toasts.js';
 import { labelOf, team } from '../team.js';
 
 const AT_MOST = 12;
@@ -13,6 +14,22 @@ function allColumns() {
 /** The columns of who has chosen none. */
 export function standardColumns() {
   return ['key', 'type', 'summary', 'status', 'assignee', 'priority', 'points', 'updated'];
+}
+
+/** The text of these names in a link; a name may have commas of its own. */
+export function columnsText(names) {
+  return names.map(encodeURIComponent).join(',');
+}
+
+/** The names in such a text. */
+export function columnsIn(text) {
+  return text.split(',').map((name) => {
+    try {
+      return decodeURIComponent(name);
+    } catch {
+      return name;
+    }
+  });
 }
 
 /** Those of these names that are columns. */
@@ -47,9 +64,14 @@ export function columnsButton({ columns, take }) {
     list.querySelector('input:not(:disabled)').focus();
   }
 
-  function change() {
+  function change({ target }) {
     const wanted = [...list.querySelectorAll('input')].filter((box) => box.checked).map((box) => box.value);
-    if (wanted.length <= AT_MOST) take(wanted);
+    if (wanted.length <= AT_MOST) {
+      take(wanted);
+      return;
+    }
+    target.checked = false;
+    warn(`A table has at most ${AT_MOST} columns. Take another one away first.`);
   }
 
   return h('span', { class: 'anchored' },

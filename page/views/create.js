@@ -29,7 +29,7 @@ export function newIssue(values = {}) {
     return;
   }
   const kept = draftOf(team.user, DRAFT);
-  const draft = { id: crypto.randomUUID(), project: chosen('project', projects[0].key), set: {}, ...kept };
+  const draft = { id: ownId(), project: chosen('project', projects[0].key), set: {}, ...kept };
   const project = projectChoice(projects, draft.project);
   const all = team.fields.filter((field) => isGiven(field) && !['resolution', 'reporter'].includes(field.name));
   const fields = [
@@ -92,6 +92,11 @@ export function newIssue(values = {}) {
       )],
   });
   form.focus('summary');
+}
+
+/** An id that no other new issue has. */
+function ownId() {
+  return Array.from(crypto.getRandomValues(new Uint8Array(16)), (byte) => byte.toString(16).padStart(2, '0')).join('');
 }
 
 function projectChoice(projects, key) {

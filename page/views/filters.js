@@ -1,8 +1,9 @@
 // Saved filters: a list with how many issues each finds, and saving one.
 
 import { ask } from '../calls.js';
-import { fresh, h, icon, refill } from '../dom.js';
+import { h, icon, refill } from '../dom.js';
 import { confirmed, openDialog } from '../parts/dialog.js';
+import { nameField } from '../parts/names.js';
 import { button } from '../parts/small.js';
 import { tell, warnOf } from '../parts/toasts.js';
 import { again } from '../poll.js';
@@ -95,15 +96,14 @@ function isPlain(event) {
 
 /** Asks for a name and saves the query under it; maybe a board is made of it too. */
 export function saveFilter(jql) {
-  const id = fresh('name');
-  const name = h('input', { id, type: 'text', maxlength: 100, autocomplete: 'off' });
+  const name = nameField('filter');
   const board = h('input', { type: 'checkbox' });
   return openDialog({
     title: 'Save as filter',
     narrow: true,
     body: [
       h('pre', { class: 'jql' }, jql === '' ? 'All issues' : jql),
-      h('div', { class: 'field' }, h('label', { for: id }, 'Name'), name),
+      name.element,
       h('p', { class: 'quiet' },
         'A filter of yours with this name gets this query in the place of its own.',
       ),
@@ -111,14 +111,16 @@ export function saveFilter(jql) {
     ],
     verb: 'Save',
     act: async () => {
-      const { filter, members } = await ask('save_filter', { name: name.value.trim(), jql });
+      const called = name.read();
+      const { filter, members } = await ask('save_filter', { name: called, jql });
       changes.dispatchEvent(new Event('change'));
       if (board.checked) {
-        const made = await ask('make_board', { name: name.value.trim(), filter });
+        const made = await ask('make_board', { name: called, filter });
         tell('The board is made.', h('a', { href: href(['board', String(made.board)]) }, 'Open it'));
       } else {
-        tell(`The filter ${name.value.trim()} is saved. It finds ${plural(members, 'issue', 'issues')} now.`);
+        tell(`The filter ${called} is saved. It finds ${plural(members, 'issue', 'issues')} now.`);
       }
+      name.used();
       return filter;
     },
   });

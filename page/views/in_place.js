@@ -10,7 +10,7 @@ import { wordsOf } from '../refusals.js';
 import { href } from '../router.js';
 import { categoryOf, labelOf, team } from '../team.js';
 
-const SHAPES = { summary: 'summary', description: 'description' };
+const SHAPES = { __proto__: null, summary: 'summary', description: 'description' };
 
 /**
  * A field in place: `element` alone, or `row` with its label. `show(issue)` shows its value now; `open()` edits it; `resume()` opens
@@ -94,7 +94,7 @@ export function inPlace({ field, issue: first, canEdit, take }) {
   function keep() {
     edit.fault.hidden = true;
     edit.made.input.removeAttribute('aria-invalid');
-    keepDraft(team.user, subject, { value: edit.made.read() });
+    if (!edit.made.input.validity?.badInput) keepDraft(team.user, subject, { value: edit.made.read() });
   }
 
   async function submit(event) {

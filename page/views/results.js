@@ -35,7 +35,7 @@ export function resultsTable({ sort }) {
   function drawHead(columns, keys) {
     const now = document.activeElement?.closest('th')?.dataset.column;
     refill(head, columns.map((name) => headCell(name, keys[0])));
-    if (now) head.querySelector(`th[data-column="${now}"] button`)?.focus();
+    if (now) head.querySelector(`th[data-column="${CSS.escape(now)}"] button`)?.focus();
     refill(order, h('option', { value: '' }, 'as asked'), columns.filter((name) => !NO_ORDER.includes(name))
       .map((name) => h('option', { value: name, selected: keys[0] ? same(keys[0].field, name) : false },
         labelOf(name),

@@ -3,6 +3,7 @@
 import { ask, isLeft, Refused } from '../calls.js';
 import { choose, chosen } from '../choices.js';
 import { h, icon, put, refill } from '../dom.js';
+import { dropDraft, draftOf, keepDraft } from '../drafts.js';
 import { faultOf } from '../faults.js';
 import { bind } from '../keys.js';
 import { sortKeys, withOrder } from '../jql.js';
@@ -13,13 +14,15 @@ import { restate } from '../router.js';
 import { allSprints } from '../sprints.js';
 import { same, team } from '../team.js';
 import { plural } from '../texts.js';
-import { columnsButton, knownColumns, standardColumns } from './columns.js';
+import { columnsButton, columnsIn, columnsText, knownColumns, standardColumns } from './columns.js';
 import { onMade } from './create.js';
 import { filtersSide, saveFilter } from './filters.js';
 import { queryLine } from './query_line.js';
 import { resultsTable } from './results.js';
 
 const SIZE = 100;
+const FARTHEST = 2_000_000;
+const DRAFT = 'query';
 const SECONDS = 15;
 let lastFound = [];
 
@@ -32,7 +35,8 @@ export function found() {
 export function searchView(place, route, signal) {
   document.title = 'Search · Vuglastej';
   const state = { jql: '', from: 0, columns: [], round: 0, isShown: false, trouble: null };
-  const line = queryLine({ search: (jql) => look(jql, 0), typed: () => line.mark(null) });
+  const line = queryLine({ search: (jql) => look(jql, 0), typed });
+  const hint = h('p', { class: 'hint', role: 'status', hidden: true });
   const fault = h('p', { class: 'fault', id: 'query-fault', role: 'alert', hidden: true });
   const count = h('span', { class: 'count', role: 'status' });
   const list = h('section', { class: 'results', 'aria-label': 'Issues found' });
@@ -45,6 +49,7 @@ export function searchView(place, route, signal) {
   put(place, h('h1', { class: 'unseen' }, 'Search'),
     side.element, h('div', { class: 'searching' },
       line.element,
+      hint,
       fault,
     ), h('div', { class: 'finding' }, tools, list));
   refill(list, waitingLines(12));
@@ -69,24 +74,42 @@ export function searchView(place, route, signal) {
 
   function takeRoute({ query }) {
     state.jql = query.get('jql') ?? '';
-    state.from = Math.max(0, Number.parseInt(query.get('from') ?? '0', 10) || 0);
-    state.columns = knownColumns(query.get('columns')?.split(',') ?? chosen('columns', standardColumns()));
-    line.set(state.jql);
+    state.from = Math.min(FARTHEST, Math.max(0, Number.parseInt(query.get('from') ?? '0', 10) || 0));
+    const told = query.get('columns');
+    state.columns = knownColumns(told === null ? chosen('columns', standardColumns()) : columnsIn(told));
+    resume();
     side.mark();
     return load({});
+  }
+
+  /** The line has the query that is shown, or what was typed over it before and not looked for. */
+  function resume() {
+    const kept = draftOf(team.user, DRAFT);
+    const isOn = kept !== undefined && kept.over === state.jql && kept.text !== state.jql;
+    line.set(isOn ? kept.text : state.jql);
+    refill(hint, isOn && 'This was typed before and isn’t looked for yet.');
+    hint.hidden = !isOn;
+  }
+
+  function typed() {
+    line.mark(null);
+    hint.hidden = true;
+    keepDraft(team.user, DRAFT, { over: state.jql, text: line.text() });
   }
 
   function say() {
     const differs = state.columns.join() !== chosen('columns', standardColumns()).join();
     restate(
       ['search'],
-      { jql: state.jql, from: state.from || '', columns: differs ? state.columns.join(',') : '' },
+      { jql: state.jql, from: state.from || '', columns: differs ? columnsText(state.columns) : '' },
     );
   }
 
   function look(jql, from) {
     state.jql = jql;
     state.from = from;
+    dropDraft(team.user, DRAFT);
+    hint.hidden = true;
     history.pushState(null, '', location.hash);
     say();
     line.set(jql);

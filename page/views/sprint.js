@@ -6,7 +6,7 @@ import { confirmed } from '../parts/dialog.js';
 import { button, emptyState, keyLink, person, statusBadge, waitingLines } from '../parts/small.js';
 import { tell, warnOf } from '../parts/toasts.js';
 import { again } from '../poll.js';
-import { href, restate } from '../router.js';
+import { href, numberOf, restate } from '../router.js';
 import { allSprints } from '../sprints.js';
 import { may, team } from '../team.js';
 import { changeText, momentText, numberText, pointsText } from '../texts.js';
@@ -22,7 +22,7 @@ const DAYS = [7, 14, 21, 28];
 
 /** Shows the view. */
 export async function sprintView(place, route, signal) {
-  const number = Number(route.path[1]);
+  const number = numberOf(route.path[1]);
   const state = {
     days: DAYS.includes(Number(route.query.get('days'))) ? Number(route.query.get('days')) : 14,
     from: 0,

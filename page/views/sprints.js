@@ -1,9 +1,10 @@
 // All sprints: those under way, those to come, and those that are over.
 
 import { ask } from '../calls.js';
-import { fresh, h, icon, put, refill } from '../dom.js';
+import { h, icon, put, refill } from '../dom.js';
 import { bind } from '../keys.js';
 import { openDialog } from '../parts/dialog.js';
+import { nameField } from '../parts/names.js';
 import { button, emptyState } from '../parts/small.js';
 import { warnOf } from '../parts/toasts.js';
 import { again } from '../poll.js';
@@ -80,18 +81,18 @@ async function count(list, signal) {
 }
 
 async function makeSprint() {
-  const id = fresh('name');
-  const name = h(
-    'input',
-    { id, type: 'text', maxlength: 100, autocomplete: 'off', placeholder: 'March, first half' },
-  );
+  const name = nameField('sprint', { placeholder: 'March, first half' });
   try {
     const made = await openDialog({
       title: 'New sprint',
       narrow: true,
-      body: h('div', { class: 'field' }, h('label', { for: id }, 'Name'), name),
+      body: name.element,
       verb: 'Make the sprint',
-      act: async () => (await ask('make_sprint', { name: name.value.trim() })).sprint,
+      act: async () => {
+        const { sprint } = await ask('make_sprint', { name: name.read() });
+        name.used();
+        return sprint;
+      },
     });
     if (made !== undefined) go(['sprint', String(made)]);
   } catch (error) {
