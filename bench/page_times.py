@@ -6,8 +6,8 @@ usage: python3 bench/page_times.py [PROGRAM] [--issues N] [--runs N] [--port POR
 PROGRAM is the built tracker, crates/tracker/out/tracker by default. A load of `generate` is looked at: a search, from the key that
 asks for it to the picture with its first hundred issues; a board of 500 cards, from its link to the picture with all of them; and
 keys, from the key to the next picture. Each line has the median and the worst of the runs in milliseconds; how much processor time the
-page's own thread took, which other work on the machine doesn't change; how long the calls took, and, where what answers them tells it
-by Server-Timing, what of that each part took. Where Chromium isn't there it says so.
+page's own thread took, which other work on the machine doesn't change; and how long the calls took. Where Chromium isn't there it says
+so.
 """
 import argparse
 import pathlib
@@ -41,14 +41,13 @@ performance.setResourceTimingBufferSize(5000);
 
 CALLS = '''
 const from = arguments[0];
-const told = { calls: 0, parts: {} };
+const told = { calls: 0 };
 let first = Infinity, last = 0;
 for (const one of performance.getEntriesByType('resource')) {
   if (!one.name.endsWith('/api/calls') || one.startTime < from) continue;
   told.calls += 1;
   first = Math.min(first, one.startTime);
   last = Math.max(last, one.responseEnd);
-  for (const part of one.serverTiming) told.parts[part.name] = (told.parts[part.name] ?? 0) + part.duration;
 }
 told.wait = told.calls ? last - first : 0;
 return told;
@@ -82,8 +81,6 @@ def tell(words, runs):
     if told:
         line += f'; the page\'s own thread {statistics.median([one["work"] for one in told]):.0f} ms of a processor'
         line += f'; {told[0]["calls"]} calls, {statistics.median([one["wait"] for one in told]):.0f} ms from the first to the last answer'
-        for part in sorted(told[0]['parts']):
-            line += f', {part} {statistics.median([one["parts"].get(part, 0) for one in told]):.0f}'
     print(line, flush=True)
 
 

@@ -63,6 +63,10 @@ class Servers:
         told = subprocess.run([self.program, self.file, 'exec'], input=text, capture_output=True, text=True, check=True)
         return [json.loads(line) for line in told.stdout.splitlines()]
 
+    def init(self, setup):
+        """Begins with another team than the built-in one."""
+        subprocess.run([self.program, self.file, 'init'], input=setup, text=True, check=True, capture_output=True)
+
     def generate(self, count):
         subprocess.run([self.program, self.file, 'generate', str(count)], check=True, capture_output=True)
 
@@ -129,23 +133,24 @@ def wait_for_port(port):
 
 
 class Browser:
-    """One person's browser on the page."""
+    """One person's browser on the page. In a trial the user is who one chooses to be; elsewhere one is signed in."""
 
-    def __init__(self, servers, user, width=1240, height=820, dark=False):
+    def __init__(self, servers, user=None, width=1240, height=820, dark=False, words=()):
         from selenium import webdriver
         from selenium.webdriver.chrome.service import Service
         options = webdriver.ChromeOptions()
         options.binary_location = shutil.which('chromium')
         for word in ('--headless=new', '--no-sandbox', '--disable-gpu', '--hide-scrollbars', '--disable-dev-shm-usage', '--force-color-profile=srgb',
-                     '--disable-background-timer-throttling', '--disable-renderer-backgrounding', f'--window-size={width},{height}'):
+                     '--disable-background-timer-throttling', '--disable-renderer-backgrounding', f'--window-size={width},{height}', *words):
             options.add_argument(word)
         options.set_capability('goog:loggingPrefs', {'browser': 'ALL'})
         self.driver = webdriver.Chrome(service=Service(shutil.which('chromedriver')), options=options)
         self.servers, self.user = servers, user
         self.size(width, height)
         self.dark(dark)
-        self.driver.get(f'{servers.address}icon.svg')
-        self.driver.add_cookie({'name': 'trial_user', 'value': user, 'path': '/'})
+        if user is not None:
+            self.driver.get(f'{servers.address}icon.svg')
+            self.driver.add_cookie({'name': 'trial_user', 'value': user, 'path': '/'})
 
     def size(self, width, height, mobile=False):
         self.driver.execute_cdp_cmd('Emulation.setDeviceMetricsOverride', {'width': width, 'height': height, 'deviceScaleFactor': 1, 'mobile': mobile})
@@ -158,7 +163,7 @@ class Browser:
         """Loads a view anew, and waits for something in it."""
         self.driver.get('about:blank')
         self.driver.get(f'{self.servers.address}{hash_}')
-        self.wait('.top .who select')
+        self.wait('.top .who' if self.user is None else '.top .who select')
         if wanted:
             self.wait(wanted)
 

@@ -16,6 +16,7 @@ import tempfile
 import time
 
 import page_browser
+import page_site
 import page_team
 from page_browser import Browser, Servers, TOP
 
@@ -190,6 +191,48 @@ def _(day):
     bo.button('Cancel', 'dialog').click()
 
 
+@case('each refusal is said in words, with its names')
+def _(day):
+    day.anna.go('#/search', '.list tbody tr')
+    told = day.anna.js(REFUSED_WORDS, [[refusal, call, members] for refusal, call, members, _ in REFUSALS])
+    for (refusal, _, _, wanted), words in zip(REFUSALS, told):
+        must(wanted in words and not any(bad in words for bad in ('undefined', 'null', 'NaN', '[object')), f'{refusal}: {words}')
+    must({refusal['no'] for refusal, *_ in REFUSALS} == set(range(1, 16)), 'each number')
+
+
+REFUSED_WORDS = """
+const [{ Refused }, { wordsOf }] = await Promise.all([import('/calls.js'), import('/refusals.js')]);
+return arguments[0].map(([refusal, call, members]) => wordsOf(new Refused(refusal, call, members)));
+"""
+MOVE = {'issue': 'OPS-1', 'other': 'OPS-2'}
+FINISH = {'issue': 'OPS-1', 'transition': 'Finish'}
+REFUSALS = [
+    ({'no': 1, 'member': 'name'}, 'make_board', {'name': ''}, 'A name has 1 to 100 bytes'),
+    ({'no': 1, 'member': 'board'}, 'board', {'board': 'team'}, '“team” is no board’s name.'),
+    ({'no': 1, 'member': 'set'}, 'edit', {}, 'its member “set” is missing'),
+    ({'no': 2, 'kind': 'user', 'name': 'zed'}, 'show', {}, 'There is no user “zed”.'),
+    ({'no': 2, 'kind': 'issue', 'name': 'OPS-99'}, 'show', {}, 'There is no issue “OPS-99”.'),
+    ({'no': 2, 'kind': 'filter', 'name': '7'}, 'filter', {}, 'There is no filter 7, or it is gone.'),
+    ({'no': 3, 'permission': 'edit', 'project': 'OPS'}, 'edit', {}, 'anna may not edit issues in OPS.'),
+    ({'no': 3, 'permission': 'administer', 'project': None}, 'set_group', {}, 'anna may not administer this tracker.'),
+    ({'no': 3, 'permission': 'plan', 'project': None}, 'make_board', {}, 'anna may not plan'),
+    ({'no': 4, 'index': 0}, 'transition', FINISH, 'OPS-1 isn’t in a status for “Finish”, which leads from In Progress and In Review.'),
+    ({'no': 4, 'index': 1}, 'transition', FINISH, '“Finish” is only for its assignee or the group admins.'),
+    ({'no': 5, 'index': 1}, 'transition', FINISH, '“Finish” asks for Points, which are empty.'),
+    ({'no': 6, 'field': 'priority'}, 'edit', {}, 'This doesn’t fit Priority: High, Medium or Low.'),
+    ({'no': 7, 'kind': 15, 'place': 0}, 'list', {'jql': 'assignee = zed'}, 'There is no such user or group in “assignee = zed”.'),
+    ({'no': 8, 'high': None, 'low': '0|zzzzzz:'}, 'move_after', MOVE, 'No rank is left'),
+    ({'no': 9, 'state': 'closed'}, 'edit', {}, 'The sprint is closed'),
+    ({'no': 9, 'state': 'active'}, 'start_sprint', {}, 'The sprint is active already.'),
+    ({'no': 10, 'limit': 'issues', 'number': 50000}, 'create', {}, 'at most 50,000 issues'),
+    ({'no': 11, 'kept': 1709251200}, 'tick', {}, '1 Mar 2024'),
+    ({'no': 12, 'kept': 'moving 0 1'}, 'rebalance_start', {}, 'A rebalancing is under way already.'),
+    ({'no': 13, 'external': 'page 1', 'kept': 'OPS-7'}, 'create', {}, 'as OPS-7'),
+    ({'no': 14}, 'edit', {}, 'couldn’t write to its disk'),
+    ({'no': 15}, 'edit', {}, 'ran out of memory'),
+]
+
+
 @case('who may only look is offered no edit, and is refused in words')
 def _(day):
     status, reply = day.servers.call('cy', call='edit', issue='OPS-1', set={'points': '1'})
@@ -237,6 +280,35 @@ def _(day):
     must('jql=type+%3D+Bug+ORDER+BY+points+DESC' in anna.driver.current_url, anna.driver.current_url)
     anna.driver.back()
     anna.until(lambda: anna.find('#query').get_attribute('value') == 'type = Bug ORDER BY points', 'a step back')
+
+
+@case('a query that was typed and not looked for is there again, and so is the name of a filter')
+def _(day):
+    from selenium.webdriver.common.keys import Keys
+    anna = day.anna
+    anna.go('#/search', '.list tbody tr')
+    anna.keys('/')
+    anna.keys('labels = half')
+    anna.keys(Keys.ESCAPE, Keys.ESCAPE)
+    anna.go('#/boards', '.tile')
+    anna.go('#/search', '.list tbody tr')
+    must(anna.find('#query').get_attribute('value') == 'labels = half', 'the query')
+    anna.until_text('.searching .hint', 'This was typed before and isn’t looked for yet.')
+    anna.button('Save as filter').click()
+    anna.wait('dialog[open]')
+    anna.keys('Half a name', Keys.ESCAPE)
+    anna.go('#/search?jql=type+%3D+Bug', '.list tbody tr')
+    must(anna.find('#query').get_attribute('value') == 'type = Bug', 'another view has its own query')
+    anna.button('Save as filter').click()
+    anna.wait('dialog[open]')
+    must(anna.js('return document.activeElement.value') == 'Half a name', 'the name')
+    anna.keys(Keys.ESCAPE)
+    anna.go('#/search', '.list tbody tr')
+    anna.keys('/')
+    anna.chord(Keys.CONTROL, 'a')
+    anna.keys('labels = docs\n')
+    anna.until_text('.tools .count', '1 issue')
+    must(not anna.find('.searching .hint').is_displayed(), 'no hint')
 
 
 @case('suggestions fill a query in')
@@ -468,6 +540,17 @@ def _(day):
     must(day.servers.call('anna', headers={'Origin': day.servers.address.rstrip('/'), 'Sec-Fetch-Site': 'same-origin'}, call='balance')[0] == 200, 'its own page')
 
 
+@case('a page from elsewhere can make no call with what the browser knows')
+def _(day):
+    text = page_site.FOREIGN.replace('SITE', day.servers.address.rstrip('/'))
+    before = day.servers.ok('anna', call='search', jql='')['total']
+    with page_site.page_elsewhere(text, page_browser.free_port(day.servers.behind + 1)) as address:
+        day.bo.driver.get(address)
+        day.bo.until(lambda: day.bo.driver.title != 'waiting', 'its calls are sent')
+        must(day.bo.driver.title in ('opaque0 TypeError', 'TypeError TypeError'), day.bo.driver.title)
+    must(day.servers.ok('anna', call='search', jql='')['total'] == before, 'nothing was made')
+
+
 @case('no script and no style in the page is let through that the policy doesn’t name')
 def _(day):
     day.anna.go('#/search', '.list tbody tr')
@@ -478,6 +561,97 @@ def _(day):
     must(ran == [None, False, 'TypeError'], ran)
     day.anna.complaints()
     day.anna.go('#/search', '.list tbody tr')
+
+
+# Another team.
+
+@case('a team of its own: two projects, fields of each kind with odd names, and two ways to a column')
+def _(day):
+    servers = Servers(day.servers.program, day.servers.behind + 20, day.servers.python)
+    servers.init(page_team.OTHER_TEAM)
+    servers.start()
+    jan, kim = Browser(servers, 'jan'), Browser(servers, 'kim')
+    try:
+        other_team(servers, jan)
+        two_ways(servers, jan)
+        must_not_see(servers, kim)
+        told = jan.complaints() + kim.complaints()
+        must(not told, told)
+    finally:
+        jan.quit()
+        kim.quit()
+        servers.stop()
+
+
+def other_team(servers, jan):
+    from selenium.webdriver.support.ui import Select
+    servers.ok('jan', call='create', project='APP', type='Bug', summary='Behind a wall')
+    jan.go('#/search', '.list tbody tr')
+    jan.keys('c')
+    jan.wait('dialog[open]')
+    jan.keys('Another colour')
+    Select(jan.find('dialog .field select')).select_by_visible_text('HELP')
+    jan.button('Make the issue', 'dialog').click()
+    jan.until_text('.toast', 'HELP-1 is made')
+    jan.go('#/issue/HELP-1', '.timeline .birth')
+    for name, value in page_team.ODD_VALUES.items():
+        opener = next(one for one in jan.all('button.value') if one.get_attribute('aria-label').startswith(f'{name}: none.'))
+        opener.click()
+        if jan.focus().tag_name == 'select':
+            Select(jan.focus()).select_by_visible_text(value)
+        elif jan.focus().get_attribute('type') == 'date':
+            jan.js('arguments[0].value = arguments[1]; arguments[0].dispatchEvent(new Event("input"))', jan.focus(), value)
+        else:
+            jan.keys(value)
+        jan.button('Save', '.editing').click()
+        jan.until(lambda name=name, value=value: servers.ok('jan', call='show', issue='HELP-1')['fields'].get(name) == value, f'{name} is {value}')
+        jan.until(lambda: not jan.all('.editing'), 'the field is closed')
+    jan.until_text('.timeline', 'two words')
+    odd = next(name for name in page_team.ODD_VALUES if ',' in name)
+    jan.go('#/search', '.list tbody tr')
+    jan.button('Columns').click()
+    for name in page_team.ODD_VALUES:
+        next(one for one in jan.all('.menu input') if one.get_attribute('value') == name).click()
+    head = jan.until(lambda: next(one for one in jan.all('.list th') if one.get_attribute('data-column') == odd), 'the column')
+    jan.keys('\ue00c')
+    head.find_element('css selector', 'button').click()
+    jan.until(lambda: next(one for one in jan.all('.list th') if one.get_attribute('data-column') == odd).get_attribute('aria-sort') == 'ascending', 'the head sorts')
+    jan.until_text('.list tbody tr:first-child', 'HELP-1')
+    must(not jan.find('#query-fault').is_displayed(), jan.find('#query').get_attribute('value'))
+    must(jan.js('return document.querySelectorAll("main b b, main th b").length') == 0, 'a name is no HTML')
+
+
+def two_ways(servers, jan):
+    servers.ok('jan', call='edit', issue='HELP-1', set={'due': '2024-01-01'})
+    servers.ok('jan', call='make_board', name='Both', filter=servers.ok('jan', call='save_filter', name='Both', jql='')['filter'])
+    jan.go('#/board/1', '.card p')
+    jan.drag(card(jan, 'HELP-1'), jan.find('.cards[data-status="Being done"]'))
+    jan.until_text('dialog[open]', 'How does HELP-1 go there?')
+    jan.button('Begin', 'dialog').click()
+    jan.until_text('dialog[open]', 'It asks for Due.')
+    jan.js('const one = document.querySelector("dialog input"); one.value = "2098-12-31"; one.dispatchEvent(new Event("input"))')
+    jan.button('Begin', 'dialog').click()
+    jan.until(lambda: 'HELP-1' in column(jan, 'Being done') and not jan.all('.card.busy'), 'it is there')
+    jan.drag(card(jan, 'HELP-1'), jan.find('.cards[data-status="Ready"]'))
+    jan.until_text('dialog[open]', 'It asks for constructor.')
+    jan.button('Done', 'dialog').click()
+    jan.until_text('dialog .fault', '“Done” asks for another value of constructor.')
+    jan.find('dialog option[value="right"]').click()
+    jan.button('Done', 'dialog').click()
+    jan.until(lambda: 'HELP-1' in column(jan, 'Ready'), 'it is ready')
+    must(servers.ok('jan', call='show', issue='HELP-1')['fields']['points'] == '1', 'what the rule sets')
+    jan.go('#/tracker', '.flow li')
+    for words in ('Only for its assignee, its reporter or the group devs.', 'Asks for constructor', 'its resolution is Done', 'Only for who may edit in its project.', 'it is assigned to the lead'):
+        jan.until_text('.flow', words)
+
+
+def must_not_see(servers, kim):
+    kim.go('#/search', '.list tbody tr')
+    must([one.text for one in kim.all('.list a.key')] == ['HELP-1'], 'one project alone')
+    kim.go('#/issue/APP-1', '.empty')
+    kim.until_text('.empty', 'kim may not look at issues in APP.')
+    kim.go('#/tracker', '.groups li')
+    must('APP' not in kim.text('section[aria-label="Projects"]'), 'nor is it told')
 
 
 # When the tracker is away.
@@ -561,6 +735,48 @@ def _(day):
     day.anna.size(1240, 820)
 
 
+@case('each text stands out from what is behind it, in light and in dark')
+def _(day):
+    for dark in (False, True):
+        day.anna.dark(dark)
+        for name, where, wanted in VIEWS:
+            day.anna.go(where, wanted)
+            time.sleep(0.3)
+            faint = day.anna.js(CONTRASTS)
+            must(not faint, f'{name} in {"dark" if dark else "light"}: {faint}')
+    day.anna.dark(False)
+
+
+# Of each text that is seen: its colour against what lies behind it, by the ratio of their lights; 4.5 is wanted, and 3 of large letters.
+CONTRASTS = """
+const canvas = new OffscreenCanvas(1, 1).getContext('2d', { willReadFrequently: true });
+const parts = (layers) => {
+  canvas.globalCompositeOperation = 'source-over';
+  for (const colour of layers) { canvas.fillStyle = colour; canvas.fillRect(0, 0, 1, 1); }
+  return [...canvas.getImageData(0, 0, 1, 1).data].slice(0, 3);
+};
+const light = (colour) => {
+  const [r, g, b] = colour.map((one) => one / 255).map((one) => (one <= 0.04045 ? one / 12.92 : ((one + 0.055) / 1.055) ** 2.4));
+  return 0.2126 * r + 0.7152 * g + 0.0722 * b;
+};
+const told = [];
+for (const one of document.querySelectorAll('body *')) {
+  const words = [...one.childNodes].filter((node) => node.nodeType === 3 && node.data.trim() !== '');
+  if (words.length === 0 || !one.checkVisibility() || one.closest('.unseen, .skip, .beneath, :disabled, noscript, option')) continue;
+  const style = getComputedStyle(one);
+  const layers = [];
+  for (let at = one; at; at = at.parentElement) layers.unshift(getComputedStyle(at).backgroundColor);
+  const colour = one instanceof SVGElement ? style.fill : style.color;
+  const behind = light(parts(layers)), front = light(parts([...layers, colour]));
+  const ratio = (Math.max(behind, front) + 0.05) / (Math.min(behind, front) + 0.05);
+  const size = parseFloat(style.fontSize);
+  const isLarge = size >= 24 || (size >= 18.6 && Number(style.fontWeight) >= 700);
+  if (ratio < (isLarge ? 3 : 4.5)) told.push(`${one.tagName}.${one.getAttribute('class') ?? ''} ${words[0].data.trim().slice(0, 30)} ${ratio.toFixed(2)}`);
+}
+return [...new Set(told)];
+"""
+
+
 @case('the index names each module, so that a browser asks for all at once')
 def _(day):
     text = (TOP / 'page/index.html').read_text(encoding='utf-8')
@@ -595,11 +811,10 @@ def pictures(day, folder):
     from selenium.webdriver.common.keys import Keys
     anna = day.anna
     folder.mkdir(parents=True, exist_ok=True)
-    shots = [(name, where, wanted) for name, where, wanted in VIEWS if name not in ('boards', 'sprints')]
     for width, height, dark, tail in ((1240, 760, False, ''), (1240, 760, True, '-dark'), (NARROW, 740, False, '-narrow'), (NARROW, 740, True, '-narrow-dark')):
         anna.size(width, height)
         anna.dark(dark)
-        for name, where, wanted in shots:
+        for name, where, wanted in VIEWS:
             anna.go(where, wanted)
             anna.picture(folder / f'{name}{tail}.png')
     anna.size(1240, 760)

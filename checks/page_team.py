@@ -63,3 +63,38 @@ WORK = [
     (7.2, [('root', 'transition', 'OPS-6', {'transition': 'Review'}), ('bo', 'edit', 'OPS-1', {'set': {'assignee': 'bo'}})]),
     (8.1, [('anna', 'transition', 'OPS-6', {'transition': 'Finish'}), ('bo', 'transition', 'OPS-7', {'transition': 'Start'})]),
 ]
+
+# Another team, whose fields have names that a page might stumble over.
+OTHER_TEAM = r"""
+utc_offset_minutes = 120
+week_starts = "monday"
+rebalancer = "ines"
+users = ["ines", "jan", "kim"]
+types = ["Story", "Bug"]
+priorities = ["Blocker", "Major", "Minor"]
+resolutions = ["Done", "Won't do"]
+versions = ["1.0"]
+first_status = "New"
+plan = ["devs"]
+administer = ["devs"]
+group = [{ name = "devs", members = ["ines", "jan"] }, { name = "support", members = ["kim"] }]
+status = [{ name = "New", category = "todo" }, { name = "Being done", category = "progress" }, { name = "Ready", category = "done" }]
+project = [
+    { key = "APP", lead = "ines", browse = ["devs"], create = ["devs"], edit = ["devs"], transition = ["devs"], rank = ["devs"] },
+    { key = "HELP", lead = "jan", browse = ["devs", "support"], create = ["devs", "support"], edit = ["devs"], transition = ["devs", "support"], rank = ["devs"] },
+]
+field = [
+    { number = 10000, name = "constructor", kind = "choice", options = ["left", "right"] },
+    { number = 10001, name = "Size \"big\", or <b>wide</b>", kind = "number" },
+    { number = 10002, name = "__proto__", kind = "text" },
+    { number = 10003, name = "Tester", kind = "user" },
+    { number = 10004, name = "Seen on", kind = "date" },
+]
+transition = [
+    { name = "Begin", from = ["New"], to = "Being done", validators = ["required:Tester", "due"], post = ["assign:caller"] },
+    { name = "Begin by the lead", from = ["New"], to = "Being done", conditions = ["permission:edit"], post = ["assign:lead"] },
+    { name = "Done", from = ["Being done"], to = "Ready", conditions = ["any:assignee|reporter|group:devs"], validators = ["changed:constructor"], post = ["resolution:Done", "set:points=1"] },
+    { name = "Again", from = ["Ready"], to = "New", post = ["clear:resolution"] },
+]
+"""
+ODD_VALUES = {'constructor': 'left', 'Size "big", or <b>wide</b>': '-2.5', '__proto__': 'two words', 'Tester': 'kim', 'Seen on': '2024-03-15'}

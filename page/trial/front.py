@@ -161,8 +161,7 @@ class Front(http.server.BaseHTTPRequestHandler):
             link.request(self.command, self.path.removeprefix('/api'), body, {'Connection': 'close', 'X-User': user_of(self.headers)})
             came = link.getresponse()
             told = came.read()
-            timing = came.getheader('Server-Timing')
-            self.answer(came.status, told, Content_Type=came.getheader('Content-Type', 'application/json'), **({'Server_Timing': timing} if timing else {}))
+            self.answer(came.status, told, Content_Type=came.getheader('Content-Type', 'application/json'))
         except OSError:
             self.answer(502, b'')
         finally:
