@@ -479,6 +479,24 @@ def _(day):
     bo.until(lambda: key in column(bo, 'In Progress'), 'the card is where it is')
 
 
+@case('the page asks again only while it is seen, and only for what it shows')
+def _(day):
+    bo = day.bo
+    bo.go('#/board/1', '.card p')
+    bo.js("""window.asked = []; const real = window.fetch;
+        window.fetch = (where, what) => { window.asked.push(JSON.parse(what.body).call); return real(where, what); };""")
+    bo.until(lambda: bo.js('return window.asked.filter((one) => one === "board").length') >= 2, 'it asks again')
+    must(set(bo.js('return window.asked')) <= {'board', 'list', 'describe'}, bo.js('return window.asked'))
+    bo.js("""window.seen = 'hidden'; Object.defineProperty(document, 'visibilityState', { configurable: true, get: () => window.seen });
+        document.dispatchEvent(new Event('visibilitychange'));""")
+    time.sleep(1)
+    bo.js('window.asked = []')
+    time.sleep(9)
+    must(bo.js('return window.asked') == [], 'nothing while it is hidden')
+    bo.js('window.seen = "visible"; document.dispatchEvent(new Event("visibilitychange"))')
+    bo.until(lambda: 'board' in bo.js('return window.asked'), 'at once where it is seen again')
+
+
 # Sprints and the tracker.
 
 @case('a sprint is made, filled, started, burnt down and closed')
@@ -549,6 +567,7 @@ def _(day):
         day.bo.until(lambda: day.bo.driver.title != 'waiting', 'its calls are sent')
         must(day.bo.driver.title in ('opaque0 TypeError', 'TypeError TypeError'), day.bo.driver.title)
     must(day.servers.ok('anna', call='search', jql='')['total'] == before, 'nothing was made')
+    day.bo.complaints()
 
 
 @case('no script and no style in the page is let through that the policy doesn’t name')
