@@ -11,8 +11,8 @@ ghost use Rattle.row_amend.specs.Faults.{AreSmall, IsAmendFault};
 
 use crate::fault::AmendFault;
 use crate::trial::tried;
-use fields::{Memory, Setup};
 use fields::laws::keeps_what_was_read;
+use fields::{Memory, Setup};
 use std::alloc::Global;
 use tracker_keeper::{KeepFault, Keeper, Row, RowOp};
 use tracker_state::opening_ops;

@@ -6,9 +6,10 @@ use Rattle.row_amend.proofs.kept_members.with_kept_members.Goals as goal
 
 pub loop-place-preserved : goal.loop-place-preserved
 loop-place-preserved c =
-    let inside : c.loop-place.place < length c.args.setup.group = subst (λ (gs : List Group). c.loop-place.place < length gs) c.as_slice-place-end.ensures c.loop-place-test.true in
-    (next_kept (parts c.args.old.now) (parts c.args.setup) (parts c.loop-place.setup) (parts c.keep_members.new.setup) c.loop-place.place c.loop-place.invariant.0 inside c.in_ok-keep_members.ensures.parts,
-     c.in_ok-keep_members.ensures.text ∙ c.loop-place.invariant.1)
+    let inside : c.loop-place.place < length c.args.setup.group = subst (λ (gs : List Group). c.loop-place.place < length gs) c.as_slice-place-end.ensures c.loop-place-test.true in (
+      next_kept (parts c.args.old.now) (parts c.args.setup) (parts c.loop-place.setup) (parts c.keep_members.new.setup) c.loop-place.place c.loop-place.invariant.0 inside c.in_ok-keep_members.ensures.parts,
+      c.in_ok-keep_members.ensures.text ∙ c.loop-place.invariant.1,
+    )
 
 pub returns-clause-parts : goal.returns-clause-parts
 returns-clause-parts c =

@@ -6,9 +6,11 @@ use Rattle.tracker_amend.proofs.command.amend_by.Goals as goal
 
 pub returns-in-Ok-clause-done : goal.returns-in-Ok-clause-done
 returns-in-Ok-clause-done g c = λ is.
-    let done = c.amend_to.ensures.done is in
-    (done.0, has_amended g.P.Keeper.keeps g.P.Keeper.tells g.P.Keeper.leaves c.args.keeper.now c.amend_to.new.keeper c.args.text.now c.in-Ok.setup.text (parts c.in-Ok.setup)
-    (record { is_text = c.in-Ok.ensures.ok.0; reads = c.in-Ok.ensures.ok.1 }) c.in-Ok.ensures.text done.1)
+    let done = c.amend_to.ensures.done is in (
+      done.0,
+      has_amended g.P.Keeper.keeps g.P.Keeper.tells g.P.Keeper.leaves c.args.keeper.now c.amend_to.new.keeper c.args.text.now c.in-Ok.setup.text (parts c.in-Ok.setup)
+          (record { is_text = c.in-Ok.ensures.ok.0; reads = c.in-Ok.ensures.ok.1 }) c.in-Ok.ensures.text done.1,
+    )
 
 pub returns-in-Ok-clause-left : goal.returns-in-Ok-clause-left
 returns-in-Ok-clause-left g c = λ is.
