@@ -20,7 +20,7 @@ import page_site
 import page_team
 from page_browser import Browser, Servers, TOP
 
-NARROW = 360
+NARROW, HIGHEST = 360, 1600
 VIEWS = [('search', '#/search', '.list tbody tr'), ('issue', '#/issue/OPS-1', '.timeline .birth'), ('boards', '#/boards', '.tile'), ('board', '#/board/1', '.card p'),
          ('sprints', '#/sprints', '.tile'), ('sprint', '#/sprint/1', '.chart svg'), ('tracker', '#/tracker', '.groups li')]
 CASES = []
@@ -660,7 +660,7 @@ def two_ways(servers, jan):
     jan.until(lambda: 'HELP-1' in column(jan, 'Ready'), 'it is ready')
     must(servers.ok('jan', call='show', issue='HELP-1')['fields']['points'] == '1', 'what the rule sets')
     jan.go('#/tracker', '.flow li')
-    for words in ('Only for its assignee, its reporter or the group devs.', 'Asks for constructor', 'its resolution is Done', 'Only for who may edit in its project.', 'it is assigned to the lead'):
+    for words in ('Only for its assignee, its reporter or the group devs.', 'Asks for another value of constructor', 'its resolution is Done', 'Only for who may edit in its project.', 'it is assigned to the lead'):
         jan.until_text('.flow', words)
 
 
@@ -830,11 +830,13 @@ def pictures(day, folder):
     from selenium.webdriver.common.keys import Keys
     anna = day.anna
     folder.mkdir(parents=True, exist_ok=True)
-    for width, height, dark, tail in ((1240, 760, False, ''), (1240, 760, True, '-dark'), (NARROW, 740, False, '-narrow'), (NARROW, 740, True, '-narrow-dark')):
-        anna.size(width, height)
+    for width, dark, tail in ((1240, False, ''), (1240, True, '-dark'), (NARROW, False, '-narrow'), (NARROW, True, '-narrow-dark')):
         anna.dark(dark)
         for name, where, wanted in VIEWS:
+            anna.size(width, 300)
             anna.go(where, wanted)
+            time.sleep(0.5)
+            anna.size(width, min(HIGHEST, anna.js('return document.documentElement.scrollHeight')))
             anna.picture(folder / f'{name}{tail}.png')
     anna.size(1240, 760)
     anna.dark(False)

@@ -17,7 +17,7 @@ ISSUES = [
     ('anna', 'Bug', 'A total is wrong after the clock goes back', {'priority': 'Medium'}),
     ('root', 'Task', 'Move the old branches to the archive', {'priority': 'Low'}),
 ]
-DUE = {1: 2, 4: -1, 6: 5, 8: 9}
+DUE = {1: 2, 4: -1, 6: 5, 8: 9, 11: -2}
 
 
 def day_text(moment):
@@ -44,7 +44,12 @@ def past(now):
     yield {'user': 'anna', 'call': 'save_filter', 'name': 'Mine', 'jql': 'assignee = currentUser() AND resolution = Unresolved ORDER BY priority DESC'}
     yield {'user': 'anna', 'call': 'save_filter', 'name': 'Late', 'jql': 'due < startOfDay() AND resolution = Unresolved'}
     yield {'user': 'bo', 'call': 'save_filter', 'name': 'In no sprint', 'jql': 'sprint IS EMPTY ORDER BY rank'}
-    yield {'user': 'anna', 'call': 'make_board', 'name': 'The team', 'filter': 1}
+    for name, number in (('The team', 1), ('What is late', 3), ('To be planned', 4)):
+        yield {'user': 'anna', 'call': 'make_board', 'name': name, 'filter': number}
+    for name in ('A day of mending', 'December, the rest', 'January'):
+        yield {'user': 'anna', 'call': 'make_sprint', 'name': name}
+    for call in ('start_sprint', 'close_sprint'):
+        yield {'user': 'anna', 'call': call, 'sprint': 2}
 
 
 DESCRIPTION = """People should not need a password of their own here.
@@ -57,7 +62,7 @@ WORK = [
     (1.2, [('bo', 'transition', 'OPS-3', {'transition': 'Finish'})]),
     (2.3, [('anna', 'transition', 'OPS-2', {'transition': 'Review'}), ('bo', 'transition', 'OPS-4', {'transition': 'Start'})]),
     (3.1, [('anna', 'transition', 'OPS-2', {'transition': 'Finish'})]),
-    (3.8, [('anna', 'edit', 'OPS-8', {'set': {'sprint': 1}})]),
+    (3.8, [('anna', 'edit', 'OPS-8', {'set': {'sprint': 1, 'assignee': 'anna'}})]),
     (4.6, [('bo', 'transition', 'OPS-4', {'transition': 'Review'}), ('root', 'transition', 'OPS-6', {'transition': 'Start'})]),
     (5.5, [('anna', 'transition', 'OPS-4', {'transition': 'Finish'}), ('anna', 'transition', 'OPS-1', {'transition': 'Start'})]),
     (7.2, [('root', 'transition', 'OPS-6', {'transition': 'Review'}), ('bo', 'edit', 'OPS-1', {'set': {'assignee': 'bo'}})]),
