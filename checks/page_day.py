@@ -707,13 +707,46 @@ def _(day):
 
 @case('each thing that takes the focus has a name for screen readers')
 def _(day):
+    from selenium.webdriver.common.keys import Keys
+    anna = day.anna
     for name, where, wanted in VIEWS:
-        day.anna.go(where, wanted)
-        day.anna.driver.execute_cdp_cmd('Accessibility.enable', {})
-        nodes = day.anna.driver.execute_cdp_cmd('Accessibility.getFullAXTree', {})['nodes']
-        nameless = [one['role']['value'] for one in nodes if not one.get('ignored') and one['role']['value'] in
-                    ('button', 'link', 'textbox', 'combobox', 'checkbox', 'searchbox', 'image', 'table') and not one.get('name', {}).get('value')]
-        must(not nameless, f'{name}: {nameless}')
+        anna.go(where, wanted)
+        must(not nameless(anna), f'{name}: {nameless(anna)}')
+    for key in ('c', '?'):
+        anna.keys(key)
+        anna.wait('dialog[open]')
+        must(not nameless(anna), f'the dialog of {key}: {nameless(anna)}')
+        anna.keys(Keys.ESCAPE)
+        anna.until(lambda: not anna.all('dialog[open]'), 'it is closed')
+
+
+def nameless(browser):
+    """The roles of what a screen reader would tell without a name."""
+    browser.driver.execute_cdp_cmd('Accessibility.enable', {})
+    nodes = browser.driver.execute_cdp_cmd('Accessibility.getFullAXTree', {})['nodes']
+    return [one['role']['value'] for one in nodes if not one.get('ignored') and one['role']['value'] in
+            ('button', 'link', 'textbox', 'combobox', 'checkbox', 'searchbox', 'image', 'table', 'dialog', 'Date') and not one.get('name', {}).get('value')]
+
+
+@case('the Tab key comes to each link, button and field of a view, and out of it')
+def _(day):
+    from selenium.webdriver import ActionChains
+    from selenium.webdriver.common.keys import Keys
+    anna = day.anna
+    for name, where, wanted in VIEWS:
+        anna.go(where, wanted)
+        time.sleep(0.5)
+        count = anna.js('''window.come = new Set();
+            document.addEventListener('focusin', ({ target }) => window.come.add(target), true);
+            window.all = () => [...document.querySelectorAll('a[href], button:not(:disabled), input:not(:disabled), select, textarea, summary, [tabindex="0"]')]
+              .filter((one) => one.tabIndex >= 0 && one.checkVisibility({ visibilityProperty: true }) && one.closest('body'));
+            return window.all().length''')
+        chain = ActionChains(anna.driver)
+        for _ in range(count + 5):
+            chain.send_keys(Keys.TAB)
+        chain.perform()
+        missed = anna.js('return window.all().filter((one) => !window.come.has(one)).map((one) => one.outerHTML.slice(0, 100))')
+        must(not missed, f'{name}: {missed}')
 
 
 @case('at 360 pixels nothing is wider than the window, in any view')
