@@ -737,7 +737,8 @@ def _(day):
         anna.go(where, wanted)
         time.sleep(0.5)
         count = anna.js('''window.come = new Set();
-            document.addEventListener('focusin', ({ target }) => window.come.add(target), true);
+            window.called = (one) => `${one.tagName} ${one.getAttribute('aria-label') ?? one.textContent}`;
+            document.addEventListener('focusin', ({ target }) => window.come.add(window.called(target)), true);
             window.all = () => [...document.querySelectorAll('a[href], button:not(:disabled), input:not(:disabled), select, textarea, summary, [tabindex="0"]')]
               .filter((one) => one.tabIndex >= 0 && one.checkVisibility({ visibilityProperty: true }) && one.closest('body'));
             return window.all().length''')
@@ -745,7 +746,7 @@ def _(day):
         for _ in range(count + 5):
             chain.send_keys(Keys.TAB)
         chain.perform()
-        missed = anna.js('return window.all().filter((one) => !window.come.has(one)).map((one) => one.outerHTML.slice(0, 100))')
+        missed = anna.js('return window.all().map(window.called).filter((one) => !window.come.has(one))')
         must(not missed, f'{name}: {missed}')
 
 
