@@ -35,7 +35,8 @@ pub fn amend_setup<S: Source, T: Sink, P: Keeper>(
     // In all other cases the keeper has its rows as they were, and a crash leaves these, or those
     // that come of them.
     ensures same { result ≢ 0 → HasItsRows P.keeps keeper.old keeper.new }
-    ensures left { result ≢ 0 → LeavesEither P.keeps P.tells P.leaves (S.left input.old) keeper.old keeper.new }
+    ensures left { result ≢ 0 → LeavesEither P.keeps P.tells P.leaves (S.left input.old)
+        keeper.old keeper.new }
     // If anything was written it's the cause.
     ensures unwritten { (result ≡ 2) ⊎ (result ≡ 4) ⊎ (result ≡ 6)
         → T.taken out.new ≡ T.taken out.old }
@@ -77,7 +78,8 @@ fn amend_by<T: Sink, P: Keeper>(alloc: Global, text: &[u8], out: &mut T, keeper:
     // In all other cases the keeper has its rows as they were, and a crash leaves these, or those
     // that come of them.
     ensures same { result ≢ 0 → HasItsRows P.keeps keeper.old keeper.new }
-    ensures left { result ≢ 0 → LeavesEither P.keeps P.tells P.leaves (Some text.now) keeper.old keeper.new }
+    ensures left { result ≢ 0 → LeavesEither P.keeps P.tells P.leaves (Some text.now)
+        keeper.old keeper.new }
     // If anything was written it's the cause.
     ensures unwritten { (result ≡ 4) ⊎ (result ≡ 6) → T.taken out.new ≡ T.taken out.old }
     ensures written { result ≡ 3 → GrewByFront (T.taken out.old) (T.taken out.new)
