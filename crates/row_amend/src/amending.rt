@@ -80,6 +80,7 @@ fn has_some(rows: &[Row]) -> bool
 }
 
 // The operations that keep a new tracker of the setup.
+#[tactic(auto, using(crate::proofs::Opening::small_opening, crate::proofs::Opening::some_opening))]
 fn first_ops(alloc: Global, setup: &Setup) -> Result<Vec<RowOp>, Memory>
     ensures ops { IfOk result (λ ops. ops.items
         ≡ opening_ops (opening setup.now.text (parts setup.now))) }

@@ -14,6 +14,7 @@ use tracker_keeper::RowOp;
 use tracker_state::{State, opening_ops, put_present};
 
 /// The operations that amend the rows of the tracker whose state this is, so that it has this setup.
+#[tactic(auto, using(crate::proofs::Small::small_amending, crate::proofs::Small::some_amending))]
 pub(crate) fn amending_ops(alloc: Global, state: &State, setup: Setup) -> Result<Vec<RowOp>, Memory>
     ensures ops { IfOk result (λ ops. ops.items
         ≡ amending_ops state.now.machine setup.text (parts setup)) }

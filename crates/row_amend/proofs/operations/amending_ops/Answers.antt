@@ -8,9 +8,3 @@ returns-clause-numbers c =
     IfOk-weaker c.made_ops.result _ _
     (λ ops is. small_amending ops.items c.args.state.now.machine c.args.setup.text (parts c.args.setup) is c.is_tracker.ensures c.keeps_what_was_read.ensures.sound)
     c.made_ops.ensures
-
-pub returns-clause-some : goal.returns-clause-some
-returns-clause-some c =
-    IfOk-weaker c.made_ops.result _ _
-    (λ ops is. some_amending ops.items c.args.state.now.machine c.args.setup.text (parts c.args.setup) is)
-    c.made_ops.ensures
