@@ -20,7 +20,7 @@ import page_site
 import page_team
 from page_browser import Browser, Servers, TOP
 
-NARROW, HIGHEST = 360, 1600
+NARROW, HIGHEST = 360, 2400
 VIEWS = [('search', '#/search', '.list tbody tr'), ('issue', '#/issue/OPS-1', '.timeline .birth'), ('boards', '#/boards', '.tile'), ('board', '#/board/1', '.card p'),
          ('sprints', '#/sprints', '.tile'), ('sprint', '#/sprint/1', '.chart svg'), ('tracker', '#/tracker', '.groups li')]
 CASES = []
