@@ -1,0 +1,8 @@
+use Rattle.setup_reading.specs.declared.built_in_text.TheConstants.{BUILT_IN}
+use Rattle.whole_laws.proofs.Connections.{ends_with_links}
+use Rattle.whole_laws.proofs.server.serve_all.Goals as goal
+
+pub returns : goal.returns
+returns g c =
+    ends_with_links g.P.Keeper.keeps g.P.Keeper.tells g.P.Keeper.faults g.P.Keeper.leaves _ BUILT_IN.now c.args.keeper c.serve.result.2 _ _ _ _
+    c.serve.ensures.usage c.serve.ensures.served c.serve.ensures.link_cause c.serve.ensures.keeper_cause c.serve.ensures.bad c.serve.ensures.statuses
