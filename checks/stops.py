@@ -42,7 +42,8 @@ MIXES = 12
 
 
 def traced(program, store, word, given):
-    """What the program did, in order: ('made', ending), ('wrote', ending, place, bytes), ('kept', ending), ('answered', lines)."""
+    """What the program did, in order: ('made', ending), ('wrote', ending, place, bytes), ('cut', ending, length), ('kept', ending),
+    ('answered', lines)."""
     told = store + '-told'
     subprocess.run(['strace', '-f', '-xx', '-s', '10000000', '-e', f'trace={CALLS}', '-o', told, program, store, word],
                    input=given, stdout=subprocess.DEVNULL, text=True, check=True)
@@ -71,6 +72,8 @@ def traced(program, store, word, given):
                 raise SystemExit(f'can\'t follow: {line[:100]}')
         elif call == 'pwrite64':
             done.append(('wrote', opened[file], int(rest.split(',')[-1]), texts[0]))
+        elif call == 'ftruncate':
+            done.append(('cut', opened[file], int(rest.split(',')[-1])))
         elif call in ('fsync', 'fdatasync'):
             done.append(('kept', opened[file]))
         else:
@@ -78,14 +81,22 @@ def traced(program, store, word, given):
     return done
 
 
-def put(files, ending, place, text):
-    held = files[ending]
+def put(files, write):
+    """Does a write, or cuts a file to its length."""
+    held = files[write[1]]
+    if write[0] == 'cut':
+        del held[write[2]:]
+        held.extend(bytes(write[2] - len(held)))
+        return
+    _, _, place, text = write
     held.extend(bytes(max(0, place + len(text) - len(held))))
     held[place:place + len(text)] = text
 
 
 def sectors(write):
     """The parts of one write that lie in one sector each."""
+    if write[0] == 'cut':
+        return [write]
     _, ending, place, text = write
     ends = [*range(SECTOR - place % SECTOR, len(text), SECTOR), len(text)]
     return [('wrote', ending, place + start, text[start:end]) for start, end in zip([0, *ends], ends)]
@@ -95,11 +106,12 @@ def choices(waiting, by):
     """What of the waiting writes a disk may have put: lists of writes."""
     for count in range(len(waiting) + 1):
         yield from combinations(waiting, count)
-    if waiting:
+    if waiting and waiting[-1][0] == 'wrote':
         kind, ending, place, text = waiting[-1]
         for length in sorted({1, SECTOR, len(text) // 2, len(text) - 1}):
             if 0 < length < len(text):
                 yield (*waiting[:-1], (kind, ending, place, text[:length]))
+    if waiting:
         parts = [part for write in waiting for part in sectors(write)]
         if len(parts) > len(waiting):
             for _ in range(MIXES):
@@ -112,18 +124,18 @@ def stops(done, kept, by):
     for step in done:
         if step[0] == 'made':
             kept.setdefault(step[1], bytearray())
-        elif step[0] == 'wrote':
+        elif step[0] in ('wrote', 'cut'):
             waiting.append(step)
         elif step[0] == 'answered':
             answered += step[1]
         else:
             for write in [write for write in waiting if write[1] == step[1]]:
-                put(kept, *write[1:])
+                put(kept, write)
             waiting = [write for write in waiting if write[1] != step[1]]
         for choice in choices(waiting, by):
             files = {ending: bytearray(held) for ending, held in kept.items()}
             for write in choice:
-                put(files, *write[1:])
+                put(files, write)
             yield answered, files
 
 
