@@ -67,6 +67,6 @@ function chooseWay(issue, ways) {
       ways.map((way) => h('button', { type: 'submit', value: way.transition }, way.transition)),
     ),
     verb: null,
-    act: async (event) => ways.find((way) => way.transition === event.submitter.value),
+    act: async (event) => ways.find((way) => way.transition === event.submitter?.value),
   });
 }
