@@ -1,9 +1,9 @@
 #!/usr/bin/env python3
-"""Tells how long the page takes at 10,000 issues, by the browser's own clock, on the loopback.
+"""Tells how long the page takes at 2,500 and at 10,000 issues, by the browser's own clock, on the loopback.
 
-usage: python3 bench/page_times.py [PROGRAM] [--issues N] [--runs N] [--port PORT] [--python]
+usage: python3 bench/page_times.py [PROGRAM] [--issues N..] [--runs N] [--port PORT] [--python]
 
-PROGRAM is the built tracker, crates/tracker/out/tracker by default. A load of `generate` is looked at: a search, from the key that
+PROGRAM is the built tracker, crates/tracker/out/tracker by default. Loads of `generate` are looked at: a search, from the key that
 asks for it to the picture with its first hundred issues; a board of 500 cards, from its link to the picture with all of them; and
 keys, from the key to the next picture. Each line has the median and the worst of the runs in milliseconds; how much processor time the
 page's own thread took, which other work on the machine doesn't change; and how long the calls took. Where Chromium isn't there it says
@@ -20,7 +20,7 @@ sys.path.insert(0, str(pathlib.Path(__file__).resolve().parent.parent / 'checks'
 import page_browser
 from page_browser import Browser, Servers
 
-# Of 10,000 issues with the summaries `load 1` to `load 10000`, 500.
+# Of issues with the summaries `load 1`, `load 2` and so on, 500, where there are 2,000 or more.
 CARDS = ' OR '.join([*(f'summary ~ "{start}*"' for start in (12, 13, 14, 15, 160, 161, 162, 163, 164)), 'key = OPS-1'])
 
 WATCH = '''
@@ -152,31 +152,11 @@ def board_keys(browser, number, runs):
     print(f'an arrow on the board: {max(runs * 8, 24)} keys, {max(runs * 8, 24) - len(pictures)} of them within 16 ms' + (f', the others at most {max(pictures)}' if pictures else ''), flush=True)
 
 
-def words():
-    known = argparse.ArgumentParser()
-    known.add_argument('program', nargs='?', default=page_browser.PROGRAM)
-    known.add_argument('--issues', type=int, default=10_000)
-    known.add_argument('--runs', type=int, default=7)
-    known.add_argument('--rows', help='a file with rows, in the place of a new load')
-    known.add_argument('--port', type=int, default=8760)
-    known.add_argument('--python', action='store_true')
-    return known.parse_args()
-
-
-def main():
-    given = words()
-    signal.signal(signal.SIGTERM, lambda *_: sys.exit(1))
-    missing = page_browser.browser_there()
-    if missing:
-        print(f'{missing} is not there: the page was not timed')
-        return 0
+def at_size(given, count):
     servers = Servers(given.program, given.port, given.python)
     browser = None
     try:
-        if given.rows:
-            servers.take(given.rows)
-        else:
-            servers.generate(given.issues)
+        servers.generate(count)
         servers.start()
         cards = servers.ok('anna', call='save_filter', name='Cards', jql=CARDS)['filter']
         board = servers.ok('anna', call='make_board', name='Cards', filter=cards)['board']
@@ -190,6 +170,28 @@ def main():
         if browser:
             browser.quit()
         servers.stop()
+
+
+def words():
+    known = argparse.ArgumentParser()
+    known.add_argument('program', nargs='?', default=page_browser.PROGRAM)
+    known.add_argument('--issues', type=int, nargs='+', default=[2_500, 10_000])
+    known.add_argument('--runs', type=int, default=7)
+    known.add_argument('--port', type=int, default=8760)
+    known.add_argument('--python', action='store_true')
+    return known.parse_args()
+
+
+def main():
+    given = words()
+    signal.signal(signal.SIGTERM, lambda *_: sys.exit(1))
+    missing = page_browser.browser_there()
+    if missing:
+        print(f'{missing} is not there: the page was not timed')
+        return 0
+    for count in given.issues:
+        print(f'At {count:,} issues:', flush=True)
+        at_size(given, count)
     return 0
 
 

@@ -70,10 +70,6 @@ class Servers:
     def generate(self, count):
         subprocess.run([self.program, self.file, 'generate', str(count)], check=True, capture_output=True)
 
-    def take(self, rows):
-        """Begins with a copy of a file."""
-        shutil.copy(rows, self.file)
-
     def start(self):
         self.start_tracker()
         if front.nginx() and not self.python:

@@ -20,7 +20,7 @@ import page_site
 import page_team
 from page_browser import Browser, Servers, TOP
 
-NARROW, HIGHEST = 360, 1600
+NARROW, HIGHEST = 360, 2400
 VIEWS = [('search', '#/search', '.list tbody tr'), ('issue', '#/issue/OPS-1', '.timeline .birth'), ('boards', '#/boards', '.tile'), ('board', '#/board/1', '.card p'),
          ('sprints', '#/sprints', '.tile'), ('sprint', '#/sprint/1', '.chart svg'), ('tracker', '#/tracker', '.groups li')]
 CASES = []
@@ -861,7 +861,6 @@ def _(day):
 
 def pictures(day, folder):
     """The pictures of docs/PAGE.md."""
-    from selenium.webdriver.common.keys import Keys
     anna = day.anna
     folder.mkdir(parents=True, exist_ok=True)
     for width, dark, tail in ((1240, False, ''), (1240, True, '-dark'), (NARROW, False, '-narrow'), (NARROW, True, '-narrow-dark')):
@@ -878,8 +877,7 @@ def pictures(day, folder):
     anna.keys('/', 'type = Bug AND colour = red\n')
     anna.until_text('#query-fault', 'no field')
     anna.picture(folder / 'fault.png')
-    anna.keys(Keys.ESCAPE)
-    anna.js('document.activeElement.blur()')
+    anna.go('#/search', '.list tbody tr')
     anna.keys('c')
     anna.wait('dialog[open]')
     anna.keys('Show who looks at a board')

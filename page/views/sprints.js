@@ -31,7 +31,10 @@ export async function sprintsView(place, route, signal) {
         'There is no sprint yet.',
         team.plan ? 'Make one, and bring issues into it.' : 'Who may plan can make one.',
       )
-      : GROUPS.map(([state, words]) => group(words, sprints.filter((one) => one.state === state))));
+      : GROUPS.map(([state, words]) => {
+        const found = sprints.filter((one) => one.state === state);
+        return group(words, state === 'closed' ? found.reverse() : found);
+      }));
     count(list, signal);
   };
   put(place,
@@ -49,7 +52,7 @@ export async function sprintsView(place, route, signal) {
 
 function group(words, sprints) {
   if (sprints.length === 0) return null;
-  return h('section', {}, h('h2', {}, words), h('ul', { class: 'tiles' }, sprints.toReversed().map(tile)));
+  return h('section', {}, h('h2', {}, words), h('ul', { class: 'tiles' }, sprints.map(tile)));
 }
 
 function tile({ name, sprint }) {

@@ -1,9 +1,9 @@
 // The tracker itself: groups and their members, ranks and their balance, the workflow, and who may do what.
 
 import { ask, isLeft } from '../calls.js';
-import { h, icon, put, refill } from '../dom.js';
+import { h, put, refill } from '../dom.js';
 import { openDialog } from '../parts/dialog.js';
-import { button, person, statusBadge } from '../parts/small.js';
+import { button, chip, person, statusBadge } from '../parts/small.js';
 import { tell, warnOf } from '../parts/toasts.js';
 import { again } from '../poll.js';
 import { conditionText, validatorText } from '../rules.js';
@@ -146,38 +146,31 @@ function advice(told) {
     : 'There is no need for a rebalancing.';
 }
 
-const WORDS = [
-  ['browse', 'Look'],
-  ['create', 'Make'],
-  ['edit', 'Edit'],
-  ['transition', 'Transition'],
-  ['rank', 'Move'],
-];
+const WORDS = {
+  browse: 'look',
+  create: 'make',
+  edit: 'edit',
+  transition: 'transition',
+  rank: 'move',
+};
 
 function projects() {
+  const heads = ['Project', 'Lead', `What ${team.user} may`].map((words) => h('th', { scope: 'col' }, words));
   return h('section', { class: 'panel', 'aria-label': 'Projects' }, h('h2', {}, 'Projects'),
-    h('div', { class: 'scroll' }, h('table', {
-      class: 'small-table',
-      'aria-label': 'Projects and permissions',
-    },
-      h('thead', {},
-        h('tr', {},
-          h('th', { scope: 'col' }, 'Project'),
-          h('th', { scope: 'col' }, 'Lead'),
-          WORDS.map(([, words]) => h('th', { scope: 'col' }, words)),
-        ),
-      ),
-      h('tbody', {}, team.projects.map((one) => h('tr', {}, h('th', { scope: 'row' },
-        one.key,
-      ), h('td', {}, person(one.lead)),
-        WORDS.map(([name]) => h('td', {},
-          one.may.includes(name)
-            ? h('span', { class: 'yes' }, icon('check'), h('span', { class: 'unseen' }, 'yes'))
-            : h('span', { class: 'none' }, 'no'),
-        ))))))),
-    h('p', { class: 'quiet' },
-      `What ${team.user} may do. ${may()} The tracker’s time is ${momentText(team.moment)}.`,
-    ));
+    h('table', { class: 'small-table wraps', 'aria-label': 'Projects and permissions' },
+      h('thead', {}, h('tr', {}, heads)),
+      h('tbody', {}, team.projects.map(project)),
+    ),
+    h('p', { class: 'quiet' }, `${may()} The tracker’s time is ${momentText(team.moment)}.`),
+  );
+}
+
+function project(one) {
+  return h('tr', {},
+    h('th', { scope: 'row' }, one.key),
+    h('td', {}, person(one.lead)),
+    h('td', {}, h('span', { class: 'chips' }, one.may.map((name) => chip(WORDS[name])))),
+  );
 }
 
 function may() {
@@ -185,7 +178,9 @@ function may() {
     team.administer && 'administer the tracker',
     team.plan && 'plan boards and sprints',
   ].filter(Boolean);
-  return whole.length > 0 ? `In the whole tracker: ${listText(whole)}.` : 'Nothing in the whole tracker.';
+  return whole.length > 0
+    ? `${team.user} may ${listText(whole)}.`
+    : `${team.user} may neither administer the tracker nor plan boards and sprints.`;
 }
 
 function workflow() {
