@@ -353,9 +353,11 @@ def without_descriptors(ask, running):
         return
 
     def limit(number):
-        subprocess.run(['prlimit', f'--pid={running.pid}', f'--nofile={number}:65536'], check=True)
+        subprocess.run(['prlimit', f'--pid={running.pid}', f'--nofile={number}:'], check=True)
 
     limit(4)
+    # (the system keeps a descriptor ready for who waits in accept, so one client is still taken, and finds its connection closed)
+    ask.exchange(request(SHOW, CLOSE), finish=False)
     back = threading.Timer(3, limit, (1_024,))
     back.start()
     begun = time.time()

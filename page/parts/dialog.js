@@ -11,6 +11,7 @@ import { wordsOf } from '../refusals.js';
 export function openDialog({ title, body, verb, act, place, narrow = false, extra = null, closed }) {
   return new Promise((settle) => {
     let came;
+    let isUnderWay = false;
     const name = fresh('dialog');
     const fault = h('p', { class: 'fault', role: 'alert', hidden: true });
     const send = verb && h('button', { type: 'submit', class: 'main' }, verb);
@@ -31,8 +32,8 @@ export function openDialog({ title, body, verb, act, place, narrow = false, extr
 
     async function submit(event) {
       event.preventDefault();
-      if (!act || send.disabled) return;
-      send.disabled = true;
+      if (!act || isUnderWay) return;
+      underWay(true);
       fault.hidden = true;
       try {
         came = await act(event);
@@ -44,8 +45,14 @@ export function openDialog({ title, body, verb, act, place, narrow = false, extr
           fault.scrollIntoView({ block: 'nearest' });
         }
       } finally {
-        send.disabled = false;
+        underWay(false);
       }
+    }
+
+    /** What is under way isn't sent a second time. A dialog whose buttons are its answers has none to send. */
+    function underWay(is) {
+      isUnderWay = is;
+      if (send) send.disabled = is;
     }
 
     dialog.addEventListener('click', (event) => { if (event.target === dialog) dialog.close(); });

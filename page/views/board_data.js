@@ -5,7 +5,8 @@ import { valued } from '../jql.js';
 
 const AT_MOST = 1000;
 const PART = 100;
-const FIELDS = ['summary', 'status', 'type', 'assignee', 'priority', 'points', 'labels', 'due'];
+// What a card shows, and the reporter, by whom conditions may go.
+const FIELDS = ['summary', 'status', 'type', 'assignee', 'reporter', 'priority', 'points', 'labels', 'due'];
 
 /** The board of this number. */
 export function boardData(number, signal) {

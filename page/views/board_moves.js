@@ -42,7 +42,9 @@ export function boardMoves({ data, began, ended }) {
     }
     const way = ways.length === 1 ? ways[0] : await chooseWay(issue, ways);
     if (way === undefined) return;
-    if (await callTransition(way, issue) !== undefined) announce(`${issue.issue} is ${status} now.`);
+    // A card has few of an issue's fields, and a rule may ask for any.
+    const whole = way.validators.length > 0 ? await ask('show', { issue: issue.issue }) : issue;
+    if (await callTransition(way, whole) !== undefined) announce(`${issue.issue} is ${status} now.`);
   }
 
   /** Whether and how a card may go to a column, in a word or two for its head. */
@@ -67,6 +69,6 @@ function chooseWay(issue, ways) {
       ways.map((way) => h('button', { type: 'submit', value: way.transition }, way.transition)),
     ),
     verb: null,
-    act: async (event) => ways.find((way) => way.transition === event.submitter.value),
+    act: async (event) => ways.find((way) => way.transition === event.submitter?.value),
   });
 }

@@ -100,7 +100,8 @@ class Importing(Served):
         """A refusal that each row would have ends the run."""
         ran = self.vug('import', self.table('summary\nx\ny\n'), '--project', 'OPS', '--type', 'Task', '--user', 'zed')
         self.assertEqual((ran.status, ran.out), (22, ''))
-        self.assertIn('line 2: there is no user zed', ran.err)
+        # (told before the first row by a tracker that tells its setup)
+        self.assertIn('there is no user zed', ran.err)
 
     def test_a_program_that_fails(self):
         program = self.room / 'pretender'
