@@ -6,8 +6,9 @@ usage: python3 bench/lists.py PROGRAM [ISSUES]
 
 PROGRAM is the built tracker, as crates/tracker/out/tracker after `rt run` there. Each kind is timed by the processor time of runs of its
 own (user and system), less that of runs without its lines right before; of five such times the median counts. What a `list` takes beside
-searching is its time less that of a `search` by the same query of which one issue is told. The status is 1 where that is more than 60
-`show` lines take. Memory is the peak of a run, and by how much it is more than that of the run without these lines.
+searching is its time less that of a `search` by the same query: one that tells one issue, and where issues are sorted one of the same
+part, since that many are sorted. The status is 1 where that is more than 60 `show` lines take. Memory is the peak of a run, and by how
+much it is more than that of the run without these lines.
 """
 import statistics
 import sys
@@ -42,14 +43,14 @@ FEW = issues(TOLD)
 MANY = issues(ISSUES) + list(kept_beside())
 
 
-def took(name, load, count, call, **members):
+def took(name, load, number, call, **members):
     """The seconds that each of so many lines takes, which it tells, with the megabytes of a run with them."""
-    lines = [line('root', call, **members)] * count
+    lines = [line('root', call, **members)] * number
     times, memory, more = [], 0, 0
     for _ in range(TURNS):
         base, before = run(PROGRAM, load)
         spent, after = run(PROGRAM, load + lines)
-        times.append((spent - base) / count)
+        times.append((spent - base) / number)
         memory, more = max(memory, after), max(more, after - before)
     seconds = statistics.median(times)
     print(f'{name}: {1e6 * seconds:,.1f} us each; {memory:.0f} MB at most, {more:+.1f} with these lines', flush=True)
@@ -60,13 +61,13 @@ def main():
     print(f'among {TOLD} issues')
     shows = SHOWS * took('show', FEW, 100_000, 'show', issue='OPS-1')
     dear = False
-    for jql in ('', 'assignee = bo ORDER BY points, key'):
-        search = took(f'search of "{jql}", one issue told', FEW, 20_000, 'search', jql=jql, count=1)
+    for jql, count in (('', 1), ('assignee = bo ORDER BY points, key', TOLD)):
+        search = took(f'search of "{jql}", {count} told', FEW, 20_000, 'search', jql=jql, count=count)
         listing = took(f'list of "{jql}" with four fields', FEW, 20_000, 'list', jql=jql, fields=FIELDS)
         dear = dear or listing - search > shows
         print(f'  beside searching {1e6 * (listing - search):,.1f} us, {(listing - search) / shows:.2f} of {SHOWS} shows')
     print(f'behind {ISSUES:,} issues')
-    took('search of "", one issue told', MANY, 300, 'search', jql='', count=1)
+    took('search of "", 1 told', MANY, 300, 'search', jql='', count=1)
     took('list of "" with four fields', MANY, 300, 'list', jql='', fields=FIELDS)
     took('list of "points = 3" with all fields', MANY, 300, 'list', jql='points = 3')
     took('describe', MANY, 10_000, 'describe')
