@@ -930,6 +930,9 @@ def main():
     if missing:
         print(f'{missing} is not there: the page was not tried')
         return 0
+    if not pathlib.Path(given.program).exists():
+        print(f'{given.program} is not there: the page was not tried')
+        return 1
     wrong = 0
     servers = Servers(given.program, given.port, given.python)
     day = None
