@@ -57,7 +57,7 @@ invariant_of-self g c =
     let is = c.self.invariant in
     let seen = c.see_sprint.new.self in
     let saw = c.see_sprint.ensures in
-    let work = c.turn.new.work in
+    let work = c.turn.new.self in
     let context = c.set_phase.new.self.context in
     let may : MayTurn m.moment m.change m.sprints sprint state = subst (λ (h : Held). MayTurn h.machine.moment h.machine.change h.machine.sprints sprint state) (sym c.self.view_is) c.requires in
     let around : surroundings_of context ≡ surroundings_in m.setup (in_state m.sprints sprint.0 state) =
@@ -65,7 +65,7 @@ invariant_of-self g c =
     ∙ ap (λ (s : Surroundings). record s { sprints = set s.sprints (sprint.0 - 1) c.phase_of.result }) is.around
     ∙ ap (λ (p : Phase). record (surroundings_in m.setup m.sprints) { sprints = set (surroundings_in m.setup m.sprints).sprints (sprint.0 - 1) p }) c.phase_of.ensures
     ∙ around_turned m.setup m.sprints sprint.0 state may.there in
-    let tells : work.seen ≡ record s.work.seen { sprints = in_state m.sprints sprint.0 state } = c.turn.ensures ∙ same_state s.work.seen sprint.0 state in
+    let tells : work.seen ≡ record s.work.seen { sprints = in_state m.sprints sprint.0 state } = c.turn.ensures.turned ∙ same_state s.work.seen sprint.0 state in
     let sprints = ap (λ (t : Seen). t.sprints) tells in
     let next : machine_of c.set_phase.new.self.setup s.moment s.change s.issues s.externals s.ranks seen s.boards work ≡ with_state m sprint state =
     λ i. record m { text = (c.set_phase.ensures.setup i).text; setup = parts (c.set_phase.ensures.setup i); sprints = sprints i; filters = saved_filters (saw.filters i) } in
