@@ -5,7 +5,8 @@ use Rattle.jql_meaning.specs.Surroundings.{Surroundings, surroundings_of}
 use Rattle.jql_meaning.specs.Sprints.{DifferInOneSprint}
 use Rattle.fields.specs.SetupParts.{parts}
 use Rattle.tracker_filters.specs.Sprint.{AreNumbered, HoldOneSprint}
-use Rattle.tracker_work.specs.Seen.{Seen}
+use Rattle.sprints.specs.State.{IsNextState}
+use Rattle.tracker_work.specs.Seen.{Seen, state_in}
 use Rattle.tracker_machine.specs.Machine.{Machine}
 use Rattle.tracker_machine.specs.Effect.{applied, IsAllowed, with_state}
 use Rattle.tracker_machine.specs.Effect.Effect.{NewState}
@@ -18,6 +19,15 @@ use Rattle.tracker_state.specs.contracts.state.State.{the_view}
 use Rattle.tracker_state.proofs.Sprinting.{around_turned, one_sprint_held, are_numbered, same_state}
 use Rattle.tracker_state.proofs.States.{state_planned}
 use Rattle.tracker_state.proofs.state.State.turn.Goals as goal
+
+pub turn-requires-clause-next : goal.turn-requires-clause-next
+unfolding IsAllowed
+turn-requires-clause-next g c =
+    let m : Machine = (the_view c.self.inside).machine in
+    let sprint = c.args.sprint in
+    let state = c.args.state in
+    let may : MayTurn m.moment m.change m.sprints sprint state = subst (λ (h : Held). MayTurn h.machine.moment h.machine.change h.machine.sprints sprint state) (sym c.self.view_is) c.requires in
+    (m.moment, subst (λ (seen : Seen). IsNextState m.moment seen.change (state_in seen.sprints sprint.0) state) (sym c.self.invariant.worked) may.next)
 
 pub see_sprint-requires-clause-differ : goal.see_sprint-requires-clause-differ
 unfolding IsAllowed
