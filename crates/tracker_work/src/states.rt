@@ -41,7 +41,7 @@ impl Work {
     {
         steps_of_histories();
         self.sprints.turn(sprint, state);
-        match state {
+        match &state {
             SprintState::Future => unreachable!(),
             SprintState::Active { .. } => self.burndown.begin(sprint),
             SprintState::Closed { .. } => self.burndown.end(sprint),
