@@ -4,10 +4,11 @@ use Rattle.tracker_limits.specs.Limits.{entries_reserve, most_entries, most_text
 use Rattle.fields.specs.SetupParts.{names_in}
 use Rattle.change_history.specs.declared.change.Change.{Change}
 use Rattle.change_history.specs.History.{History, present}
+use Rattle.field_values.specs.declared.numbers.TheConstants.FieldNo as number
+use Rattle.burndown.specs.Reading.{sprint_in}
 use Rattle.burndown.specs.ChartLaws.{with_entries}
 use Rattle.workflow.specs.Difference.{AreNews}
 use Rattle.workflow.specs.Laws.{AllFit}
-use Rattle.tracker_work.specs.Seen.{share_now}
 use Rattle.tracker_calls.specs.declared.reply.Answer.{Answer}
 use Rattle.tracker_calls.specs.declared.reply.Refusal.{Refusal}
 use Rattle.tracker_machine.specs.Machine.{Machine}
@@ -20,7 +21,6 @@ use Rattle.tracker_machine.specs.Meaning.Meaning.{Tells, Makes}
 use Rattle.tracker_machine.specs.Tracker.{MayGroup}
 use Rattle.tracker_machine.specs.Transition.{transition_answer}
 use Rattle.tracker_state.specs.Plan.{IsRefused}
-use Rattle.tracker_state.specs.State.{Held}
 use Rattle.wanted_values.specs.InSprints.{AreOfSprints}
 use Rattle.issue_calls.specs.Rows.{group_row}
 use Rattle.issue_calls.specs.declared.group.GroupCall.{GroupCall}
@@ -46,31 +46,30 @@ pub record MayChange (m : Machine) (caller place : ℕ) (h : History)
 
 -- a group that may come, of an issue that was like this before; with its text bytes, its row, and the sprints that the issue is in
 -- before and after it
-pub record IsDueGroup (s : Held) (h : History) (new : DueGroup) : Type 0 where
-  pub there : slice_get s.machine.histories new.plan.place ≡ Some h
-  pub allowed : MayGroup s.machine new.plan.place new.plan.group
+pub record IsDueGroup (m : Machine) (h : History) (new : DueGroup) : Type 0 where
+  pub there : slice_get m.histories new.plan.place ≡ Some h
+  pub allowed : MayGroup m new.plan.place new.plan.group
   pub bytes : new.plan.bytes ≡ sum_by entry_bytes new.plan.group.entries
-  pub row : new.row ≡ group_row (names_in s.machine.setup) h new.plan.group
-  pub before : new.before ≡ (share_now s.work.seen h).sprint
-  pub after : new.after
-      ≡ (share_now s.work.seen (with_entries h new.plan.group.entries)).sprint
+  pub row : new.row ≡ group_row (names_in m.setup) h new.plan.group
+  pub before : new.before ≡ sprint_in (present h number.SPRINT)
+  pub after : new.after ≡ sprint_in (present (with_entries h new.plan.group.entries) number.SPRINT)
 
 -- so of one of the issues
-abbrev pub IsDueThere : Held → DueGroup → Type 0
-IsDueThere s new = (h : History) × IsDueGroup s h new
+abbrev pub IsDueThere : Machine → DueGroup → Type 0
+IsDueThere m new = (h : History) × IsDueGroup m h new
 
 -- these changes come to a group, and no change comes to none
-abbrev pub IsGroupOf : Held → ℕ → ℕ → History → List Change → Option DueGroup → Type 0
-IsGroupOf s caller place h changes None = changes ≡ []
-IsGroupOf s caller place h changes (Some new) =
+abbrev pub IsGroupOf : Machine → ℕ → ℕ → History → List Change → Option DueGroup → Type 0
+IsGroupOf m caller place h changes None = changes ≡ []
+IsGroupOf m caller place h changes (Some new) =
     (changes ≢ []) × (new.plan.place ≡ place)
-    × (new.plan.group ≡ next_group s.machine caller h changes) × IsDueGroup s h new
+    × (new.plan.group ≡ next_group m caller h changes) × IsDueGroup m h new
 
 -- a call of this meaning comes to a group that may come and is told of so, or to none, or to its refusal
-abbrev pub ComesToGroup : Held → (Option ℕ → Answer) → Meaning
+abbrev pub ComesToGroup : Machine → (Option ℕ → Answer) → Meaning
     → Result (Option DueGroup) Refusal → Type 0
-ComesToGroup s answer due (Ok None) = due ≡ Tells (answer None)
-ComesToGroup s answer due (Ok (Some new)) =
+ComesToGroup m answer due (Ok None) = due ≡ Tells (answer None)
+ComesToGroup m answer due (Ok (Some new)) =
     (due ≡ Makes (answer (Some new.plan.group.change)) (NewGroup new.plan.place new.plan.group))
-    × IsDueThere s new
-ComesToGroup s answer due (Err r) = IsRefused due r
+    × IsDueThere m new
+ComesToGroup m answer due (Err r) = IsRefused due r

@@ -53,7 +53,7 @@ fn due_for(
 ) -> Result<Option<DueGroup>, Refusal>
     requires setup { set.now.setup ≡ state.now.machine.setup }
     requires user { caller.0 < length state.now.machine.setup.users }
-    ensures { ComesToGroup state.now (edit_answer issue.now)
+    ensures { ComesToGroup state.now.machine (edit_answer issue.now)
         (edit_meaning state.now.machine caller.0 issue.now set.now.set) result }
 {
     let (found, net) = check_edit(alloc, state, caller, issue, set)?;

@@ -1,5 +1,5 @@
 // A change group of an issue, as edits and transitions make it.
-ghost use Rattle.std.specs.Prelude.{◌≡◌, ◌≢◌, ◌<◌, ◌≤◌, ◌+◌, ℕ, [], length, slice_get, IfOk, IfSome, OnOk, Ok, Some};
+ghost use Rattle.std.specs.Prelude.{◌≡◌, ◌≢◌, ◌<◌, ◌≤◌, ◌+◌, ◌∷◌, ℕ, [], length, slice_get, IfOk, IfSome, OnOk, Ok, Some};
 ghost use Rattle.std.specs.List.{All};
 ghost use Rattle.change_history.specs.History.{present, updated, last_change, MayAdd};
 ghost use Rattle.field_forms.specs.Known.{Names};
@@ -18,6 +18,7 @@ ghost use Rattle.workflow.specs.Laws.{AllFit};
 ghost use Rattle.wanted_values.specs.InSprints.{AreOfSprints};
 ghost use Rattle.wanted_values.specs.Weight.{AllLight, GroupsAreLight};
 ghost use Rattle.tracker_state.specs.Plan.{GroupFits, IsPrepared};
+ghost use Rattle.tracker_state.specs.Rows.{present_op};
 ghost use Rattle.issue_calls.specs.Group.{ComesToGroup, IsDueGroup, IsDueThere, IsGroupOf, MayChange, group_answer};
 ghost use Rattle.issue_calls.specs.Rows.{group_row};
 
@@ -55,7 +56,7 @@ pub fn due_group(
     net: Vec<Change>,
 ) -> Result<Option<DueGroup>, Memory>
     requires { MayChange state.now.machine caller.0 found.place found.issue.now.history net.items }
-    ensures { IfOk result (IsGroupOf state.now caller.0 found.entry.place
+    ensures { IfOk result (IsGroupOf state.now.machine caller.0 found.entry.place
         found.entry.issue.now.history net.items) }
 {
     if net.is_empty() {
@@ -79,7 +80,7 @@ fn due_of_some(
     ensures place { IfOk result (λ new. new.plan.place ≡ found.entry.place) }
     ensures group { IfOk result (λ new. new.plan.group
         ≡ next_group state.now.machine caller.0 found.entry.issue.now.history net.items) }
-    ensures due { IfOk result (IsDueGroup state.now found.entry.issue.now.history) }
+    ensures due { IfOk result (IsDueGroup state.now.machine found.entry.issue.now.history) }
 {
     let group = group_of(alloc, state, caller, found, net)?;
     let bytes = bytes_of_entries(group.entries.as_slice());
@@ -108,22 +109,23 @@ pub fn ready(
     name: &str,
     due: Option<DueGroup>,
 ) -> Result<Prepared, Refusal>
-    requires { IfSome due (IsDueThere state.old) }
+    requires { IfSome due (IsDueThere state.old.machine) }
     // Nothing changes yet: not the tracker, nor the filters and their verdicts.
     ensures same { state.new.machine ≡ state.old.machine }
     ensures table { state.new.watched.views.table ≡ state.old.watched.views.table }
     ensures filters { state.new.watched.filters ≡ state.old.watched.filters }
     // What is prepared is whatever meaning came to this group, or to none.
     ensures prepared { (meaning : Meaning)
-        → ComesToGroup state.old (group_answer call name.now) meaning (Ok due)
+        → ComesToGroup state.old.machine (group_answer call name.now) meaning (Ok due)
         → IsPrepared meaning state.new result }
 {
     let told = ToldText::copy_of(alloc, name)?;
     let Some(new) = due else {
         return Ok(Prepared::Tell(answer_of(call, told, None)));
     };
-    let answer = answer_of(call, told, Some(new.plan.group.change));
+    reserve(state, &new)?;
     let (plan, rows) = kept(alloc, state, new)?;
+    let answer = told_group(call, told, &plan);
     Ok(Prepared::Make {
         plan: Plan::Group(plan),
         answer,
@@ -140,35 +142,52 @@ fn answer_of(call: GroupCall, issue: ToldText, change: Option<u64>) -> Answer
     }
 }
 
-// The group, for which there is room then, and the operations that keep it.
-fn kept(
-    alloc: Global,
-    state: &mut State,
-    new: DueGroup,
-) -> Result<(GroupPlan, Vec<RowOp>), Memory>
-    requires { IsDueThere state.old new }
-    // Nothing changes but room: not the tracker, nor the filters and their verdicts.
-    ensures same { state.new.machine ≡ state.old.machine }
-    ensures table { state.new.watched.views.table ≡ state.old.watched.views.table }
-    ensures filters { state.new.watched.filters ≡ state.old.watched.filters }
-    // The plan stays as it was decided, and finds room; what keeps it is what keeps such a group.
+// The answer of a call that made this group.
+fn told_group(call: GroupCall, issue: ToldText, new: &GroupPlan) -> Answer
+    ensures { result ≡ group_answer call issue (Some new.now.group.change) }
+{
+    answer_of(call, issue, Some(new.group.change))
+}
+
+// The group, and the operations that keep it.
+fn kept(alloc: Global, state: &mut State, new: DueGroup) -> Result<(GroupPlan, Vec<RowOp>), Memory>
+    requires { IsDueThere state.old.machine new }
+    // Nothing changes, and the plan stays as it was decided.
+    ensures same { state.new ≡ state.old }
     ensures plan { IfOk result (λ r. r.0 ≡ new.plan) }
-    ensures fits { IfOk result (λ r. GroupFits state.new r.0) }
+    // The operations are those that keep such a group.
     ensures rows { IfOk result (λ r. r.1.items
         ≡ ops_of (NewGroup new.plan.place new.plan.group) state.old.machine) }
 {
-    reserve(state, &new)?;
-    let DueGroup { plan, row, .. } = new;
-    let change = plan.group.change;
-    let at = plan.group.at;
+    let DueGroup {
+        plan,
+        row,
+        before: _,
+        after: _,
+    } = new;
     let room = state.take_row_room(alloc);
-    let rows = row_ops(alloc, room, state.balance(), change, at, row)?;
+    let rows = group_ops(alloc, room, state, row, &plan)?;
     Ok((plan, rows))
+}
+
+// The operations that keep a group with this row, in the room of these.
+fn group_ops(
+    alloc: Global,
+    room: Vec<RowOp>,
+    state: &State,
+    row: Row,
+    new: &GroupPlan,
+) -> Result<Vec<RowOp>, Memory>
+    ensures { IfOk result (λ ops. ops.items ≡ present_op state.now.machine.balance
+        new.now.group.change new.now.group.at ∷ RowOp.Put row ∷ []) }
+{
+    let group = &new.group;
+    row_ops(alloc, room, state.balance(), group.change, group.at, row)
 }
 
 // Makes room for the group's entries, and for a row of each sprint that its issue is in before and after them.
 fn reserve(state: &mut State, new: &DueGroup) -> Result<(), Memory>
-    requires { IsDueThere state.old new.now }
+    requires { IsDueThere state.old.machine new.now }
     // The tracker stays as it is.
     ensures machine { state.new.machine ≡ state.old.machine }
     // Where memory sufficed, the group finds room.

@@ -60,7 +60,7 @@ fn due_for(
 ) -> Result<Option<DueGroup>, Refusal>
     requires setup { set.now.setup ≡ state.now.machine.setup }
     requires user { caller.0 < length state.now.machine.setup.users }
-    ensures { ComesToGroup state.now (transition_answer issue.now) (transition_meaning
+    ensures { ComesToGroup state.now.machine (transition_answer issue.now) (transition_meaning
         state.now.machine caller.0 issue.now transition.now set.now.set) result }
 {
     let (found, net) = check_transition(alloc, state, caller, issue, transition, set)?;

@@ -35,11 +35,7 @@ pub fn unknown(alloc: Global, kind: Thing, name: &str) -> Refusal
 }
 
 /// The issue of that key.
-pub fn known_issue<'a>(
-    alloc: Global,
-    state: &'a State,
-    name: &str,
-) -> Result<Found<'a>, Refusal>
+pub fn known_issue<'a>(alloc: Global, state: &'a State, name: &str) -> Result<Found<'a>, Refusal>
     ensures place { IfOk result (λ found.
         place_of_issue name.now state.now.machine.histories ≡ Some found.place) }
     ensures issue { IfOk result (λ found.
@@ -124,5 +120,11 @@ pub fn check_access(
     ensures { Checks (access_refusal state.now.machine caller.0 permission
         (Some found.entry.issue.now.history)) result }
 {
-    check_permission(alloc, state, caller, permission, state.project_at(found.place))
+    check_permission(
+        alloc,
+        state,
+        caller,
+        permission,
+        state.project_at(found.place),
+    )
 }

@@ -8,10 +8,10 @@ use Rattle.issue_calls.proofs.edit.due_for.Goals as goal
 
 pub returns-in-Ok : goal.returns-in-Ok
 returns-in-Ok c =
-    let s = c.args.state.now in
+    let m = c.args.state.now.machine in
     let found = c.in_ok-found.found in
     let net = c.in_ok-found.net in
     let is = c.in_ok-found.ensures in
-    subst (λ (due : Meaning). ComesToGroup s (edit_answer c.args.issue.now) due (Ok c.in-Ok.due))
-    (sym (edit_means s.machine c.args.caller.0 c.args.issue.now c.args.set.now.set found.place found.issue.now.history net.items is.check is.place is.may.there is.net))
-    (comes_to_group s (edit_answer c.args.issue.now) c.args.caller.0 found.place found.issue.now.history net.items c.in-Ok.due c.in-Ok.ensures)
+    subst (λ (due : Meaning). ComesToGroup m (edit_answer c.args.issue.now) due (Ok c.in-Ok.due))
+    (sym (edit_means m c.args.caller.0 c.args.issue.now c.args.set.now.set found.place found.issue.now.history net.items is.check is.place is.may.there is.net))
+    (comes_to_group m (edit_answer c.args.issue.now) c.args.caller.0 found.place found.issue.now.history net.items c.in-Ok.due c.in-Ok.ensures)
