@@ -1,4 +1,4 @@
-use Rattle.std.proofs.Common.{◌≡◌, subst, sym}
+use Rattle.std.proofs.Common.{subst, sym}
 use Rattle.std.specs.Prelude.{Ok}
 use Rattle.tracker_machine.specs.Edit.{edit_answer, edit_meaning}
 use Rattle.tracker_machine.specs.Meaning.{Meaning}
