@@ -1,5 +1,5 @@
 #!/usr/bin/env python3
-"""Stops the disk at each write of a tracker's first lines and of a migration, and looks at the rows that are there afterwards.
+"""Stops the disk at each write of a tracker's first lines, of a migration and of `amend`, and looks at the rows that are there afterwards.
 
 usage: python3 checks/stops.py PROGRAM [SEED]
 
@@ -8,8 +8,9 @@ strace, which tells what it wrote, what it had the disk keep, and when each repl
 disk may leave them that stops there: what it was told to keep is kept, and of what was written since then each choice of whole writes, a
 first part of the last one, and some choices of sectors of 512 bytes. The program has to open each of them, and the rows are then those of
 the lines that were answered by that moment, or of one more. The rows that stand then are turned into those of the first format, and the
-same is done with a run without lines, which migrates them: whenever it stops, opening again ends with the rows as they were. Each
-difference is told, and the status is 1. A line for each of the two runs counts them.
+same is done with a run without lines, which migrates them: whenever it stops, opening again ends with the rows as they were. Last they get
+another setup, which has a user and a group more: whenever `amend` stops, the rows are the old ones or the new ones, all of them. Each
+difference is told, and the status is 1. A line for each of the three runs counts them.
 """
 import contextlib
 import json
@@ -40,11 +41,11 @@ SECTOR = 512
 MIXES = 12
 
 
-def traced(program, store, lines):
+def traced(program, store, word, given):
     """What the program did, in order: ('made', ending), ('wrote', ending, place, bytes), ('kept', ending), ('answered', lines)."""
     told = store + '-told'
-    subprocess.run(['strace', '-f', '-xx', '-s', '10000000', '-e', f'trace={CALLS}', '-o', told, program, store, 'exec'],
-                   input=''.join(lines), stdout=subprocess.DEVNULL, text=True, check=True)
+    subprocess.run(['strace', '-f', '-xx', '-s', '10000000', '-e', f'trace={CALLS}', '-o', told, program, store, word],
+                   input=given, stdout=subprocess.DEVNULL, text=True, check=True)
     opened, done = {}, []
     for line in pathlib.Path(told).read_text(encoding='ascii').splitlines():
         found = TOLD.match(line)
@@ -136,10 +137,24 @@ def first_format(store):
         base.execute('DELETE FROM kept WHERE kind = 10')
 
 
-def tried(program, store, lines, due, by):
-    """How many states there are at stops of a run of these lines over the store, after which the rows of `due` stand; and the wrong ones."""
+def amended(rows):
+    """The setup of these rows with a user more, who is in a new group, and the rows that it makes of them."""
+    (first, *others) = rows
+    text = first[2]
+    for old, new in (('"cy", "root"]', '"cy", "dora", "root"]'), ('[[project]]', '[[group]]\nname = "leads"\nmembers = ["dora"]\n\n[[project]]')):
+        assert old in text, old
+        text = text.replace(old, new, 1)
+    groups = sum(kind == 10 for kind, _, _ in others)
+    return text, sorted([(1, 0, text), *others, (10, groups + 1, '{"members":["dora"]}')])
+
+
+def tried(program, store, word, given, due, by):
+    """How many states there are at stops of a run of a word over the store, after which the rows of `due` stand; and the wrong ones."""
     kept = files_of(store)
-    done = traced(program, store, lines)
+    done = traced(program, store, word, given)
+    if word == 'amend':
+        # (it writes no line where it is done, and its end is the answer)
+        done.append(('answered', 1))
     more, wrong, seen = 0, 0, set()
     for answered, files in stops(done, kept, by):
         state = (answered, *sorted((ending, bytes(held)) for ending, held in files.items()))
@@ -158,10 +173,10 @@ def tried(program, store, lines, due, by):
             more += 1
             continue
         wrong += 1
-        print(f'state {len(seen)}: after {answered} lines the program ends with {again.returncode} ({again.stderr.strip()}), '
+        print(f'{word}, state {len(seen)}: after {answered} lines the program ends with {again.returncode} ({again.stderr.strip()}), '
               f'and the rows are neither those nor those of one more')
     writes = sum(step[0] == 'wrote' for step in done)
-    print(f'{len(lines)} lines, {writes} writes, {len(seen)} states of the files, {more} times one more line was kept, {wrong} wrong')
+    print(f'{word}: {len(due) - 1} lines, {writes} writes, {len(seen)} states of the files, {more} times one more line was kept, {wrong} wrong')
     return wrong
 
 
@@ -172,9 +187,12 @@ def main():
         for count in range(len(LINES) + 1):
             quiet_run(program, f'{room}/{count}', LINES[:count])
             due.append(rows_of(f'{room}/{count}'))
-        wrong = tried(program, f'{room}/new', LINES, due, by)
-        first_format(f'{room}/{len(LINES)}')
-        wrong += tried(program, f'{room}/{len(LINES)}', [], due[-1:], by)
+        wrong = tried(program, f'{room}/new', 'exec', ''.join(LINES), due, by)
+        last = f'{room}/{len(LINES)}'
+        first_format(last)
+        wrong += tried(program, last, 'exec', '', due[-1:], by)
+        text, rows = amended(due[-1])
+        wrong += tried(program, last, 'amend', text, [due[-1], rows], by)
     return 1 if wrong else 0
 
 

@@ -26,7 +26,7 @@ all_of_each P (x ∷ xs) each (suc k) d in' = all_of_each P xs each.1 k d (omega
 
 -- what holds of each image holds of each element's image
 pub all_of_map : {X Y : Type 0} (f : X → Y) (P : Y → Type 0) (xs : List X) → All P (map f xs) → All (λ x. P (f x)) xs
-all_of_map f P xs all k d in' = subst P (get_or-map f xs k d (f d) in') (all k (f d) (rw (length-map f xs) in'))
+all_of_map f P xs all k d in' = subst P (get_or-map f xs k d (f d) in') (all k (f d) (rw (length-map xs f) in'))
 
 each_holds : (m : Machine) → IsTracker m → All (HoldsWhatFits m.setup) m.histories
 each_holds m is k d in' = (is.settled k d in').holding

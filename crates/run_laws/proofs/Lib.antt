@@ -1,5 +1,6 @@
 pub mod Listings
 pub mod Opened
+pub mod Amended
 pub mod Doors
 pub mod Exports
 pub mod Records

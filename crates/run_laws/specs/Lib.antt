@@ -1,3 +1,4 @@
+pub mod Amended
 pub mod Doors
 pub mod Exports
 pub mod Records

@@ -5,6 +5,8 @@ mod laws;
 mod two_runs;
 mod whole_run;
 
-pub use laws::{doors_reply_alike, exports_are_read_back, records_do_as_lines};
+pub use laws::{
+    amended_runs_tell_the_same, doors_reply_alike, exports_are_read_back, records_do_as_lines,
+};
 pub use two_runs::run_twice;
 pub use whole_run::run_whole;

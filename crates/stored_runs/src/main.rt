@@ -10,10 +10,13 @@
 //! - `rows FILE`: each line is a query about an issue with its history. See `rows`.
 //! - `lists FILE`: each line has issues, and a query that lists them. See `rows`.
 //! - `setup`: each line is a list of edits of the text of a new tracker's setup. See `setups`.
+//! - `dumps`: each line is request lines to the desk of a new tracker, with tabs between them. The reply is the dump of the rows that
+//!   they leave, and that of what restores it, if that is another one. See `dumps`.
 //!
 //! Lines before the first section, lines that begin one, and, but under `check`, lines that are empty or begin with `#` are copied.
 #![tactic(auto)]
 
+mod dumps;
 mod requests;
 mod rows;
 mod section;

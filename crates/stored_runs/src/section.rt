@@ -1,4 +1,5 @@
 // The sections of a stored run.
+use crate::dumps::dump_reply;
 use crate::put_line;
 use crate::requests::{last_reply, reply_to_line};
 use crate::rows::{Setting, list_reply, row_reply};
@@ -23,6 +24,7 @@ pub enum Section {
     Rows(Box<Setting>),
     Lists(Box<Setting>),
     Setup,
+    Dumps,
 }
 
 impl Section {
@@ -37,6 +39,7 @@ impl Section {
             "rows" => Some(Section::Rows(setting_by(rt, alloc, file)?)),
             "lists" => Some(Section::Lists(setting_by(rt, alloc, file)?)),
             "setup" => Some(Section::Setup),
+            "dumps" => Some(Section::Dumps),
             _ => None,
         }
     }
@@ -72,6 +75,7 @@ impl Section {
             Section::Rows(setting) => row_reply(alloc, setting, line, steps),
             Section::Lists(setting) => list_reply(alloc, setting, line),
             Section::Setup => setup_reply(alloc, line),
+            Section::Dumps => dump_reply(alloc, line, steps),
             Section::Before | Section::Check => String::from_utf8_lossy(alloc, line).ok(),
         }
     }

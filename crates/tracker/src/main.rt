@@ -1,11 +1,12 @@
 //! The tracker's command line: `tracker STORE WORDS..`, the request lines on standard input, the replies on
-//! standard output; `tracker STORE dump` and `tracker STORE restore`, all rows out and in; or `tracker STORE serve PORT`, requests over
-//! HTTP. The status is that of the command.
+//! standard output; `tracker STORE dump` and `tracker STORE restore`, all rows out and in; `tracker STORE amend`, another setup on standard
+//! input; or `tracker STORE serve PORT`, requests over HTTP. The status is that of the command.
 #![tactic(auto)]
 
 use file_ends::Ended;
 use file_runs::{end_run, run_over_files};
 use keeper_told::open_told;
+use request_lines::{Sink, Source};
 use sqlite::{Error, ErrorCode, FileFrom, Unknown};
 use std::alloc::Global;
 use std::net::{Net, TcpListener, TcpStream};
@@ -13,6 +14,7 @@ use std::process::ExitCode;
 use std::sync::Wait;
 use std::time::Clock;
 use std::{env, io, mem};
+use tracker_amend::{amend_setup, is_amend};
 use tracker_backup::{back_up, is_backup};
 use tracker_cli::{PortLinks, Reading, Writing, run, serve};
 use tracker_keeper::{Keeper, MemoryKeeper};
@@ -76,6 +78,8 @@ fn in_memory(rt: &HostRuntime, words: &[String]) -> u8 {
     let mut out = Writing::new(io::writer(rt));
     let (status, keeper) = if is_backup(words) {
         back_up(rt.alloc(), words, &mut input, &mut out, keeper)
+    } else if is_amend(words) {
+        amended(rt.alloc(), &mut input, &mut out, keeper)
     } else {
         run(rt.alloc(), words, &mut input, &mut out, keeper)
     };
@@ -87,6 +91,9 @@ fn in_memory(rt: &HostRuntime, words: &[String]) -> u8 {
 fn in_files(rt: &HostRuntime, words: &[String], path: &str) -> u8 {
     if is_backup(words) {
         return back_up_files(rt, words, path);
+    }
+    if is_amend(words) {
+        return amend_files(rt, path);
     }
     let mut input = Reading::new(rt.reader());
     let mut out = Writing::new(io::writer(rt));
@@ -111,6 +118,32 @@ fn back_up_files(rt: &HostRuntime, words: &[String], path: &str) -> u8 {
         }
         Err(error) => not_opened(rt, error),
     }
+}
+
+// Gives the setup on standard input to the tracker of a file.
+fn amend_files(rt: &HostRuntime, path: &str) -> u8 {
+    let mut input = Reading::new(rt.reader());
+    let mut out = Writing::new(io::writer(rt));
+    match open_told(rt, path, Unknown) {
+        Ok(keeper) => {
+            let (status, keeper) = amended(rt.alloc(), &mut input, &mut out, keeper);
+            leave(rt, end_run(rt, keeper));
+            status
+        }
+        Err(error) => not_opened(rt, error),
+    }
+}
+
+// Gives the setup that is read to the tracker whose rows the keeper has, and hands the keeper back.
+fn amended<S: Source, T: Sink, P: Keeper + Drop>(
+    alloc: Global,
+    input: &mut S,
+    out: &mut T,
+    keeper: P,
+) -> (u8, P) {
+    let mut keeper = keeper;
+    let status = amend_setup(alloc, input, out, &mut keeper);
+    (status, keeper)
 }
 
 // Says where the database file isn't whole by itself: nothing is lost, but only file and log together hold the tracker then.

@@ -147,7 +147,7 @@ impl<P: Keeper + Drop> Desk<P> {
             LeavesOn P.leaves (IsWithCall caller.now call.now)
             self.old.keeper self.old.machine self.new.keeper self.new.machine }
         // It asks queries no more often than the abstract tracker allows, and as often as such a
-        // call asks where it's answered and no search.
+        // call asks where it's answered and neither a search nor a list.
         ensures steps { steps.new
             ≤ steps.old + evaluations (due_in self.old.cells) self.old.machine caller.now call.now }
         ensures exact { (answer : Answer) → result ≡ Reply.Ok answer → searches call.now ≡ false

@@ -60,7 +60,7 @@ pub fn prepare<L: Ledger>(
     ensures table { state.new.watched.views.table ≡ state.old.watched.views.table }
     ensures filters { state.new.watched.filters ≡ state.old.watched.filters }
     // Queries are asked no more often than the call allows, and just as often as such a call asks
-    // first where it's prepared and no search.
+    // first where it's prepared and neither a search nor a list.
     ensures steps { steps.new ≤ steps.old + cost_to_prepare
         (meaning state.old.machine caller.now call.now) state.old.machine }
     ensures exact { (prepared : Prepared) → result ≡ Ok prepared → searches call.now ≡ false
@@ -96,7 +96,7 @@ fn prepare_for<L: Ledger>(
     ensures table { state.new.watched.views.table ≡ state.old.watched.views.table }
     ensures filters { state.new.watched.filters ≡ state.old.watched.filters }
     // Queries are asked no more often than the call allows, and just as often as such a call asks
-    // first where it's prepared and no search.
+    // first where it's prepared and neither a search nor a list.
     ensures steps { steps.new ≤ steps.old + cost_to_prepare
         (meaning_for state.old.machine user.0 call.now) state.old.machine }
     ensures exact { (prepared : Prepared) → result ≡ Ok prepared → searches call.now ≡ false

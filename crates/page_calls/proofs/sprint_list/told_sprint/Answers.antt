@@ -14,8 +14,8 @@ one sprint name phase = Some (record { name = name; sprint = sprint; state = pha
 pub returns : goal.returns
 returns c =
     let n = c.args.sprint.0 in
-    let seen : List Sprint = c.work.result.now.seen.sprints in
+    let seen : List Sprint = c.work-work.result.now.seen.sprints in
     let told = told_by_number seen n c.in-Some-name.name.now c.in-Some.kept (sym c.in-Some-name.ensures.name) (sym c.in-Some.ensures.state)
     ∙ ap₂ (one c.args.sprint) (sym c.in_ok-name.ensures) (sym c.phase_of.ensures) in
     subst (λ (ss : List Sprint). slice_get (sprints_from 1 ss) (n - 1) ≡ one c.args.sprint c.in_ok-name.name c.phase_of.result)
-    (ap (λ (w : Seen). w.sprints) c.work.ensures.seen) told
+    (ap (λ (w : Seen). w.sprints) c.work-work.ensures.seen) told

@@ -1,0 +1,4 @@
+pub mod KeptMembers
+pub mod Small
+pub mod Tried
+pub mod Opening
