@@ -187,7 +187,7 @@ fn what_is_no_dump_is_told_and_not_kept(rt: HostRuntime) -> Result<(), Fail> {
 fn rows_that_are_no_trackers_are_dumped(rt: HostRuntime) -> Result<(), Fail> {
     let alloc = rt.alloc();
     let Ok(body) = Text::copy_of(alloc, "x\t\"") else {
-        return Err(Fail);
+        return Err(Fail::new("there is no memory"));
     };
     let mut ops = Vec::new(alloc);
     ops.push(RowOp::Put(Row {
@@ -196,7 +196,7 @@ fn rows_that_are_no_trackers_are_dumped(rt: HostRuntime) -> Result<(), Fail> {
         body,
     }))?;
     let Ok(odd) = MemoryKeeper::new(alloc, &ops, Vec::new(alloc)) else {
-        return Err(Fail);
+        return Err(Fail::new("there is no memory"));
     };
     let (dump, _) = dump_of(alloc, odd)?;
     assert_eq!(rt;

@@ -3,7 +3,8 @@ use Rattle.std.specs.Prelude.{◌≡◌, ◌⊎◌, ◌<◌, ◌≤◌, ℕ, Lis
 use Rattle.std.specs.Str.{IsUtf8}
 use Rattle.field_values.specs.Parts.{Parts}
 use Rattle.setup_reading.specs.Reading.{setup_in}
-use Rattle.tracker_keeper.specs.Rows.{Rows}
+use Rattle.tracker_keeper.specs.declared.row.Row.{Row}
+use Rattle.tracker_keeper.specs.Rows.{Rows, IsListing}
 use Rattle.amended_rows.specs.Amending.{ComesOf, IsInTheWay}
 use Rattle.status_texts.specs.Setups.{setup_limit, IsSetupText}
 use Rattle.status_texts.specs.Texts.{kept_line, limit_input}
@@ -28,14 +29,14 @@ pub record HasAmended {P : Type 0} (keeps : P → Rows → Type 0) (tells : P �
 abbrev pub HasItsRows : {P : Type 0} → (P → Rows → Type 0) → P → P → Type 0
 HasItsRows keeps old new = (rows : Rows) → keeps old rows → keeps new rows
 
--- a crash leaves the keeper's rows, or those that come of them
+-- a crash leaves the keeper's rows, or those that come of them for the setup that the input is
 abbrev pub LeavesEither : {P : Type 0} → (P → Rows → Type 0) → (P → Type 0)
-    → (P → Rows → Rows → Type 0) → P → P → Type 0
-LeavesEither keeps tells leaves old new =
+    → (P → Rows → Rows → Type 0) → Option (List ℕ) → P → P → Type 0
+LeavesEither keeps tells leaves left old new =
     (rows : Rows) → keeps old rows → leaves old rows rows → tells new
     → leaves new rows rows
-    ⊎ ((text : List ℕ) × (setup : Parts) × (after : Rows) × IsReadAs text setup
-    × ComesOf text setup rows after × leaves new rows after)
+    ⊎ ((text : List ℕ) × (setup : Parts) × (after : Rows) × IfSome left (λ bytes. text ≡ bytes)
+    × IsReadAs text setup × ComesOf text setup rows after × leaves new rows after)
 
 -- that row stands in the way of the setup that this text is, so far as the keeper tells its rows
 abbrev pub HasInTheWay : {P : Type 0} → (P → Rows → Type 0) → (P → Type 0) → P → P → List ℕ → ℕ
@@ -43,6 +44,11 @@ abbrev pub HasInTheWay : {P : Type 0} → (P → Rows → Type 0) → (P → Typ
 HasInTheWay keeps tells old new text kind number =
     (setup : Parts) × IsReadAs text setup
     × ((rows : Rows) → keeps old rows → tells new → IsInTheWay text setup rows kind number)
+
+-- that row stands in the way of the setup, whichever rows are listed here
+abbrev pub IsInTheWayOf : List ℕ → Parts → List Row → ℕ → ℕ → Type 0
+IsInTheWayOf text setup list kind number =
+    (rows : Rows) → IsListing rows list → IsInTheWay text setup rows kind number
 
 -- the text tells which row stands in the way of the input, which is a setup within its limit
 abbrev pub IsRowText : (List ℕ → ℕ → ℕ → Type 0) → Option (List ℕ) → List ℕ → Type 0

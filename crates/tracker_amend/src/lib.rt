@@ -2,5 +2,7 @@
 #![tactic(auto)]
 
 mod command;
+mod words;
 
-pub use command::{amend_setup, is_amend};
+pub use command::amend_setup;
+pub use words::is_amend;

@@ -3,9 +3,7 @@ use Rattle.std.specs.Prelude.{◌≡◌, ◌≢◌, ◌⊎◌, ◌<◌, ◌≤�
 use Rattle.std.specs.Str.{IsUtf8}
 use Rattle.std.specs.Io.KnownBytes.{Appends, Consumes, IsAtEnd}
 use Rattle.field_values.specs.Parts.{Parts}
-use Rattle.setup_drafts.specs.declared.fault.SetupFault.{SetupFault}
-use Rattle.setup_drafts.specs.declared.fault.SetupFault.TheVariants as setup_fault
-use Rattle.setup_reading.specs.Reading.{setup_in, Explains}
+use Rattle.setup_reading.specs.Reading.{setup_in}
 use Rattle.request_lines.specs.Lines.{lines, whole_lines, AreWithinLimits, StopsAtLong, StopsAtMany}
 use Rattle.request_lines.specs.declared.run.End.{End}
 use Rattle.request_lines.specs.declared.run.End.TheVariants.{Done, ReadFault, WriteFault, Memory, LongLine, ManyLines}
@@ -19,7 +17,9 @@ use Rattle.tracker_core.specs.Desk.{HasNoRow, HasRow, IsOpened}
 use Rattle.tracker_core.specs.Left.{LeavesOpened, LeavesWithOne}
 use Rattle.tracker_cli.specs.Answering.{IsWithLine, RoseBy}
 use Rattle.tracker_cli.specs.Numerals.{IsNumberOf}
-use Rattle.tracker_cli.specs.Texts.{kept_line, setup_line}
+pub use Rattle.status_texts.specs.Texts.{held, limit_input, usage}
+pub use Rattle.status_texts.specs.Written.{GrewBy, GrewByFront, IsKeptText}
+pub use Rattle.status_texts.specs.Setups.{setup_limit, HasSetup, IsSetup, IsSetupText}
 
 -- ---- the words
 
@@ -66,20 +66,11 @@ IsCommand words =
 
 -- ---- texts
 
-abbrev pub usage : List ℕ
-usage = codes "usage: exec, check, init, import USER, export, generate N\n"
-
-abbrev pub held : List ℕ
-held = codes "held\n"
-
 abbrev pub limit_line : List ℕ
 limit_line = codes "limit line\n"
 
 abbrev pub limit_lines : List ℕ
 limit_lines = codes "limit lines\n"
-
-abbrev pub limit_input : List ℕ
-limit_input = codes "limit input\n"
 
 -- ---- replies
 
@@ -180,15 +171,6 @@ pub record StaysUnopened {P : Type 0} (keeps : P → Rows → Type 0) (tells : P
 abbrev pub HasSomeRow : {P : Type 0} → (P → Rows → Type 0) → (P → Type 0) → P → P → Type 0
 HasSomeRow keeps tells old new = (rows : Rows) → keeps old rows → tells new → HasRow rows
 
--- the sink grew by a text that is as wanted
-abbrev pub GrewBy : Option (List ℕ) → Option (List ℕ) → (List ℕ → Type 0) → Type 0
-GrewBy old new P = (text : List ℕ) × P text × Appends old new text
-
--- or by a front of one
-abbrev pub GrewByFront : Option (List ℕ) → Option (List ℕ) → (List ℕ → Type 0) → Type 0
-GrewByFront old new P =
-    (front : List ℕ) × (back : List ℕ) × P (front ++ back) × Appends old new front
-
 -- the replies to the lines before the first that passes a limit, and then the limit's text
 abbrev pub IsLimitText : (List (List ℕ) → List ℕ → Type 0) → List ℕ → List ℕ → Type 0
 IsLimitText Replies bytes due =
@@ -236,10 +218,6 @@ pub record UsageEnd (status : ℕ) (old new : Option (List ℕ)) : Type 0 where
   pub memory : status ≡ 6 → new ≡ old
   pub statuses : (status ≡ 1) ⊎ (status ≡ 3) ⊎ (status ≡ 6)
 
--- a bad row is told
-abbrev pub IsKeptText : (ℕ → ℕ → Type 0) → List ℕ → Type 0
-IsKeptText Bad text = (kind : ℕ) × (number : ℕ) × Bad kind number × (text ≡ kept_line kind number)
-
 -- what comes of a command that answers line after line, where these texts are the replies to lines, and those to an input where it is
 -- cut short. `Opens` says that the command opens a desk, `Same` that the keeper has the rows that it had, and `Bad` which of them is the
 -- first bad one
@@ -274,20 +252,6 @@ pub record LinesEnd
   pub limit : status ≡ 7 → IfSome left (λ bytes. GrewBy old new (IsLimitText Replies bytes))
   pub statuses : (status ≤ 7) × (status ≢ 1)
 
--- these bytes are a setup
-pub record IsSetup (bytes : List ℕ) : Type 0 where
-  pub setup : Parts
-  pub is_text : IsUtf8 bytes
-  pub reads : setup_in bytes ≡ Ok setup
-
--- the most bytes of a setup
-abbrev pub setup_limit : ℕ
-setup_limit = 1_048_576
-
--- the input is a setup, and within its limit
-abbrev pub HasSetup : Option (List ℕ) → Type 0
-HasSetup left = IfSome left (λ bytes. (length bytes ≤ setup_limit) × IsSetup bytes)
-
 -- a new tracker was made of this setup's text, where there was no row
 pub record IsCreated {P : Type 0} (keeps : P → Rows → Type 0) (tells : P → Type 0) (old new : P)
     (text : List ℕ) : Type 0 where
@@ -296,13 +260,6 @@ pub record IsCreated {P : Type 0} (keeps : P → Rows → Type 0) (tells : P →
   pub reads : setup_in text ≡ Ok setup
   pub kept : keeps old no_rows → keeps new (rows_of (opening text setup))
   pub none : (rows : Rows) → keeps old rows → tells new → HasNoRow rows
-
--- the text tells why the input, which is within its limit, is no setup
-abbrev pub IsSetupText : Option (List ℕ) → List ℕ → Type 0
-IsSetupText left text =
-    (fault : SetupFault) × (fault ≢ setup_fault.Memory)
-    × IfSome left (λ bytes. (length bytes ≤ setup_limit) × Explains bytes fault)
-    × (text ≡ setup_line fault)
 
 -- one of the texts of `init`, each where it is due: the input is too long; or it is within its limit, and no setup; or it is one, and the
 -- keeper has a row, which `Held` says

@@ -7,9 +7,9 @@ ghost use Rattle.tracker_import.specs.Export.{WritesFront, export_text};
 ghost use Rattle.tracker_cli.specs.Outcome.{GrewBy, GrewByFront, HasItsRows, IsKeptText};
 ghost use Rattle.tracker_cli.specs.Commands.{IsExported};
 
-use crate::bad_row::tell_row;
 use fields::BUILT_IN;
 use request_lines::Sink;
+use status_texts::tell_row;
 use std::alloc::Global;
 use tracker_core::{Desk, OpenFault};
 use tracker_import::{ExportEnd, export_rows};

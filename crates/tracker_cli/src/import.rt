@@ -8,10 +8,10 @@ ghost use Rattle.tracker_cli.specs.Texts.{csv_line};
 ghost use Rattle.tracker_cli.specs.Outcome.{GrewBy, GrewByFront, HasItsRows, IsKeptText, limit_input};
 ghost use Rattle.tracker_cli.specs.Commands.{Stands, AreImported, AreCutImported, AreMadeFrom, AreCutFrom, IsWholeImport, IsRecordText, IsUnwritten, IsTooLong, import_limit};
 
-use crate::bad_row::tell_row;
 use crate::texts::csv_line;
 use fields::{BUILT_IN, Steps};
 use request_lines::{Failed, InputFault, Sink, Source, read_whole, write_all};
+use status_texts::tell_row;
 use std::alloc::Global;
 use std::marker::Brand;
 use std::sync::ledger::{Blank, Ledger};

@@ -2,25 +2,20 @@
 ghost use Rattle.std.specs.Prelude.{◌≡◌, ◌≢◌, ◌⊎◌, ◌≤◌, ◌<◌, Some, length, IfSome};
 ghost use Rattle.fields.specs.SetupParts.{parts};
 ghost use Rattle.std.specs.Io.KnownBytes.{Appends, IsAtEnd};
-ghost use Rattle.setup_drafts.specs.declared.fault.SetupFault.{SetupFault};
 ghost use Rattle.request_lines.specs.Causes.{Rose};
 ghost use Rattle.tracker_keeper.specs.Rows.{Rows, no_rows};
 ghost use Rattle.tracker_machine.specs.Machine.{opening};
 ghost use Rattle.tracker_machine.specs.Kept.{rows_of};
 ghost use Rattle.tracker_core.specs.Desk.{HasNoRow};
-ghost use Rattle.tracker_cli.specs.Texts.{setup_line};
 ghost use Rattle.tracker_cli.specs.Outcome.{held, limit_input, setup_limit, GrewBy, GrewByFront, HasItsRows, HasSetup, HasSomeRow, IsCreated, IsSetupText, IsInitText};
 
 use crate::held::tell_held;
-use crate::texts::setup_line;
-use fields::{Setup, SetupFault};
+use fields::Setup;
 use request_lines::{Failed, InputFault, Sink, Source, read_whole, write_all};
+use status_texts::{SETUP_LIMIT, tell_fault};
 use std::alloc::Global;
 use tracker_core::{Desk, OpenFault};
 use tracker_keeper::Keeper;
-
-/// The most bytes of a setup.
-const SETUP_LIMIT: usize = 1_048_576;
 
 /// Reads a setup and makes a new tracker of it, where the keeper has no row; answers the status and hands the keeper back.
 pub(crate) fn init<S: Source, T: Sink, P: Keeper + Drop>(
@@ -143,33 +138,5 @@ fn create<T: Sink, P: Keeper + Drop>(alloc: Global, setup: Setup, out: &mut T, k
         Err((OpenFault::Memory, keeper)) => (6, keeper),
         Err((OpenFault::Held, keeper)) => (tell_held(out), keeper),
         Err((OpenFault::BadRow { .. }, _keeper)) => unreachable!(),
-    }
-}
-
-// Writes why the text is no setup: 8, or 3 where the sink failed on it, or 6 where there was no memory and nothing was written.
-fn tell_fault<T: Sink>(alloc: Global, out: &mut T, fault: SetupFault) -> u8
-    // The status tells what was written: the whole text, a front of it, or nothing. Want of memory
-    // has no text.
-    ensures told { result ≡ 8
-        → (fault ≢ SetupFault.Memory)
-        × Appends (T.taken out.old) (T.taken out.new) (setup_line fault) }
-    ensures written { result ≡ 3 → (fault ≢ SetupFault.Memory)
-        × GrewByFront (T.taken out.old) (T.taken out.new) (λ due. due ≡ setup_line fault) }
-    ensures memory { result ≡ 6 → T.taken out.new ≡ T.taken out.old }
-    // A sink that is blamed has failed, and its count of that never falls.
-    ensures write_cause { result ≡ 3 → Rose (T.faults out.old) (T.faults out.new) }
-    ensures later { T.faults out.old ≤ T.faults out.new }
-    // There is no other status.
-    ensures statuses { (result ≡ 3) ⊎ (result ≡ 6) ⊎ (result ≡ 8) }
-{
-    if let SetupFault::Memory = &fault {
-        return 6;
-    }
-    let Ok(text) = setup_line(alloc, &fault) else {
-        return 6;
-    };
-    match write_all(out, text.as_str().as_bytes()) {
-        Ok(()) => 8,
-        Err(Failed) => 3,
     }
 }

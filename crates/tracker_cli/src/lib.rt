@@ -2,7 +2,6 @@
 #![tactic(auto)]
 
 mod adapters;
-mod bad_row;
 mod check;
 mod command;
 mod exec;

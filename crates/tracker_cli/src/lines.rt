@@ -6,11 +6,11 @@ ghost use Rattle.request_lines.specs.Lines.{lines, whole_lines, AreWithinLimits}
 ghost use Rattle.tracker_core.specs.Desk.{HasBadRow, IsOpenFault};
 ghost use Rattle.tracker_cli.specs.Outcome.{IsExec, IsCheck, IsOfLines, AreReplies, AreCutReplies, AreChecked, AreCutChecks, AreRepliesOf, AreCutRepliesOf, BeginsIn, HasRowsBehind, StaysUnopened, GrewBy, GrewByFront, IsKeptText, IsLimitText, IsCutLimitText, EndsRun};
 
-use crate::bad_row::tell_row;
 use crate::check::Checks;
 use crate::exec::RequestLines;
 use fields::{BUILT_IN, Steps};
 use request_lines::{End, Failed, Sink, Source, answer_lines, write_all};
+use status_texts::tell_row;
 use std::alloc::Global;
 use std::marker::Brand;
 use std::sync::ledger::{Blank, Ledger};
