@@ -1,5 +1,5 @@
 -- The burndown of all sprints, beside what was seen.
-use Rattle.std.specs.Prelude.{◌≡◌, ◌≤◌, ◌<◌, ◌+◌, ℕ, List, [], ◌∷◌, ◌++◌, length, slice_get, slice_set, Option, IfSome}
+use Rattle.std.specs.Prelude.{◌≡◌, ◌≤◌, ◌<◌, ◌+◌, ℕ, List, [], ◌∷◌, ◌++◌, length, slice_get, slice_set, Option, Some, IfSome}
 use Rattle.field_values.specs.declared.numbers.SprintNo.{SprintNo}
 use Rattle.field_values.specs.declared.numbers.UserNo.{UserNo}
 use Rattle.tracker_limits.specs.Limits.{most_issues}
