@@ -1,5 +1,7 @@
 -- What the answer to a new sprint says, and from which state a sprint came to its next one.
-use Rattle.std.proofs.Common.{◌⊎◌, inl, inr, ◌≡◌, ℕ, zero, suc, ◌-◌, ◌<◌, ◌≤◌, ◌==◌, Bool, true, false, List, [], ◌∷◌, length, Option, Some, None, Result, Ok, Err, IsOk, IfErr, OnErr, ◌↔◌, option_map, unwrap_or, slice_get, if◌then◌else◌, refl, sym, ◌∙◌, ap, arith}
+use Rattle.std.proofs.Common.{◌⊎◌, inl, inr, ◌≡◌, ℕ, zero, suc, ◌-◌, ◌<◌, ◌≤◌, ◌==◌, Bool, true, false, List, [], ◌∷◌, length, Option, Some, None, IfSome, Result, Ok, Err, IsOk, IfErr, OnErr, ◌↔◌, option_map, unwrap_or, slice_get, if◌then◌else◌, refl, sym, ◌∙◌, ap, arith}
+use Rattle.std.specs.Prelude.{slice_set}
+use Rattle.std.specs.Option.{option_map_or}
 use Rattle.std.proofs.lemmas.Bool.{eqb-true, false≢true}
 use Rattle.std.proofs.lemmas.Option.{none-some, same_Some}
 use Rattle.field_values.specs.declared.numbers.SprintNo.{SprintNo}
@@ -10,8 +12,9 @@ use Rattle.sprints.specs.declared.state.SprintState.TheVariants.{Future, Active,
 use Rattle.sprints.specs.declared.state.SprintFault.{SprintFault}
 use Rattle.sprints.specs.declared.state.SprintFault.TheVariants.{Full, Memory}
 use Rattle.sprints.specs.State.{IsNextState}
-use Rattle.sprints.specs.Sprint.{IsThere, state_of}
-use Rattle.tracker_work.specs.Seen.{state_in}
+use Rattle.sprints.specs.Change.{IsInState}
+use Rattle.sprints.specs.Sprint.{IsThere, sprint_of, state_of}
+use Rattle.tracker_work.specs.Seen.{Seen, state_in, with_state}
 
 -- a new sprint for which there is room is refused only where there are 1,000
 pub only_full : (n : ℕ) (result : Result SprintNo SprintFault) (P : Type 0) → n ≤ most_sprints → (result ≡ Err Full) ↔ (n ≡ most_sprints) → (n < most_sprints → IsOk result) →
@@ -46,25 +49,26 @@ state_kept sprints s there =
     let found = state_there sprints s there in
     found.1 ∙ ap (λ o. Some (unwrap_or o Future)) (sym found.1)
 
+-- and with it in another one, the others as they are
+pub stated : (seen : Seen) (new : List Sprint) (s : ℕ) (state : SprintState) → IsThere seen.sprints s → IsInState seen.sprints new s state → record seen { sprints = new } ≡ with_state seen s state
+stated seen new s state there is = by (sprint_of seen.sprints s) (state_there seen.sprints s there).1 is
+  where
+    by : (o : Option Sprint) → option_map (λ (x : Sprint). x.state) o ≡ Some (state_there seen.sprints s there).0
+        → IfSome o (λ x. new ≡ slice_set seen.sprints (s - 1) (record x { state = state }))
+        → record seen { sprints = new } ≡ option_map_or (λ x. record seen { sprints = slice_set seen.sprints (s - 1) (record x { state = state }) }) o seen
+    by None found is = absurd (none-some (state_there seen.sprints s there).0 found)
+    by (Some x) found is = ap (λ (ss : List Sprint). record seen { sprints = ss }) is
+
 -- ---- the next state
 
-number_of : SprintState → ℕ
+abbrev number_of : SprintState → ℕ
 number_of Future = 0
 number_of (Active at change) = change
 number_of (Closed start_at start_change at change) = change
 
-start_of : SprintState → SprintState
+abbrev start_of : SprintState → SprintState
 start_of (Closed start_at start_change at change) = Active start_at start_change
 start_of state = state
-
--- none comes to be future
-pub none_waits : (at change : ℕ) (kept : SprintState) → IsNextState at change kept Future → ⊥
-none_waits at change Future (inl is) = cc
-none_waits at change Future (inr is) = cc
-none_waits at change (Active start number) (inl is) = cc
-none_waits at change (Active start number) (inr is) = cc
-none_waits at change (Closed start_at start_number end number) (inl is) = cc
-none_waits at change (Closed start_at start_number end number) (inr is) = cc
 
 -- one that is active has started now, and was future
 pub starts : (at change moment number : ℕ) (kept : SprintState) → IsNextState at change kept (Active moment number) → (kept ≡ Future) × (change ≡ number)

@@ -5,14 +5,14 @@ use Rattle.sprints.specs.Sprint.{IsThere, state_of}
 use Rattle.sprints.specs.State.{IsNextState}
 use Rattle.sprints.specs.Change.{IsInState}
 use Rattle.change_history.specs.History.{histories_of}
-use Rattle.tracker_work.specs.Seen.{Seen, state_in}
+use Rattle.tracker_work.specs.Seen.{Seen, state_in, with_state}
 use Rattle.tracker_work.specs.Work.{TrackedWork}
-use Rattle.tracker_work.proofs.Answered.{starts, closes, none_waits, state_kept}
+use Rattle.tracker_work.proofs.Answered.{starts, closes, state_kept, stated}
 use Rattle.tracker_work.proofs.Steps.{started, closed}
 use Rattle.tracker_work.proofs.work.Work.turn.Goals as goal
 
-pub invariant_of-self-in-Active : goal.invariant_of-self-in-Active
-invariant_of-self-in-Active c =
+pub invariant_of-self : goal.invariant_of-self
+invariant_of-self c =
     let s = c.args.sprint.0 in
     let old = c.self.inside.sprints.sprints in
     let new = c.turn.new.self.sprints in
@@ -42,3 +42,13 @@ invariant_of-self-in-Closed c =
     let goes : IsInState old new s (Closed state.start_at state.start_change state.at seen.change) =
     subst (λ (to : SprintState). IsInState old new s to) (state.is ∙ ap (Closed state.start_at state.start_change state.at) (sym was.1)) c.turn.ensures.turned in
     rw c.turn.ensures.room (closed seen c.self.inside.sprints.room c.self.inside.burndown c.self.invariant c.steps_of_histories.ensures.close new s state.start_at state.start_change state.at kept goes c.end.new.self c.end.ensures)
+
+pub returns-in-Active-clause-turned : goal.returns-in-Active-clause-turned
+returns-in-Active-clause-turned c =
+    let s = c.args.sprint.0 in
+    let old = c.self.inside.sprints.sprints in
+    let new = c.turn.new.self.sprints in
+    let seen : Seen = record { done = c.self.inside.done.items; sprints = old; histories = histories_of c.self.inside.issues.value.items; change = c.self.inside.change.value } in
+    let there : IsThere old s = subst (λ (w : TrackedWork). IsThere w.seen.sprints s) (sym c.self.view_is) c.requires.there in
+    subst (λ (w : TrackedWork). record seen { sprints = new } ≡ with_state w.seen s c.args.state) c.self.view_is
+    (stated seen new s c.args.state there c.turn.ensures.turned)
