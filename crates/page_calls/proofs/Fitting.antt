@@ -1,16 +1,15 @@
 -- Issues that are found hold what fits.
-use Rattle.std.proofs.Common.{◌≡◌, ℕ, zero, suc, ◌+◌, ◌<◌, Bool, List, [], ◌∷◌, length, map, take, drop, get_or, arith, refl, sym, subst}
+use Rattle.std.proofs.Common.{ℕ, zero, suc, List, [], ◌∷◌, map, drop, arith, subst}
 use Rattle.std.specs.List.{All}
 use Rattle.std.proofs.lemmas.List.{get_or-map, length-map}
 use Rattle.std.proofs.lemmas.List.Elements.{All-filter, All-take, All-drop}
 use Rattle.change_history.specs.History.{History}
-use Rattle.fields.specs.SetupParts.{names_in}
 use Rattle.tracker_calls.specs.Part.{part_of}
 use Rattle.tracker_calls.specs.declared.call.Part.{Part}
 use Rattle.tracker_machine.specs.Machine.{Machine}
 use Rattle.tracker_machine.specs.Query.{Query}
 use Rattle.tracker_machine.specs.Search.{found, listed, is_found, comes_before}
-use Rattle.tracker_machine.specs.Tracker.{IsTracker, IsSettled}
+use Rattle.tracker_machine.specs.Tracker.{IsTracker}
 use Rattle.tracker_machine.proofs.InOrder.{Each, each_order}
 use Rattle.list_calls.specs.Found.{found_in_order}
 use Rattle.page_calls.specs.Fitting.{HoldsWhatFits}

@@ -46,6 +46,7 @@ told_as phase.Active = told.Active
 told_as phase.Closed = told.Closed
 
 told_as_far : (s : SprintState) → told_phase s ≡ told_as (phase_of s)
+unfolding told_as
 told_as_far Future = refl
 told_as_far (Active at change) = refl
 told_as_far (Closed start_at start_change at change) = refl
@@ -57,6 +58,7 @@ told_from n (p ∷ ps) [] = []
 told_from n (p ∷ ps) (name ∷ names) = (record { name = name; sprint = record { 0 = n }; state = told_as p }) ∷ told_from (n + 1) ps names
 
 told_is : (n : ℕ) (ss : List Sprint) → sprints_from n ss ≡ told_from n (phases ss) (sprint_names ss)
+unfolding told_from
 told_is n [] = refl
 told_is n (s ∷ ss) =
     ap₂ (λ (p : SprintPhase) (more : List ToldSprint). (record { name = s.name; sprint = record { 0 = n }; state = p }) ∷ more) (told_as_far s.state) (told_is (n + 1) ss)

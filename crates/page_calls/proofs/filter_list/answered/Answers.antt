@@ -1,4 +1,4 @@
-use Rattle.std.proofs.Common.{◌≡◌, ℕ, List, length, map, ap, ap₂, sym, ◌∙◌, Bor}
+use Rattle.std.proofs.Common.{◌≡◌, length, map, ap, ap₂, sym, ◌∙◌, Bor}
 use Rattle.std.proofs.lemmas.List.{length-map}
 use Rattle.field_values.specs.Parts.{Parts}
 use Rattle.tracker_calls.specs.Part.{part_of}
@@ -22,4 +22,4 @@ returns c =
     (c.in_ok-filters.ensures
     ∙ ap (λ (s : Parts). map (λ (f : Bor Filter). told_filter s.users (saved_as f.now)) c.part_of.result.now) c.setup.ensures
     ∙ sym (map-map (told_filter m.setup.users) saved c.part_of.result.now) ∙ ap (map (told_filter m.setup.users)) there)
-    (c.len.ensures ∙ sym (length-map all saved) ∙ ap length c.in_ok-all.ensures)
+    (c.len.ensures ∙ sym c.deref.ensures.len ∙ ap length c.deref.ensures.value ∙ sym (length-map all saved) ∙ ap length c.in_ok-all.ensures)

@@ -1,7 +1,6 @@
 use Rattle.std.proofs.Common.{◌≡◌, ℕ, List, map, ap, subst, sym, ◌∙◌, Bor}
 use Rattle.std.specs.List.{All}
 use Rattle.field_values.specs.Parts.{Parts}
-use Rattle.fields.specs.SetupParts.{parts}
 use Rattle.change_history.specs.declared.issue.Issue.{Issue}
 use Rattle.change_history.specs.History.{History}
 use Rattle.tracker_calls.specs.Part.{part_of}

@@ -1,4 +1,4 @@
-use Rattle.std.proofs.Common.{◌≡◌, ℕ, List, map, None, Ok, ap, subst, sym, ◌∙◌}
+use Rattle.std.proofs.Common.{◌≡◌, ℕ, List, map, None, Ok, ap, subst, ◌∙◌}
 use Rattle.field_values.specs.declared.numbers.FieldNo.{FieldNo}
 use Rattle.field_values.specs.Parts.{Parts}
 use Rattle.tracker_machine.specs.IssueList.{fields_refusal, wanted_fields, list_answer}

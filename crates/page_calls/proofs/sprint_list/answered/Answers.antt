@@ -1,4 +1,4 @@
-use Rattle.std.proofs.Common.{◌≡◌, ℕ, List, length, ap, ap₂, sym, ◌∙◌}
+use Rattle.std.proofs.Common.{◌≡◌, List, length, ap, ap₂, sym, ◌∙◌}
 use Rattle.tracker_calls.specs.declared.listed.ToldSprint.{ToldSprint}
 use Rattle.tracker_calls.specs.declared.reply.Answer.TheVariants as answer
 use Rattle.tracker_machine.specs.Overviews.{sprints_from}

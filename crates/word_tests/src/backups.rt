@@ -90,6 +90,15 @@ fn what_restores_a_dump_has_the_same_dump(rt: HostRuntime) -> Result<(), Fail> {
     Ok(())
 }
 
+// The first so many bytes, or all.
+fn front_of(bytes: &[u8], count: usize) -> &[u8] {
+    if count < bytes.len() {
+        &bytes[..count]
+    } else {
+        bytes
+    }
+}
+
 // The places behind each line feed.
 fn line_ends(alloc: Global, bytes: &[u8]) -> Result<Vec<usize>, AllocError> {
     let mut ends = Vec::new(alloc);
@@ -108,7 +117,7 @@ fn a_cut_dump_is_told_by_its_last_line(rt: HostRuntime) -> Result<(), Fail> {
     let ends = line_ends(alloc, &dump)?;
     let mut right = true;
     for place in 0..ends.len() {
-        let front = &dump[..ends[place] - 2];
+        let front = front_of(&dump, ends[place].saturating_sub(2));
         let due = format!(in alloc; "row {}\n", place + 1)?;
         let (status, out, kept) = backed_up(alloc, &["restore"], front, 100, keeper(alloc)?)?;
         right = right && status == 8 && out.as_slice() == due.as_str().as_bytes();
@@ -214,7 +223,7 @@ fn what_fails_outside_is_told(rt: HostRuntime) -> Result<(), Fail> {
     let mut right = true;
     for room in 0..60 {
         let (status, out, _) = backed_up(alloc, &["dump"], b"", room, kept(alloc)?)?;
-        right = right && status == 3 && out.as_slice() == &dump[..room];
+        right = right && status == 3 && out.as_slice() == front_of(&dump, room);
     }
     assert!(rt; right);
     // A keeper that can't tell its rows, or take them.
