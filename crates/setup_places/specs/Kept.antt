@@ -7,6 +7,6 @@ abbrev pub AreKept : Option (List ℕ) → Option (List ℕ) → List ℕ → �
 AreKept first now kept most = Consumes first now kept ⊎ (kept ≡ []) × (most ≡ 0)
 
 -- these bytes are kept behind the others; or none are kept, and no more may be
-abbrev pub Keeps : ℕ → List ℕ → List ℕ → ℕ → List ℕ → Type 0
-Keeps most kept bytes new_most new_kept =
+abbrev pub AreAdded : ℕ → List ℕ → List ℕ → ℕ → List ℕ → Type 0
+AreAdded most kept bytes new_most new_kept =
     (new_kept ≡ kept ++ bytes) × (new_most ≡ most) ⊎ (new_kept ≡ []) × (new_most ≡ 0)

@@ -3,7 +3,7 @@ ghost use Rattle.std.specs.Prelude.{◌≡◌, ◌⊎◌, ◌<◌, ◌≤◌, �
 ghost use Rattle.std.specs.Io.{ReadsAtMost};
 ghost use Rattle.std.specs.Io.KnownBytes.{ReadConsumes};
 ghost use Rattle.request_lines.specs.Causes.{HasCause};
-ghost use Rattle.setup_places.specs.Kept.{AreKept, Keeps};
+ghost use Rattle.setup_places.specs.Kept.{AreKept, AreAdded};
 
 use request_lines::{Failed, Source};
 use std::alloc::Global;
@@ -53,6 +53,7 @@ impl<S: Source + Drop> Source for Keeping<S> {
 
     ghost faults = { λ k. S.faults k.source };
 
+    #[tactic(auto, using(crate::proofs::Kept::kept_more, crate::proofs::Kept::kept_still))]
     fn read(&mut self, room: &mut [u8]) -> Result<usize, Failed>
         // What each source does.
         requires { 0 < length room.old }
@@ -61,7 +62,7 @@ impl<S: Source + Drop> Source for Keeping<S> {
             result room.new }
         ensures cause { HasCause (S.faults self.old.source) (S.faults self.new.source) result }
         // What is given is kept behind what was kept; or nothing is kept any more.
-        ensures kept { IfOk result (λ n. Keeps self.old.most self.old.kept.items
+        ensures kept { IfOk result (λ n. AreAdded self.old.most self.old.kept.items
             (take n room.new) self.new.most self.new.kept.items) }
         ensures failed { IsErr result → self.new.kept.items ≡ self.old.kept.items }
         ensures first { self.new.first.value ≡ self.old.first.value }

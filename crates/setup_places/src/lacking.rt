@@ -1,7 +1,8 @@
 // Which table of a setup lacks a key.
-ghost use Rattle.std.specs.Prelude.{◌≡◌, map, option_map};
+ghost use Rattle.std.specs.Prelude.{◌≡◌, option_map};
 ghost use Rattle.toml.specs.Data.{get_member};
 ghost use Rattle.toml.specs.View.{view, table_view, items_view};
+ghost use Rattle.setup_drafts.specs.Keys.{keys_of};
 ghost use Rattle.setup_drafts.specs.Written.{has_fewer_than};
 ghost use Rattle.setup_places.specs.Lacking.{is_choice, is_wanted, may_have, wanted_keys, wants_entry};
 ghost use Rattle.setup_places.specs.Lacking.{lacks, table_lacks, first_from, place_under};
@@ -21,6 +22,17 @@ const KINDS: [KeySet; 6] = [
     KeySet::Transition,
     KeySet::Field,
     KeySet::Offset,
+];
+
+/// The keys that a project has to have.
+const PROJECT_KEYS: [&str; 7] = [
+    "key",
+    "lead",
+    "browse",
+    "create",
+    "edit",
+    "transition",
+    "rank",
 ];
 
 /// The first table of a setup that lacks the key.
@@ -99,28 +111,34 @@ fn lacks(set: KeySet, key: &str, table: &Table) -> bool
 fn is_wanted(set: KeySet, key: &str, table: &Table) -> bool
     ensures { result ≡ is_wanted set key.now (table_view table.now) }
 {
-    is_one_of(wanted_keys(set), key) && may_have(set, key, table)
+    is_wanted_key(set, key) && may_have(set, key, table)
 }
 
-// The keys that a table of a kind has to have.
-fn wanted_keys(set: KeySet) -> &'static [&'static str]
-    ensures { map (λ key. key.now) result.now ≡ wanted_keys set }
+// Whether the key is one that a table of that kind has to have.
+fn is_wanted_key(set: KeySet, key: &str) -> bool
+    ensures { result ≡ list_any (λ k. bytes_eq key.now k) (wanted_keys set) }
 {
     match set {
-        KeySet::Top => &[],
-        KeySet::Group => &["name", "members"],
-        KeySet::Project => &["key", "lead", "browse", "create", "edit", "transition", "rank"],
-        KeySet::Status => &["name", "category"],
-        KeySet::Transition => &["name", "from", "to"],
-        KeySet::Field => &["number", "name", "kind", "options"],
-        KeySet::Offset => &["from", "minutes"],
+        KeySet::Top => false,
+        KeySet::Group => key == "name" || key == "members",
+        KeySet::Project => is_project_key(key),
+        KeySet::Status => key == "name" || key == "category",
+        KeySet::Transition => key == "name" || key == "from" || key == "to",
+        KeySet::Field => is_field_key(key),
+        KeySet::Offset => key == "from" || key == "minutes",
     }
 }
 
-fn is_one_of(keys: &[&str], name: &str) -> bool
-    ensures { result ≡ list_any (λ key. bytes_eq name.now key) (map (λ key. key.now) keys.now) }
+fn is_project_key(key: &str) -> bool
+    ensures { result ≡ list_any (λ k. bytes_eq key.now k) (keys_of KeySet.Project) }
 {
-    keys.iter().any(|key| name == *key)
+    PROJECT_KEYS.iter().any(|other| key == *other)
+}
+
+fn is_field_key(key: &str) -> bool
+    ensures { result ≡ list_any (λ k. bytes_eq key.now k) (keys_of KeySet.Field) }
+{
+    key == "number" || key == "name" || key == "kind" || key == "options"
 }
 
 // Whether a table may have the key: options are a choice's alone.

@@ -1,5 +1,7 @@
 use crate::help::help_on;
-use std::alloc::Global;
+use crate::keeping::Keeping;
+use request_lines::{MemorySource, read_whole};
+use std::alloc::{AllocError, Global};
 use std::test::Fail;
 
 // Texts that are no TOML, and the line of each.
@@ -96,5 +98,28 @@ fn other_faults_have_no_place(rt: HostRuntime) -> Result<(), Fail> {
     let alloc = rt.alloc();
     assert!(rt; is_untold(alloc, b""));
     assert!(rt; is_untold(alloc, HEAD.as_bytes()));
+    Ok(())
+}
+
+// What is kept of these bytes, which come by threes, where at most so many may be; and how many were read.
+fn kept_of(alloc: Global, bytes: &[u8], most: u32) -> Result<(Vec<u8>, usize), AllocError> {
+    let source = MemorySource::new(bytes.to_vec(alloc)?, [3; 9].to_vec(alloc)?, Vec::new(alloc));
+    let mut source = Keeping::new(alloc, source, most);
+    let read = match read_whole(alloc, &mut source, 100) {
+        Ok(bytes) => bytes.len(),
+        Err(_) => 0,
+    };
+    Ok((source.kept().to_vec(alloc)?, read))
+}
+
+#[test]
+fn what_is_read_is_kept_up_to_the_limit(rt: HostRuntime) -> Result<(), Fail> {
+    let alloc = rt.alloc();
+    let (kept, read) = kept_of(alloc, b"0123456789", 10)?;
+    assert!(rt; kept.as_slice() == b"0123456789".as_slice() && read == 10);
+    let (kept, read) = kept_of(alloc, b"0123456789", 9)?;
+    assert!(rt; kept.is_empty() && read == 10);
+    let (kept, read) = kept_of(alloc, b"01", 0)?;
+    assert!(rt; kept.is_empty() && read == 2);
     Ok(())
 }
