@@ -1,32 +1,25 @@
 -- What is kept of bytes that are read, as more of them are.
-use Rattle.std.proofs.Common.{◌≡◌, ◌≤◌, ◌+◌, ℕ, List, [], ◌∷◌, ◌++◌, length, Option, Some, None, refl, sym, ap, ◌∙◌, subst, rules, arith, inl, inr, append_assoc}
-use Rattle.std.specs.Io.KnownBytes.{Consumes, Keeps}
+use Rattle.std.proofs.Common.{◌≡◌, ◌<◌, ℕ, List, [], ◌++◌, Option, Some, None, sym, ap, ◌∙◌, subst, append_assoc, arith, inl, inr}
+use Rattle.std.specs.Io.KnownBytes.{Consumes, Keeps, prepend_known}
 use Rattle.setup_places.specs.Kept.{AreKept, AreAdded}
 
-consumes_both : (first now later : Option (List ℕ)) (xs ys : List ℕ) → Consumes first now xs → Consumes now later ys → Consumes first later (xs ++ ys)
-consumes_both None now later xs ys one other = tt
-consumes_both (Some as) None later xs ys one other = absurd one
-consumes_both (Some as) (Some bs) None xs ys one other = absurd other
-consumes_both (Some as) (Some bs) (Some cs) xs ys one other = one ∙ (ap (λ (zs : List ℕ). xs ++ zs) other ∙ search (rules, append_assoc))
+more : (now later : Option (List ℕ)) (kept bytes all : List ℕ) → prepend_known kept now ≡ Some all → Consumes now later bytes → prepend_known (kept ++ bytes) later ≡ Some all
+more None later kept bytes all before read = absurd (cc)
+more (Some left) None kept bytes all before read = absurd read
+more (Some left) (Some rest) kept bytes all before read =
+    ap Some (append_assoc kept bytes rest ∙ ap (λ (zs : List ℕ). kept ++ zs) (sym read)) ∙ before
 
-nothing : (xs : List ℕ) (n : ℕ) → length xs ≤ n → n ≡ 0 → xs ≡ []
-nothing [] n within is = refl
-nothing (x ∷ xs) n within is = absurd (omega (arith, within, is))
+still : (now later : Option (List ℕ)) (kept all : List ℕ) → prepend_known kept now ≡ Some all → Keeps now later → prepend_known kept later ≡ Some all
+still None later kept all before same = absurd (cc)
+still (Some left) None kept all before same = absurd same
+still (Some left) (Some rest) kept all before same = ap (λ (zs : List ℕ). Some (kept ++ zs)) same ∙ before
 
 pub kept_more : (first now later : Option (List ℕ)) (kept bytes new_kept : List ℕ) (most new_most : ℕ) → AreKept first now kept most → Consumes now later bytes
-    → AreAdded most kept bytes new_most new_kept → length new_kept ≤ new_most → AreKept first later new_kept new_most
-kept_more first now later kept bytes new_kept most new_most (inl before) read (inl (added, same)) within =
-    inl (subst (λ (zs : List ℕ). Consumes first later zs) (sym added) (consumes_both first now later kept bytes before read))
-kept_more first now later kept bytes new_kept most new_most (inr (none, no_more)) read (inl (added, same)) within =
-    inr (nothing new_kept new_most within (same ∙ no_more), same ∙ no_more)
-kept_more first now later kept bytes new_kept most new_most before read (inr gone) within = inr gone
-
-still : (first now later : Option (List ℕ)) (kept : List ℕ) → Consumes first now kept → Keeps now later → Consumes first later kept
-still None now later kept before same = tt
-still (Some as) None later kept before same = absurd before
-still (Some as) (Some bs) None kept before same = absurd same
-still (Some as) (Some bs) (Some cs) kept before same = before ∙ ap (λ (zs : List ℕ). kept ++ zs) (sym same)
+    → AreAdded most kept bytes new_most new_kept → AreKept first later new_kept new_most
+kept_more first now later kept bytes new_kept most new_most before read (inl (added, same)) =
+    λ some all is.
+    subst (λ (zs : List ℕ). prepend_known zs later ≡ Some all) (sym added) (more now later kept bytes all (before (omega (arith, some, same)) all is) read)
+kept_more first now later kept bytes new_kept most new_most before read (inr (none, no_more)) = λ some all is. absurd (omega (arith, some, no_more))
 
 pub kept_still : (first now later : Option (List ℕ)) (kept : List ℕ) (most : ℕ) → AreKept first now kept most → Keeps now later → AreKept first later kept most
-kept_still first now later kept most (inl before) same = inl (still first now later kept before same)
-kept_still first now later kept most (inr gone) same = inr gone
+kept_still first now later kept most before same = λ some all is. still now later kept all (before some all is) same

@@ -75,7 +75,7 @@ fn table_place(alloc: Global, bytes: &[u8], table: &Table) -> Result<Option<Plac
 }
 
 // The first fault of a text that is TOML.
-#[tactic(auto, using(crate::proofs::Faults::read_fault, crate::proofs::Faults::read_well))]
+#[tactic(auto, using(crate::proofs::Faults::read_fault))]
 fn fault_of(alloc: Global, bytes: &[u8], table: &Table) -> Option<SetupFault>
     requires text { IsUtf8 bytes.now }
     requires reads { parse_document bytes.now ≡ Some (table_view table.now) }

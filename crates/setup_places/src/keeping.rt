@@ -16,6 +16,7 @@ pub struct Keeping<S: Source + Drop> {
     first: Snapshot<S>,
     kept: Vec<u8>,
     most: u32,
+    ghost short: { most < 2 ^ 32 },
     ghost within: { length kept.items ≤ most },
     ghost are: { AreKept (S.left first.value) (S.left source) kept.items most },
 }

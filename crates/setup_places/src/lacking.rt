@@ -132,7 +132,13 @@ fn is_wanted_key(set: KeySet, key: &str) -> bool
 fn is_project_key(key: &str) -> bool
     ensures { result ≡ list_any (λ k. bytes_eq key.now k) (keys_of KeySet.Project) }
 {
-    PROJECT_KEYS.iter().any(|other| key == *other)
+    is_one_of(&PROJECT_KEYS, key)
+}
+
+fn is_one_of(keys: &[&str], name: &str) -> bool
+    ensures { result ≡ list_any (λ key. bytes_eq name.now key.now) keys.now }
+{
+    keys.iter().any(|key| name == *key)
 }
 
 fn is_field_key(key: &str) -> bool

@@ -129,11 +129,7 @@ fn back_up_files(rt: &HostRuntime, words: &[String], path: &str) -> u8 {
 
 // Gives the setup on standard input to the tracker of a file.
 fn amend_files(rt: &HostRuntime, path: &str) -> u8 {
-    let mut input = Keeping::new(
-        rt.alloc(),
-        Reading::new(rt.reader()),
-        SETUP_LIMIT as u32,
-    );
+    let mut input = Keeping::new(rt.alloc(), Reading::new(rt.reader()), SETUP_LIMIT as u32);
     let mut out = Writing::new(io::writer(rt));
     match open_told(rt, path, Unknown) {
         Ok(keeper) => {
