@@ -1,0 +1,5 @@
+mod Trails
+mod Making
+mod Looks
+mod Connections
+mod Sent

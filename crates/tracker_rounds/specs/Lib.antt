@@ -1,0 +1,4 @@
+pub mod Trail
+pub mod Serving
+pub mod Seated
+pub mod Rounds
