@@ -2,4 +2,5 @@ mod Trails
 mod Making
 mod Looks
 mod Connections
+mod Links
 mod Sent

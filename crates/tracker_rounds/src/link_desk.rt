@@ -1,5 +1,5 @@
 // The connections that the workers of a round share.
-ghost use Rattle.std.specs.Prelude.{◌≡◌, ◌≤◌, ℕ};
+ghost use Rattle.std.specs.Prelude.{◌≡◌, ◌<◌, ◌≤◌, ℕ, Bool, true, false, [], Some, IsSome};
 ghost use Rattle.request_lines.specs.Causes.{Rose};
 ghost use Rattle.tracker_rounds.specs.declared.link_desk.LinksCause.{LinksCause};
 
@@ -26,14 +26,19 @@ pub enum LinksCause {
     Failed,
 }
 
-/// How often the links had failed when the round began. A lock tells what its type says and nothing else, so the number comes in
-/// by the type.
+/// How the links were when the round began. A lock tells what its type says and nothing else, so this comes in by the type.
 pub trait Begun {
+    /// How often they had failed.
     ghost faults_before: { ℕ };
+
+    /// Whether they told which ones were still to come.
+    ghost were_told: { Bool };
 }
 
 impl Begun for Brand {
     ghost faults_before = { 0 };
+
+    ghost were_told = { false };
 }
 
 /// The connections that the workers of a round take one after another, under a lock.
@@ -45,14 +50,19 @@ pub struct LinkDesk<K: Links + Drop, N: Begun> {
     of: PhantomData<N>,
     ghost later: { N.faults_before ≤ K.faults links },
     ghost failed: { cause ≡ LinksCause.Failed → Rose N.faults_before (K.faults links) },
+    ghost told: { N.were_told ≡ true → IsSome (K.ahead links) },
+    ghost ended: { cause ≡ LinksCause.Ended → N.were_told ≡ true → K.ahead links ≡ Some [] },
     ghost full: { cause ≡ LinksCause.Full → taken ≡ 64 },
+    ghost ended_before: { cause ≡ LinksCause.Ended → taken < 64 },
+    ghost failed_before: { cause ≡ LinksCause.Failed → taken < 64 },
     ghost most: { taken ≤ 64 },
 }
 
 impl<K: Links + Drop, N: Begun> LinkDesk<K, N> {
     /// These connections, of which none is taken yet.
     pub fn new(links: K) -> Self
-        requires { N.faults_before ≡ K.faults links }
+        requires faults { N.faults_before ≡ K.faults links }
+        requires told { N.were_told ≡ true → IsSome (K.ahead links) }
     {
         LinkDesk {
             links,
@@ -63,6 +73,7 @@ impl<K: Links + Drop, N: Begun> LinkDesk<K, N> {
     }
 
     // The next connection, where the round takes one more.
+    #[tactic(auto, using(crate::proofs::Links::told_on, crate::proofs::Links::ended_told))]
     fn take(&mut self) -> NextLink<K::In, K::Out, K::At> {
         if self.cause != LinksCause::Open {
             return NextLink::End;
@@ -85,7 +96,12 @@ impl<K: Links + Drop, N: Begun> LinkDesk<K, N> {
         ensures later { N.faults_before ≤ K.faults result.0 }
         ensures failed { result.2 ≡ LinksCause.Failed
             → Rose N.faults_before (K.faults result.0) }
+        ensures told { N.were_told ≡ true → IsSome (K.ahead result.0) }
+        ensures ended { result.2 ≡ LinksCause.Ended → N.were_told ≡ true
+            → K.ahead result.0 ≡ Some [] }
         ensures full { result.2 ≡ LinksCause.Full → result.1 ≡ 64 }
+        ensures ended_before { result.2 ≡ LinksCause.Ended → result.1 < 64 }
+        ensures failed_before { result.2 ≡ LinksCause.Failed → result.1 < 64 }
         ensures most { result.1 ≤ 64 }
     {
         let LinkDesk {

@@ -1,5 +1,5 @@
 // A round: connections that workers serve beside each other.
-ghost use Rattle.std.specs.Prelude.{◌≡◌, ◌≢◌, ◌≤◌, ◌-◌, ◌∷◌, [], false, All, map, IfSome, IfNone};
+ghost use Rattle.std.specs.Prelude.{◌≡◌, ◌≢◌, ◌<◌, ◌≤◌, ◌-◌, ◌∷◌, [], false, All, Some, map, IfSome, IfNone, IsSome};
 ghost use Rattle.desk_turn.specs.History.{IsAccountedFor};
 ghost use Rattle.desk_turn.specs.Passes.{listed, seen};
 ghost use Rattle.request_lines.specs.Causes.{Rose};
@@ -94,9 +94,16 @@ where
     // Without receipts no worker began, and all is as it was.
     ensures unbegun { IfNone result.receipts ((result.end ≡ RoundCause.Memory)
         × (result.maker ≡ maker) × (map entry_of result.trail.items ≡ [])) }
-    // That the links failed is told only where their count of faults rose, which never falls.
+    // The round is full exactly where it took 64 connections.
     ensures full { result.end ≡ RoundCause.Full → result.taken ≡ 64 }
     ensures most { result.taken ≤ 64 }
+    ensures ended_before { result.end ≡ RoundCause.LinksEnd → result.taken < 64 }
+    ensures failed_before { result.end ≡ RoundCause.LinkFault → result.taken < 64 }
+    // Links that were told are told on, and that they ended is said only where none is left. That they failed is said only where
+    // their count of faults rose, which never falls.
+    ensures told { IsSome (K.ahead links) → IsSome (K.ahead result.links) }
+    ensures ended { result.end ≡ RoundCause.LinksEnd → IsSome (K.ahead links)
+        → K.ahead result.links ≡ Some [] }
     ensures fault { result.end ≡ RoundCause.LinkFault
         → Rose (K.faults links) (K.faults result.links) }
     ensures later { K.faults links ≤ K.faults result.links }

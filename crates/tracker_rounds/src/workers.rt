@@ -1,5 +1,5 @@
 // Workers that serve connections beside each other, over any value that such calls are asked of.
-ghost use Rattle.std.specs.Prelude.{◌≡◌, ◌≤◌, ◌-◌, ◌∷◌, [], All, map, IfOk, IfErr};
+ghost use Rattle.std.specs.Prelude.{◌≡◌, ◌<◌, ◌≤◌, ◌-◌, ◌∷◌, [], true, Some, All, map, IfOk, IfErr, IsSome};
 ghost use Rattle.desk_turn.specs.History.{IsAccountedFor};
 ghost use Rattle.desk_turn.specs.Passes.{listed, seen};
 ghost use Rattle.request_lines.specs.Causes.{Rose};
@@ -34,7 +34,7 @@ pub struct LinkRound<V: Kept, K: Links + Drop> {
     pub cause: LinksCause,
 }
 
-/// Lets so many workers serve connections, 64 at most, whose faults so far the type tells, and beside them another one look.
+/// Lets so many workers serve connections, 64 at most, of which the type tells how they are now, and beside them another one look.
 pub fn serve_links<
     N: Begun + Send + Sync,
     V: Kept<Ask = Ask, Told = Told> + Send,
@@ -46,7 +46,8 @@ where
     K::In: Send,
     K::Out: Send,
     K::At: Send,
-    requires begun { N.faults_before ≡ K.faults links }
+    requires faults { N.faults_before ≡ K.faults links }
+    requires told { N.were_told ≡ true → IsSome (K.ahead links) }
     requires empty { V.history value ≡ [] }
     requires workers { workers ≤ 16 }
     ensures origin { IfOk result.made (λ r. V.origin r.value ≡ V.origin value) }
@@ -59,8 +60,13 @@ where
     ensures memory { IfErr result.made (λ e. e.1 ≡ value) }
     ensures full { result.cause ≡ LinksCause.Full → result.taken ≡ 64 }
     ensures most { result.taken ≤ 64 }
+    ensures told { N.were_told ≡ true → IsSome (K.ahead result.links) }
+    ensures ended { result.cause ≡ LinksCause.Ended → N.were_told ≡ true
+        → K.ahead result.links ≡ Some [] }
+    ensures ended_before { result.cause ≡ LinksCause.Ended → result.taken < 64 }
     ensures fault { result.cause ≡ LinksCause.Failed
         → Rose (K.faults links) (K.faults result.links) }
+    ensures failed_before { result.cause ≡ LinksCause.Failed → result.taken < 64 }
     ensures later { K.faults links ≤ K.faults result.links }
 {
     let desk: Mutex<LinkDesk<K, N>> = Mutex::new(LinkDesk::new(links));
