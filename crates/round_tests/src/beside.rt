@@ -39,7 +39,7 @@ fn made_by(alloc: Global, left: &Left, by: u32) -> Result<Vec<Made>, AllocError>
 
 /// A tick and the create of that issue.
 fn creates(made: &[Made], number: u64) -> bool {
-    made == &[Made::Tick, Made::Create(number)]
+    made == [Made::Tick, Made::Create(number)].as_slice()
 }
 
 /// Each of the two workers created an issue, with its tick before, and worker 0 made these.

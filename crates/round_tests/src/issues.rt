@@ -72,7 +72,10 @@ impl Issues {
             }
             Call::RebalanceStep { count } if caller.as_str() == "root" => {
                 self.ranks = Ranks::Short;
-                Ok((Made::Step(*count), Answer::RebalanceStep { left: 0, moved: 1 }))
+                Ok((
+                    Made::Step(*count),
+                    Answer::RebalanceStep { left: 0, moved: 1 },
+                ))
             }
             _ => Ok((Made::Other, Answer::RebalanceStep { left: 0, moved: 0 })),
         }
