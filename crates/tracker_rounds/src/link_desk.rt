@@ -1,6 +1,7 @@
 // The connections that the workers of a round share.
 ghost use Rattle.std.specs.Prelude.{◌≡◌, ◌<◌, ◌≤◌, ℕ, Bool, true, false, [], Some, IsSome};
 ghost use Rattle.request_lines.specs.Causes.{Rose};
+ghost use Rattle.tracker_rounds.specs.Left.{none_left};
 ghost use Rattle.tracker_rounds.specs.declared.link_desk.LinksCause.{LinksCause};
 
 use std::marker::{Brand, PhantomData};
@@ -51,7 +52,7 @@ pub struct LinkDesk<K: Links + Drop, N: Begun> {
     ghost later: { N.faults_before ≤ K.faults links },
     ghost failed: { cause ≡ LinksCause.Failed → Rose N.faults_before (K.faults links) },
     ghost told: { N.were_told ≡ true → IsSome (K.ahead links) },
-    ghost ended: { cause ≡ LinksCause.Ended → N.were_told ≡ true → K.ahead links ≡ Some [] },
+    ghost ended: { cause ≡ LinksCause.Ended → N.were_told ≡ true → none_left (K.ahead links) ≡ true },
     ghost full: { cause ≡ LinksCause.Full → taken ≡ 64 },
     ghost ended_before: { cause ≡ LinksCause.Ended → taken < 64 },
     ghost failed_before: { cause ≡ LinksCause.Failed → taken < 64 },
@@ -92,6 +93,7 @@ impl<K: Links + Drop, N: Begun> LinkDesk<K, N> {
     }
 
     /// What is left of the connections, how many were taken, and why no more were.
+    #[tactic(auto, using(crate::proofs::Links::none_left_is))]
     pub fn into_parts(self) -> (K, u32, LinksCause)
         ensures later { N.faults_before ≤ K.faults result.0 }
         ensures failed { result.2 ≡ LinksCause.Failed
