@@ -1,5 +1,5 @@
 -- A worker's connections, one behind another, and its seat, which no call changes.
-use Rattle.std.proofs.Common.{◌≡◌, ◌-◌, ℕ, List, [], ◌∷◌, ◌++◌, Option, refl, ap, sym, ◌∙◌, append_assoc, append-nil}
+use Rattle.std.proofs.Common.{◌≡◌, ◌-◌, ℕ, List, [], ◌∷◌, ◌++◌, Option, ap, sym, ◌∙◌, append_assoc, append-nil}
 use Rattle.std.proofs.lemmas.List.{map-append}
 use Rattle.desk_turn.specs.declared.entry.Entry.{Entry}
 use Rattle.tracker_calls.specs.declared.call.Call.{Call}

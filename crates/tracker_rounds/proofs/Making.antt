@@ -1,10 +1,10 @@
 -- One call more of a round.
-use Rattle.std.proofs.Common.{◌≡◌, ◌≤◌, ◌<◌, ◌+◌, ◌-◌, ℕ, zero, suc, List, [], ◌∷◌, ◌++◌, map, Option, Some, refl, ap, sym, subst, ◌∙◌, arith}
+use Rattle.std.proofs.Common.{◌≡◌, ◌<◌, ◌+◌, ◌-◌, ℕ, zero, suc, List, [], ◌∷◌, ◌++◌, map, Option, Some, refl, ap, ◌∙◌, arith}
 use Rattle.std.proofs.lemmas.List.{map-append}
 use Rattle.desk_turn.specs.declared.entry.Entry.{Entry}
 use Rattle.tracker_calls.specs.declared.call.Call.{Call}
 use Rattle.tracker_calls.specs.declared.reply.Reply.{Reply}
-use Rattle.tracker_server.specs.Events.{event, Lead}
+use Rattle.tracker_server.specs.Events.{event}
 use Rattle.tracker_server.specs.declared.event.Event.{Event}
 use Rattle.tracker_server.proofs.Serving.{lead_append}
 use Rattle.tracker_rounds.specs.declared.ask.Ask.{Ask}

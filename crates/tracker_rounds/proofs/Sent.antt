@@ -2,7 +2,6 @@
 use denote.RattleType.{RattleType}
 use denote.Param.Send.{IsSend, sendable}
 use Rattle.std.proofs.Crossing.{crosses}
-use Rattle.std.proofs.MapsCrossing.{String-send}
 use Rattle.field_values.specs.contracts.text.Text as text
 use Rattle.field_values.specs.contracts.names.Names as names
 use Rattle.field_values.specs.contracts.sequence.Sequence as sequence
@@ -34,7 +33,7 @@ use Rattle.tracker_rounds.specs.contracts.ask.Told as told
 
 -- ---- texts and lists
 text_send : IsSend text.the_row
-text_send = search (String-send, sendable, crosses) depth 40
+text_send = search (sendable, crosses) depth 40
 
 names_send : IsSend names.the_row
 names_send = search (text_send, sendable, crosses) depth 40

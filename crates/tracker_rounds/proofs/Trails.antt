@@ -1,5 +1,5 @@
 -- One event more behind others.
-use Rattle.std.proofs.Common.{◌≡◌, ◌≤◌, ◌+◌, ◌⊎◌, ℕ, List, [], ◌∷◌, ◌++◌, inl, inr, refl, ap, ap₂, sym, subst, ◌∙◌, arith}
+use Rattle.std.proofs.Common.{◌≡◌, ◌≤◌, ◌+◌, ◌⊎◌, ℕ, List, [], ◌∷◌, ◌++◌, inl, inr, refl, ap₂, sym, subst, arith}
 use Rattle.tracker_server.specs.declared.event.Event.{Event}
 use Rattle.tracker_rounds.specs.Trail.{looks_in, others_in, IsNeverAhead}
 

@@ -1,5 +1,5 @@
 -- What is left of a round when its workers have ended.
-use Rattle.std.specs.Prelude.{◌≡◌, ◌⊎◌, ◌<◌, ℕ, List, [], ◌∷◌, ◌++◌, Option, None}
+use Rattle.std.specs.Prelude.{◌≡◌, ◌⊎◌, ℕ, List, [], ◌∷◌, ◌++◌, Option}
 use Rattle.desk_turn.specs.History.{IsAccountedFor}
 use Rattle.desk_turn.specs.declared.entry.Entry.{Entry}
 use Rattle.tracker_server.specs.declared.event.Event.{Event}

@@ -1,4 +1,4 @@
-use Rattle.std.proofs.Common.{◌≡◌, ◌<◌, ◌++◌, ◌∷◌, ◌-◌, List, [], map, ap, sym, subst, ◌∙◌, arith}
+use Rattle.std.proofs.Common.{◌≡◌, ◌++◌, ◌∷◌, ◌-◌, List, [], map, ap, sym, subst, ◌∙◌, arith}
 use Rattle.tracker_rounds.specs.declared.ask.Entered.{Entered}
 use Rattle.tracker_rounds.specs.declared.ask.Told.{Told}
 use Rattle.tracker_server.specs.declared.event.Event.{Event}
