@@ -31,7 +31,7 @@ use Rattle.tracker_calls.specs.declared.reply.ShownField.{ShownField}
 use Rattle.tracker_machine.specs.Machine.{Machine}
 use Rattle.tracker_machine.specs.Tracker.{IsTracker}
 use Rattle.tracker_machine.specs.Known.{history_named}
-use Rattle.tracker_machine.specs.Checks.{or_then, unless_known, only_if, caller_refusal, part_refusal}
+use Rattle.tracker_machine.specs.Checks.{or_then, unless_known, caller_refusal, part_refusal}
 use Rattle.tracker_machine.specs.Access.{access_refusal}
 use Rattle.tracker_machine.specs.Show.{shown_value, with_shown, shown_fields, shown_issue, show_refusal, show_answer_of}
 use Rattle.tracker_machine.specs.Entries.{history_refusal, history_answer_of}
@@ -55,12 +55,15 @@ passes o due is = ap (λ r. reply_to (unless r due)) is
 caller_passes : (m : Machine) (caller : List ℕ) → IsKnown m caller → caller_refusal m caller ≡ None
 caller_passes m caller known = ap (λ (o : Option ℕ). unless_known o (cause.Unknown thing.User caller)) known
 
+allowed : (m : Machine) (user : ℕ) (h : History) → sees m.setup user h ≡ true → access_refusal m user permission.Browse (Some h) ≡ None
+allowed m user h seen = rw seen refl
+
 -- an issue that is there, and that the user may browse
 browse_passes : (m : Machine) (user : ℕ) (issue : List ℕ) (h : History) → history_named m issue ≡ Some h → sees m.setup user h ≡ true
     → or_then (unless_known (history_named m issue) (cause.Unknown thing.Issue issue)) (access_refusal m user permission.Browse (history_named m issue)) ≡ None
 browse_passes m user issue h there seen =
     ap (λ (o : Option History). or_then (unless_known o (cause.Unknown thing.Issue issue)) (access_refusal m user permission.Browse o)) there
-    ∙ ap (λ b. only_if b _) seen
+    ∙ allowed m user h seen
 
 -- ---- show
 
