@@ -1,26 +1,20 @@
 -- What the replies of `show`, `history` and `burndown` tell.
-use Rattle.std.proofs.Common.{◌≡◌, ◌≤◌, ℕ, ℤ, ◌==◌, ◌||◌, Bool, true, false, List, [], ◌∷◌, map, length, bytes_eq, Option, Some, None, inl, inr, refl, sym, ◌∙◌, ap, subst, eqb-true, eq-eqb}
+use Rattle.std.proofs.Common.{◌≡◌, ◌≤◌, ℕ, ℤ, ◌==◌, ◌||◌, Bool, true, false, List, [], ◌∷◌, map, length, bytes_eq, Option, Some, None, refl, sym, ◌∙◌, ap, subst, eqb-true, eq-eqb}
 use Rattle.std.specs.Prelude.{if◌then◌else◌, take, drop}
 use Rattle.std.specs.List.{list_any}
 use Rattle.std.specs.Option.{option_or}
-use Rattle.std.proofs.lemmas.Bool.{cases_Bool}
 use Rattle.std.proofs.lemmas.List.{take_all}
-use Rattle.field_values.specs.declared.numbers.SprintNo.{SprintNo}
 use Rattle.field_values.specs.declared.rules.Permission.TheVariants as permission
 use Rattle.field_values.specs.Parts.{Parts}
-use Rattle.field_forms.specs.Names.{place_named}
 use Rattle.field_forms.specs.SoundRules.{is_field}
 use Rattle.fields.specs.Sound.{IsSound}
 use Rattle.fields.specs.SetupParts.{names_in, may}
 use Rattle.fields.specs.Naming.{field_name, field_numbers}
 use Rattle.fields.proofs.FieldNames.{numbers_are_fields}
-use Rattle.change_history.specs.History.{History, present, updated}
-use Rattle.workflow.specs.Conditions.{project_number}
+use Rattle.change_history.specs.History.{History}
 use Rattle.burndown.specs.declared.share.BurnRow.{BurnRow}
 use Rattle.tracker_work.specs.Seen.{sprint_start, sprint_rows, sprint_left}
 use Rattle.tracker_calls.specs.Part.{part_of}
-use Rattle.tracker_calls.specs.declared.call.Call.{Call}
-use Rattle.tracker_calls.specs.declared.call.Call.TheVariants as call
 use Rattle.tracker_calls.specs.declared.call.Part.{Part}
 use Rattle.tracker_calls.specs.declared.cause.Cause.{Cause}
 use Rattle.tracker_calls.specs.declared.cause.Cause.TheVariants as cause
@@ -29,11 +23,10 @@ use Rattle.tracker_calls.specs.declared.reply.Reply.TheVariants as reply
 use Rattle.tracker_calls.specs.declared.reply.Shown.{Shown}
 use Rattle.tracker_calls.specs.declared.reply.ShownField.{ShownField}
 use Rattle.tracker_machine.specs.Machine.{Machine}
-use Rattle.tracker_machine.specs.Tracker.{IsTracker}
 use Rattle.tracker_machine.specs.Known.{history_named}
 use Rattle.tracker_machine.specs.Checks.{or_then, unless_known, caller_refusal, part_refusal}
 use Rattle.tracker_machine.specs.Access.{access_refusal}
-use Rattle.tracker_machine.specs.Show.{shown_value, with_shown, shown_fields, shown_issue, show_refusal, show_answer_of}
+use Rattle.tracker_machine.specs.Show.{with_shown, shown_fields, shown_issue, show_refusal, show_answer_of}
 use Rattle.tracker_machine.specs.Entries.{history_refusal, history_answer_of}
 use Rattle.tracker_machine.specs.Sprints.{work_of, told_row, plan_sprint_refusal, burndown_answer}
 use Rattle.tracker_machine.specs.Meaning.{Meaning, unless, reply_to}
