@@ -8,7 +8,7 @@ use Rattle.field_values.specs.declared.rules.Permission.TheVariants as permissio
 use Rattle.field_values.specs.Parts.{Parts}
 use Rattle.field_forms.specs.SoundRules.{is_field}
 use Rattle.fields.specs.Sound.{IsSound}
-use Rattle.fields.specs.SetupParts.{names_in, may}
+use Rattle.fields.specs.SetupParts.{names_in}
 use Rattle.fields.specs.Naming.{field_name, field_numbers}
 use Rattle.fields.proofs.FieldNames.{numbers_are_fields}
 use Rattle.change_history.specs.History.{History}
