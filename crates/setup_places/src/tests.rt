@@ -12,8 +12,14 @@ const LINES: [(&[u8], &str); 4] = [
     (b"a = 1\nb = \"\xff\"\n", "line 2\n"),
 ];
 
+// No text here is longer.
+const LONGEST: usize = 2_000;
+
 // Whether this is told of the text.
 fn is_told(alloc: Global, text: &[u8], line: &str) -> bool {
+    if text.len() > LONGEST {
+        return false;
+    }
     match help_on(alloc, text) {
         Ok(Some(told)) => told.as_str() == line,
         _ => false,
@@ -22,6 +28,9 @@ fn is_told(alloc: Global, text: &[u8], line: &str) -> bool {
 
 // Whether nothing is told of it.
 fn is_untold(alloc: Global, text: &[u8]) -> bool {
+    if text.len() > LONGEST {
+        return false;
+    }
     match help_on(alloc, text) {
         Ok(None) => true,
         _ => false,
