@@ -1,5 +1,5 @@
 // The calls `start_sprint` and `close_sprint`: a sprint that comes to its next state.
-ghost use Rattle.std.specs.Prelude.{◌≡◌, IfOk, Some};
+ghost use Rattle.std.specs.Prelude.{◌≡◌, IfOk, IfSome, Some};
 ghost use Rattle.sprints.specs.Sprint.{name_of, state_of};
 ghost use Rattle.tracker_machine.specs.Effect.{IsAllowed};
 ghost use Rattle.tracker_machine.specs.Effect.Effect.{NewState};
@@ -28,21 +28,8 @@ pub fn start_sprint(
     ensures { IsPrepared (start_sprint_meaning state.now.machine caller.0 sprint) state.now result }
 {
     let found = sprint_to_plan(alloc, state, caller, sprint)?;
-    match found.state {
-        SprintState::Future => turn(
-            alloc,
-            state,
-            sprint,
-            found.name,
-            SprintState::Active {
-                at: state.moment(),
-                change: state.change(),
-            },
-        ),
-        kept => Err(Refusal::Cause(Cause::SprintIs {
-            state: phase_of(&kept),
-        })),
-    }
+    let next = found.state.after_start(state.moment(), state.change());
+    turn(alloc, state, sprint, found, next)
 }
 
 /// Prepares that the sprint is closed now, or says why not.
@@ -55,24 +42,8 @@ pub fn close_sprint(
     ensures { IsPrepared (close_sprint_meaning state.now.machine caller.0 sprint) state.now result }
 {
     let found = sprint_to_plan(alloc, state, caller, sprint)?;
-    let kept = found.state;
-    match kept {
-        SprintState::Active { at, change } => turn(
-            alloc,
-            state,
-            sprint,
-            found.name,
-            SprintState::Closed {
-                start_at: at,
-                start_change: change,
-                at: state.moment(),
-                change: state.change(),
-            },
-        ),
-        kept => Err(Refusal::Cause(Cause::SprintIs {
-            state: phase_of(&kept),
-        })),
-    }
+    let next = found.state.after_close(state.moment(), state.change());
+    turn(alloc, state, sprint, found, next)
 }
 
 /// The sprint of that number, where the caller may plan.
@@ -104,9 +75,30 @@ pub fn phase_of(state: &SprintState) -> SprintPhase
     }
 }
 
-// The sprint of this name comes to its next state.
-#[tactic(auto, unfolding(tracker_machine::specs::Effect::IsAllowed))]
+// The sprint comes to its next state, where it has one.
 fn turn(
+    alloc: Global,
+    state: &State,
+    sprint: SprintNo,
+    found: FoundSprint<'_>,
+    next: Option<SprintState>,
+) -> Result<Prepared, Refusal>
+    requires named { name_of state.now.machine.sprints sprint.0 ≡ Some found.name.now }
+    requires may { IfSome next (MayTurn state.now.machine.moment state.now.machine.change
+        state.now.machine.sprints sprint) }
+    ensures { IsPrepared (turned sprint found.entry.state next) state.now result }
+{
+    match next {
+        Some(next) => turn_to(alloc, state, sprint, found.name, next),
+        None => Err(Refusal::Cause(Cause::SprintIs {
+            state: phase_of(&found.state),
+        })),
+    }
+}
+
+// The sprint of this name comes to this state.
+#[tactic(auto, unfolding(tracker_machine::specs::Effect::IsAllowed))]
+fn turn_to(
     alloc: Global,
     state: &State,
     sprint: SprintNo,

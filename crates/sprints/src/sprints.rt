@@ -1,13 +1,12 @@
 //! All sprints of a tracker.
-ghost use Rattle.std.specs.Prelude.{◌≡◌, ◌+◌, ◌↔◌, ◌<◌, ◌≤◌, [], ◌∷◌, ◌++◌, length, IfOk, IfErr, OnOk, OnErr, IsOk, IfSome, IsSome, option_copied};
+ghost use Rattle.std.specs.Prelude.{◌≡◌, ◌+◌, ◌↔◌, ◌<◌, ◌≤◌, [], ◌∷◌, ◌++◌, length, IfOk, OnOk, OnErr, IsOk, IsSome, option_copied};
 ghost use Rattle.tracker_limits.specs.Limits.{most_sprints};
 ghost use Rattle.sprints.specs.Sprint.{HasRoomForOne, IsThere, future, sprint_of, state_of, name_of};
-ghost use Rattle.sprints.specs.Change.{IsWantOfRoom, IsInState, Changes};
-ghost use Rattle.sprints.specs.State.{after_start, after_close};
+ghost use Rattle.sprints.specs.Change.{IsInState};
 
 use crate::sprint::Sprint;
 use crate::state::{SprintFault, SprintState};
-use field_values::{Memory, Moment, SprintNo, Text};
+use field_values::{Memory, SprintNo, Text};
 use std::alloc::Global;
 use std::marker::Model;
 use tracker_limits::MOST_SPRINTS;
@@ -59,7 +58,7 @@ impl Sprints {
         ensures created { IfOk result (λ sprint. (sprint.0 ≡ length self.old.sprints + 1)
             × (self.new.sprints ≡ self.old.sprints ++ future name ∷ [])) }
         ensures full { (result ≡ Err SprintFault.Full) ↔ (length self.old.sprints ≡ most_sprints) }
-        ensures refused { IfErr result (λ fault. IsWantOfRoom fault × (self.new ≡ self.old)) }
+        ensures refused { OnErr result (self.new ≡ self.old) }
         ensures reserved { HasRoomForOne self.old → length self.old.sprints < most_sprints → IsOk result }
         ensures more { self.old.room ≤ self.new.room }
     {
@@ -74,38 +73,14 @@ impl Sprints {
         Ok(SprintNo(self.list.len() as u32))
     }
 
-    /// Starts a future sprint. `StateIs` comes exactly where it isn't future, with its state, and then all is as before;
-    /// other sprints and all room stand. It takes no memory.
-    pub fn start(&mut self, sprint: SprintNo, at: Moment, change: u64) -> Result<(), SprintFault>
+    /// Has a sprint that is there come to this state; other sprints and all room stand. It takes no memory.
+    pub fn turn(&mut self, sprint: SprintNo, state: SprintState)
         requires { IsThere self.old.sprints sprint.0 }
-        ensures changed { IfSome (state_of self.old.sprints sprint.0)
-            (λ kept. Changes self.old.sprints self.new.sprints sprint.0 kept
-            (after_start kept at change) result) }
+        ensures turned { IsInState self.old.sprints self.new.sprints sprint.0 state }
         ensures room { self.new.room ≡ self.old.room }
     {
-        let kept = self.state_at(sprint);
-        let Some(next) = kept.after_start(at, change) else {
-            return Err(SprintFault::StateIs(kept));
-        };
-        self.put(sprint, next);
-        Ok(())
-    }
-
-    /// Closes an active sprint. `StateIs` comes exactly where it isn't active, with its state, and then all is as before;
-    /// other sprints and all room stand. It takes no memory.
-    pub fn close(&mut self, sprint: SprintNo, at: Moment, change: u64) -> Result<(), SprintFault>
-        requires { IsThere self.old.sprints sprint.0 }
-        ensures changed { IfSome (state_of self.old.sprints sprint.0)
-            (λ kept. Changes self.old.sprints self.new.sprints sprint.0 kept
-            (after_close kept at change) result) }
-        ensures room { self.new.room ≡ self.old.room }
-    {
-        let kept = self.state_at(sprint);
-        let Some(next) = kept.after_close(at, change) else {
-            return Err(SprintFault::StateIs(kept));
-        };
-        self.put(sprint, next);
-        Ok(())
+        let kept = &mut self.list[(sprint.0 - 1) as usize];
+        kept.state = state;
     }
 
     /// The sprint's state; `None` exactly for a number that isn't there.
@@ -142,23 +117,5 @@ impl Sprints {
             return None;
         }
         self.list.get((sprint.0 - 1) as usize)
-    }
-
-    /// The state of a sprint that is there.
-    fn state_at(&self, sprint: SprintNo) -> SprintState
-        requires { IsThere self.now.sprints sprint.0 }
-        ensures { state_of self.now.sprints sprint.0 ≡ Some result }
-    {
-        self.list[(sprint.0 - 1) as usize].state
-    }
-
-    /// Puts a sprint that is there into another state.
-    fn put(&mut self, sprint: SprintNo, state: SprintState)
-        requires { IsThere self.old.sprints sprint.0 }
-        ensures changed { IsInState self.old.sprints self.new.sprints sprint.0 state }
-        ensures room { self.new.room ≡ self.old.room }
-    {
-        let kept = &mut self.list[(sprint.0 - 1) as usize];
-        kept.state = state;
     }
 }

@@ -1,4 +1,4 @@
-//! The states of a sprint, and why a sprint is refused.
+//! The states of a sprint, and why one isn't made.
 ghost use Rattle.std.specs.Prelude.{◌≡◌};
 ghost use Rattle.sprints.specs.State.{after_start, after_close};
 
@@ -23,20 +23,18 @@ pub enum SprintState {
     },
 }
 
-/// Why a sprint isn't made or doesn't change its state.
+/// Why a sprint isn't made.
 #[derive(Clone, Copy, Debug, PartialEq, Eq)]
 pub enum SprintFault {
     /// There are 1,000 sprints.
     Full,
-    /// The sprint's state, which doesn't allow the change.
-    StateIs(SprintState),
     /// There was not enough memory.
     Memory,
 }
 
 impl SprintState {
     /// The state after a start, where it allows one.
-    pub(crate) fn after_start(&self, at: Moment, change: u64) -> Option<SprintState>
+    pub fn after_start(&self, at: Moment, change: u64) -> Option<SprintState>
         ensures { result ≡ after_start self.now at change }
     {
         match *self {
@@ -46,7 +44,7 @@ impl SprintState {
     }
 
     /// The state after a close, where it allows one.
-    pub(crate) fn after_close(&self, at: Moment, change: u64) -> Option<SprintState>
+    pub fn after_close(&self, at: Moment, change: u64) -> Option<SprintState>
         ensures { result ≡ after_close self.now at change }
     {
         match *self {

@@ -1,8 +1,7 @@
 //! A sprint that is read.
-ghost use Rattle.std.specs.Prelude.{◌≡◌, ◌<◌, ◌++◌, ◌∷◌, ◌↔◌, [], true, false, length, Some, IfOk, IsTrue};
+ghost use Rattle.std.specs.Prelude.{◌≡◌, ◌<◌, ◌++◌, ◌∷◌, ◌↔◌, [], true, false, length, IfOk, IsTrue};
 ghost use Rattle.tracker_limits.specs.Limits.{most_sprints};
-ghost use Rattle.sprints.specs.Sprint.{HasRoomForOne, IsThere, state_of};
-ghost use Rattle.sprints.specs.Change.{IsInState};
+ghost use Rattle.sprints.specs.Sprint.{HasRoomForOne};
 ghost use Rattle.tracker_machine.specs.SprintRules.{IsTimely};
 ghost use Rattle.tracker_rows.specs.Rules.{MayBeSprint};
 
@@ -60,59 +59,5 @@ fn put_sprint(sprints: &mut Sprints, sprint: Sprint)
     let Ok(no) = sprints.create(name) else {
         unreachable!()
     };
-    bring_to(sprints, no, state);
-}
-
-// Has a future sprint come to this state.
-fn bring_to(sprints: &mut Sprints, no: SprintNo, state: SprintState)
-    requires there { IsThere sprints.old.sprints no.0 }
-    requires future { state_of sprints.old.sprints no.0 ≡ Some SprintState.Future }
-    ensures { IsInState sprints.old.sprints sprints.new.sprints no.0 state }
-{
-    match state {
-        SprintState::Future => {}
-        SprintState::Active { at, change } => start(sprints, no, at, change),
-        SprintState::Closed {
-            start_at,
-            start_change,
-            at,
-            change,
-        } => {
-            start(sprints, no, start_at, start_change);
-            close(sprints, no, start_at, start_change, at, change);
-        }
-    }
-}
-
-// Starts a future sprint.
-fn start(sprints: &mut Sprints, no: SprintNo, at: Moment, change: u64)
-    requires there { IsThere sprints.old.sprints no.0 }
-    requires future { state_of sprints.old.sprints no.0 ≡ Some SprintState.Future }
-    ensures { IsInState sprints.old.sprints sprints.new.sprints no.0
-        (SprintState.Active at change) }
-{
-    let Ok(()) = sprints.start(no, at, change) else {
-        unreachable!()
-    };
-}
-
-// Closes a sprint that started then.
-fn close(
-    sprints: &mut Sprints,
-    no: SprintNo,
-    start_at: Moment,
-    start_change: u64,
-    at: Moment,
-    change: u64,
-)
-    requires there { IsThere sprints.old.sprints no.0 }
-    requires started { state_of sprints.old.sprints no.0
-        ≡ Some (SprintState.Active start_at start_change) }
-    ensures { IsInState sprints.old.sprints sprints.new.sprints no.0
-        (SprintState.Closed start_at start_change at change) }
-{
-    let _ = (start_at, start_change);
-    let Ok(()) = sprints.close(no, at, change) else {
-        unreachable!()
-    };
+    sprints.turn(no, state);
 }

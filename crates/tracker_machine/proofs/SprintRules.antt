@@ -17,9 +17,10 @@ use Rattle.change_history.specs.History.{History, opening_value, value_after, pr
 use Rattle.sprints.specs.declared.sprint.Sprint.{Sprint}
 use Rattle.sprints.specs.declared.state.SprintState.{SprintState}
 use Rattle.sprints.specs.declared.state.SprintState.TheVariants.{Future, Active, Closed}
+use Rattle.sprints.specs.State.{IsNextState}
 use Rattle.sprints.specs.Sprint.{IsThere, future, sprint_of}
 use Rattle.tracker_work.specs.Seen.{state_in}
-use Rattle.tracker_machine.specs.SprintRules.{with_future, in_state, is_of_sprints, OpensInSprints, BringsSprints, IsInSprints, IsTimely, IsSprint, AreSprints, MayMakeSprint, IsNextState, MayTurn}
+use Rattle.tracker_machine.specs.SprintRules.{with_future, in_state, is_of_sprints, OpensInSprints, BringsSprints, IsInSprints, IsTimely, IsSprint, AreSprints, MayMakeSprint, MayTurn}
 use Rattle.tracker_machine.specs.Effect.{longer}
 use Rattle.tracker_machine.proofs.Settled.{at_place, value_after-append}
 

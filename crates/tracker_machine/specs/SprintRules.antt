@@ -1,5 +1,5 @@
 -- Sprints: what holds of all of them, and which issues are in one.
-use Rattle.std.specs.Prelude.{◌≡◌, ◌<◌, ◌≤◌, ◌-◌, ◌==◌, ◌&&◌, ◌⊎◌, ℕ, Bool, true, false, nat_le, List, [], ◌∷◌, ◌++◌, length, slice_set, sum_by, Some, if◌then◌else◌}
+use Rattle.std.specs.Prelude.{◌≡◌, ◌<◌, ◌≤◌, ◌-◌, ◌==◌, ◌&&◌, ℕ, Bool, true, false, nat_le, List, [], ◌∷◌, ◌++◌, length, slice_set, sum_by, if◌then◌else◌}
 use Rattle.std.specs.List.{All}
 use Rattle.std.specs.Option.{option_map_or}
 use Rattle.field_values.specs.declared.numbers.FieldNo.{FieldNo}
@@ -18,7 +18,7 @@ use Rattle.sprints.specs.declared.sprint.Sprint.{Sprint}
 use Rattle.sprints.specs.declared.state.SprintState.{SprintState}
 use Rattle.sprints.specs.declared.state.SprintState.TheVariants.{Future, Active, Closed}
 use Rattle.sprints.specs.Sprint.{IsThere, future, sprint_of}
-use Rattle.sprints.specs.State.{after_start, after_close}
+use Rattle.sprints.specs.State.{IsNextState}
 use Rattle.tracker_work.specs.Seen.{state_in}
 
 -- ---- states
@@ -105,11 +105,6 @@ pub record AreSprints (moment change : ℕ) (sprints : List Sprint)
 pub record MayMakeSprint (sprints : List Sprint) (name : List ℕ) : Type 0 where
   pub named : is_title name ≡ true
   pub few : length sprints < most_sprints
-
--- a sprint starts or is closed now, from the state that it is in
-abbrev pub IsNextState : ℕ → ℕ → SprintState → SprintState → Type 0
-IsNextState moment change kept state =
-    (after_start kept moment change ≡ Some state) ⊎ (after_close kept moment change ≡ Some state)
 
 -- a sprint that is there may come to this state
 pub record MayTurn (moment change : ℕ) (sprints : List Sprint) (sprint : SprintNo)

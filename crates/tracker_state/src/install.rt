@@ -4,11 +4,10 @@ ghost use Rattle.std.specs.List.{All};
 ghost use Rattle.external_ids.specs.Ids.{external_named};
 ghost use Rattle.filter_views.specs.Counts.{due};
 ghost use Rattle.tracker_filters.specs.Members.{members_cost};
-ghost use Rattle.sprints.specs.Sprint.{IsThere};
-ghost use Rattle.tracker_work.specs.Seen.{share_now, state_in, with_state};
+ghost use Rattle.tracker_work.specs.Seen.{share_now};
 ghost use Rattle.tracker_machine.specs.Effect.{applied, with_external, IsAllowed};
 ghost use Rattle.tracker_machine.specs.Effect.Effect.{NewMoment, NewIssue, NewGroup, NewRank, NewBalance, NewRanks, NewSprint, NewState, NewFilter, NoFilter, NewBoard, NoBoard, NewMembers};
-ghost use Rattle.tracker_machine.specs.SprintRules.{IsNextState, phase_of, sum_in_sprint};
+ghost use Rattle.tracker_machine.specs.SprintRules.{phase_of, sum_in_sprint};
 ghost use Rattle.tracker_state.specs.Plan.{id_of, effect_of, cost_of, IssueFits, GroupFits, FilterFits, Fits};
 ghost use Rattle.tracker_state.specs.State.{saved_as, HasSprintRoom};
 
@@ -161,7 +160,7 @@ impl State {
         ensures steps { steps.new ≡ steps.old
             + sum_in_sprint (length self.old.watched.filters) sprint.0 self.old.machine.histories }
     {
-        turn(&mut self.work, sprint, &state, self.moment, self.change);
+        self.work.turn(sprint, state);
         self.setting.set_phase(sprint, phase_of(&state));
         self.filters.see_sprint(
             sprint,
@@ -255,21 +254,6 @@ fn share_at(issues: &Issues, work: &Work, place: usize) -> Share
         result ≡ share_now work.now.seen i.history) }
 {
     work.share(issues.at(place))
-}
-
-// Starts or closes a sprint, which comes to this state.
-fn turn(work: &mut Work, sprint: SprintNo, state: &SprintState, at: Moment, change: u64)
-    requires there { IsThere work.old.seen.sprints sprint.0 }
-    requires change { change ≡ work.old.seen.change }
-    requires next { IsNextState at change (state_in work.old.seen.sprints sprint.0) state.now }
-    ensures { work.new.seen ≡ with_state work.old.seen sprint.0 state.now }
-{
-    let turned = match *state {
-        SprintState::Future => unreachable!(),
-        SprintState::Active { .. } => work.start(sprint, at, change),
-        SprintState::Closed { .. } => work.close(sprint, at, change),
-    };
-    let Ok(()) = turned else { unreachable!() };
 }
 
 /// How far a sprint of this state is.

@@ -1,26 +1,26 @@
--- What the answer to a new sprint, to a start or to a close says of the sprints.
-use Rattle.std.proofs.Common.{◌≡◌, ℕ, zero, suc, ◌-◌, ◌<◌, ◌≤◌, ◌==◌, Bool, true, false, List, [], ◌∷◌, length, Option, Some, None, Result, Ok, Err, IsOk, IfErr, ◌↔◌, IfSome, option_map, slice_get, if◌then◌else◌, refl, sym, ap, subst, arith}
+-- What the answer to a new sprint says, and from which state a sprint came to its next one.
+use Rattle.std.proofs.Common.{inl, inr, ◌≡◌, ℕ, zero, suc, ◌-◌, ◌<◌, ◌≤◌, ◌==◌, Bool, true, false, List, [], ◌∷◌, length, Option, Some, None, IfSome, Result, Ok, Err, IsOk, IfErr, OnErr, ◌↔◌, option_map, unwrap_or, slice_get, if◌then◌else◌, refl, sym, ◌∙◌, ap, arith}
+use Rattle.std.specs.Prelude.{slice_set}
+use Rattle.std.specs.Option.{option_map_or}
 use Rattle.std.proofs.lemmas.Bool.{eqb-true, false≢true}
+use Rattle.std.proofs.lemmas.Option.{none-some, same_Some}
 use Rattle.field_values.specs.declared.numbers.SprintNo.{SprintNo}
 use Rattle.tracker_limits.specs.Limits.{most_sprints}
 use Rattle.sprints.specs.declared.sprint.Sprint.{Sprint}
 use Rattle.sprints.specs.declared.state.SprintState.{SprintState}
 use Rattle.sprints.specs.declared.state.SprintState.TheVariants.{Future, Active, Closed}
 use Rattle.sprints.specs.declared.state.SprintFault.{SprintFault}
-use Rattle.sprints.specs.declared.state.SprintFault.TheVariants.{Full, StateIs, Memory}
-use Rattle.sprints.specs.State.{after_start, after_close}
-use Rattle.sprints.specs.Sprint.{IsThere, state_of}
-use Rattle.sprints.specs.Change.{IsWantOfRoom, IsInState, Changes}
-
-ok_err : (fault : SprintFault) → ◌≡◌ {A = Result (Unit {0}) SprintFault} (Ok tt) (Err fault) → ⊥
-ok_err fault e = cc
+use Rattle.sprints.specs.declared.state.SprintFault.TheVariants.{Full, Memory}
+use Rattle.sprints.specs.State.{IsNextState}
+use Rattle.sprints.specs.Change.{IsInState}
+use Rattle.sprints.specs.Sprint.{IsThere, sprint_of, state_of}
+use Rattle.tracker_work.specs.Seen.{Seen, state_in, with_state}
 
 -- a new sprint for which there is room is refused only where there are 1,000
 pub only_full : (n : ℕ) (result : Result SprintNo SprintFault) (P : Type 0) → n ≤ most_sprints → (result ≡ Err Full) ↔ (n ≡ most_sprints) → (n < most_sprints → IsOk result) →
-    IfErr result (λ fault. IsWantOfRoom fault × P) → IfErr result (λ fault. (fault ≡ Full) × P)
+    OnErr result P → IfErr result (λ fault. (fault ≡ Full) × P)
 only_full n (Ok sprint) P most full room refused = tt
-only_full n (Err Full) P most full room refused = (refl, refused.1)
-only_full n (Err (StateIs kept)) P most full room refused = absurd refused.0
+only_full n (Err Full) P most full room refused = (refl, refused)
 only_full n (Err Memory) P most full room refused =
     let few : n < most_sprints = omega (arith, most, λ (all : n ≡ most_sprints). not_full (full.1 all)) in
     absurd (false≢true (room few))
@@ -43,41 +43,50 @@ state_there sprints s there = by (s == 0) refl
         let found = got sprints (s - 1) (omega (arith, there.0, there.1)) in
         (found.0.state, ap (option_map (λ (x : Sprint). x.state)) found.1)
 
-module _ (old new : List Sprint) (s : ℕ) (there : IsThere old s) where
-  abbrev Answers : Result (Unit {0}) SprintFault → (SprintState → Option SprintState) → SprintState → Type 0
-  Answers result next kept = Changes old new s kept (next kept) result
+-- and the one that is kept of it
+pub state_kept : (sprints : List Sprint) (s : ℕ) → IsThere sprints s → state_of sprints s ≡ Some (state_in sprints s)
+state_kept sprints s there =
+    let found = state_there sprints s there in
+    found.1 ∙ ap (λ o. Some (unwrap_or o Future)) (sym found.1)
 
-  found : (kept : SprintState) × (state_of old s ≡ Some kept)
-  found = state_there old s there
+-- and with it in another one, the others as they are
+pub stated : (seen : Seen) (new : List Sprint) (s : ℕ) (state : SprintState) → IsThere seen.sprints s → IsInState seen.sprints new s state → record seen { sprints = new } ≡ with_state seen s state
+stated seen new s state there is = by (sprint_of seen.sprints s) (state_there seen.sprints s there).1 is
+  where
+    by : (o : Option Sprint) → option_map (λ (x : Sprint). x.state) o ≡ Some (state_there seen.sprints s there).0
+        → IfSome o (λ x. new ≡ slice_set seen.sprints (s - 1) (record x { state = state }))
+        → record seen { sprints = new } ≡ option_map_or (λ x. record seen { sprints = slice_set seen.sprints (s - 1) (record x { state = state }) }) o seen
+    by None found is = absurd (none-some (state_there seen.sprints s there).0 found)
+    by (Some x) found is = ap (λ (ss : List Sprint). record seen { sprints = ss }) is
 
-  of_kept : (result : Result (Unit {0}) SprintFault) (next : SprintState → Option SprintState) → IfSome (state_of old s) (Answers result next) → Answers result next found.0
-  of_kept result next answers = subst (λ o. IfSome o (Answers result next)) found.1 answers
+-- ---- the next state
 
-  -- where it is refused, nothing changes
-  pub stays : (next : SprintState → Option SprintState) (fault : SprintFault) → IfSome (state_of old s) (λ kept. Changes old new s kept (next kept) (Err fault)) → new ≡ old
-  stays next fault answers = by (next found.0) (of_kept (Err fault) next answers)
-    where
-      by : (after : Option SprintState) → Changes old new s found.0 after (Err fault) → new ≡ old
-      by None changes = changes.1
-      by (Some state) changes = absurd (ok_err fault (sym changes.0))
+abbrev number_of : SprintState → ℕ
+number_of Future = 0
+number_of (Active at change) = change
+number_of (Closed start_at start_change at change) = change
 
-  -- where it isn't, a start was of a future sprint
-  pub starts : (at change : ℕ) → IfSome (state_of old s) (λ kept. Changes old new s kept (after_start kept at change) (Ok tt)) →
-      (state_of old s ≡ Some Future) × IsInState old new s (Active at change)
-  starts at change answers = by found.0 found.1 (of_kept (Ok tt) (λ kept. after_start kept at change) answers)
-    where
-      by : (kept : SprintState) → state_of old s ≡ Some kept → Changes old new s kept (after_start kept at change) (Ok tt) → (state_of old s ≡ Some Future) × IsInState old new s (Active at change)
-      by Future is changes = (is, changes.1)
-      by (Active start_at start_change) is changes = absurd (ok_err _ changes.0)
-      by (Closed start_at start_change end_at end_change) is changes = absurd (ok_err _ changes.0)
+abbrev start_of : SprintState → SprintState
+start_of (Closed start_at start_change at change) = Active start_at start_change
+start_of state = state
 
-  -- and a close of an active one
-  pub closes : (at change : ℕ) → IfSome (state_of old s) (λ kept. Changes old new s kept (after_close kept at change) (Ok tt)) →
-      (start_at : ℕ) × (start_change : ℕ) × (state_of old s ≡ Some (Active start_at start_change)) × IsInState old new s (Closed start_at start_change at change)
-  closes at change answers = by found.0 found.1 (of_kept (Ok tt) (λ kept. after_close kept at change) answers)
-    where
-      by : (kept : SprintState) → state_of old s ≡ Some kept → Changes old new s kept (after_close kept at change) (Ok tt) →
-          (start_at : ℕ) × (start_change : ℕ) × (state_of old s ≡ Some (Active start_at start_change)) × IsInState old new s (Closed start_at start_change at change)
-      by Future is changes = absurd (ok_err _ changes.0)
-      by (Active start_at start_change) is changes = (start_at, start_change, is, changes.1)
-      by (Closed start_at start_change end_at end_change) is changes = absurd (ok_err _ changes.0)
+-- one that is active has started now, and was future
+pub starts : (at change moment number : ℕ) (kept : SprintState) → IsNextState at change kept (Active moment number) → (kept ≡ Future) × (change ≡ number)
+starts at change moment number Future (inl is) = (refl, ap number_of (same_Some (Active at change) (Active moment number) is))
+starts at change moment number Future (inr is) = absurd (none-some (Active moment number) is)
+starts at change moment number (Active start other) (inl is) = absurd (none-some (Active moment number) is)
+starts at change moment number (Active start other) (inr is) = absurd (cc)
+starts at change moment number (Closed start_at start_number end other) (inl is) = absurd (none-some (Active moment number) is)
+starts at change moment number (Closed start_at start_number end other) (inr is) = absurd (none-some (Active moment number) is)
+
+-- one that is closed is so from now on, and had started as it still tells
+pub closes : (at change start_at start_change moment number : ℕ) (kept : SprintState) → IsNextState at change kept (Closed start_at start_change moment number) →
+    (kept ≡ Active start_at start_change) × (change ≡ number)
+closes at change start_at start_change moment number Future (inl is) = absurd (cc)
+closes at change start_at start_change moment number Future (inr is) = absurd (cc)
+closes at change start_at start_change moment number (Active start other) (inl is) = absurd (cc)
+closes at change start_at start_change moment number (Active start other) (inr is) =
+    let same = same_Some (Closed start other at change) (Closed start_at start_change moment number) is in
+    (ap start_of same, ap number_of same)
+closes at change start_at start_change moment number (Closed start begun end other) (inl is) = absurd (cc)
+closes at change start_at start_change moment number (Closed start begun end other) (inr is) = absurd (cc)

@@ -1,13 +1,10 @@
 -- The burndown of all sprints, beside what was seen.
-use Rattle.std.specs.Prelude.{◌≡◌, ◌≤◌, ◌<◌, ◌+◌, ℕ, List, [], ◌∷◌, ◌++◌, length, slice_get, slice_set, Option, Some, None, Result, Ok, Err, IfSome}
+use Rattle.std.specs.Prelude.{◌≡◌, ◌≤◌, ◌<◌, ◌+◌, ℕ, List, [], ◌∷◌, ◌++◌, length, slice_get, slice_set, Option, Some, IfSome}
 use Rattle.field_values.specs.declared.numbers.SprintNo.{SprintNo}
 use Rattle.field_values.specs.declared.numbers.UserNo.{UserNo}
 use Rattle.tracker_limits.specs.Limits.{most_issues}
 use Rattle.change_history.specs.declared.entry.Entry.{Entry}
 use Rattle.change_history.specs.History.{History, MayAdd}
-use Rattle.sprints.specs.declared.state.SprintState.{SprintState}
-use Rattle.sprints.specs.declared.state.SprintFault.{SprintFault}
-use Rattle.sprints.specs.declared.state.SprintFault.TheVariants.{StateIs}
 use Rattle.sprints.specs.Sprint.{IsThere}
 use Rattle.burndown.specs.declared.share.Share.{Share}
 use Rattle.burndown.specs.declared.group.Group.{Group}
@@ -17,7 +14,7 @@ use Rattle.burndown.specs.Burndown.{IsReserved, HasRoom, FitsAfter, TellsGroup, 
 use Rattle.burndown.specs.Chart.{IsBurndownOf}
 use Rattle.burndown.specs.Told.{HaveNumbersUpTo, AreFew, ArePoints, HavePoints}
 use Rattle.burndown.specs.ChartLaws.{with_entries}
-use Rattle.tracker_work.specs.Seen.{Seen, reading_of, share_now, state_in, with_state, with_histories}
+use Rattle.tracker_work.specs.Seen.{Seen, reading_of, share_now, state_in, with_histories}
 
 -- what was seen, how many sprints there is room for, and what is kept of each sprint, with the room for its rows
 pub record TrackedWork : Type 0 where
@@ -56,14 +53,6 @@ pub record HasRoomForSprint (w : TrackedWork) : Type 0 where
 -- there is room for a row of this sprint, if it is one
 abbrev pub HasRoomFor : TrackedWork → Option SprintNo → Type 0
 HasRoomFor w sprint = IfSome sprint (λ s. HasRoom w.burndown s.0)
-
--- ---- starts and closes
-
--- a sprint of this state goes to the next one, where there is one; else its state is the fault, and nothing changes
-abbrev pub Moves : Seen → Seen → ℕ → SprintState → Option SprintState
-    → Result (Unit {0}) SprintFault → Type 0
-Moves old new s kept (Some next) result = (result ≡ Ok tt) × (new ≡ with_state old s next)
-Moves old new s kept None result = (result ≡ Err (StateIs kept)) × (new ≡ old)
 
 -- ---- change groups
 

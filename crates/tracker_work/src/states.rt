@@ -1,15 +1,15 @@
-//! Sprints that are made, start and close.
-ghost use Rattle.std.specs.Prelude.{◌≡◌, ◌+◌, ◌↔◌, length, IfOk, IfErr, OnErr, IfSome, Err};
+//! Sprints that are made, start and are closed.
+ghost use Rattle.std.specs.Prelude.{◌≡◌, ◌+◌, ◌↔◌, ℕ, length, IfOk, IfErr, Err};
 ghost use Rattle.tracker_limits.specs.Limits.{most_sprints};
-ghost use Rattle.sprints.specs.Sprint.{IsThere, state_of};
-ghost use Rattle.sprints.specs.State.{after_start, after_close};
-ghost use Rattle.tracker_work.specs.Seen.{with_sprint};
-ghost use Rattle.tracker_work.specs.Work.{HasRoomForSprint, HasSameRoom, Moves};
+ghost use Rattle.sprints.specs.Sprint.{IsThere};
+ghost use Rattle.sprints.specs.State.{IsNextState};
+ghost use Rattle.tracker_work.specs.Seen.{state_in, with_sprint, with_state};
+ghost use Rattle.tracker_work.specs.Work.{HasRoomForSprint, HasSameRoom};
 
 use crate::work::Work;
 use burndown::laws::steps_of_histories;
-use field_values::{Moment, SprintNo, Text};
-use sprints::SprintFault;
+use field_values::{SprintNo, Text};
+use sprints::{SprintFault, SprintState};
 
 impl Work {
     /// Makes a future sprint of this name, with the next number. `Full` comes exactly at 1,000 sprints, and there is no other fault.
@@ -31,43 +31,20 @@ impl Work {
         self.sprints.create(name)
     }
 
-    /// Starts a future sprint, after the last change group. `StateIs` comes exactly where it isn't future, with its state, and then all
-    /// is as before. It takes no memory.
-    pub fn start(&mut self, sprint: SprintNo, at: Moment, change: u64) -> Result<(), SprintFault>
+    /// Has a sprint come to the state that follows on its own, after the last change group. It takes no memory.
+    pub fn turn(&mut self, sprint: SprintNo, state: SprintState)
         requires there { IsThere self.old.seen.sprints sprint.0 }
-        requires change { change ≡ self.old.seen.change }
-        ensures changed { IfSome (state_of self.old.seen.sprints sprint.0) (λ kept.
-            Moves self.old.seen self.new.seen sprint.0 kept (after_start kept at change) result) }
+        requires next { (at : ℕ) × IsNextState at self.old.seen.change
+            (state_in self.old.seen.sprints sprint.0) state }
+        ensures turned { self.new.seen ≡ with_state self.old.seen sprint.0 state }
         ensures room { HasSameRoom self.old self.new }
-        ensures refused { OnErr result (self.new ≡ self.old) }
     {
         steps_of_histories();
-        match self.sprints.start(sprint, at, change) {
-            Ok(()) => {
-                self.burndown.begin(sprint);
-                Ok(())
-            }
-            Err(fault) => Err(fault),
-        }
-    }
-
-    /// Closes an active sprint, after the last change group. `StateIs` comes exactly where it isn't active, with its state, and then all
-    /// is as before. It takes no memory.
-    pub fn close(&mut self, sprint: SprintNo, at: Moment, change: u64) -> Result<(), SprintFault>
-        requires there { IsThere self.old.seen.sprints sprint.0 }
-        requires change { change ≡ self.old.seen.change }
-        ensures changed { IfSome (state_of self.old.seen.sprints sprint.0) (λ kept.
-            Moves self.old.seen self.new.seen sprint.0 kept (after_close kept at change) result) }
-        ensures room { HasSameRoom self.old self.new }
-        ensures refused { OnErr result (self.new ≡ self.old) }
-    {
-        steps_of_histories();
-        match self.sprints.close(sprint, at, change) {
-            Ok(()) => {
-                self.burndown.end(sprint);
-                Ok(())
-            }
-            Err(fault) => Err(fault),
+        self.sprints.turn(sprint, state);
+        match &state {
+            SprintState::Future => unreachable!(),
+            SprintState::Active { .. } => self.burndown.begin(sprint),
+            SprintState::Closed { .. } => self.burndown.end(sprint),
         }
     }
 }

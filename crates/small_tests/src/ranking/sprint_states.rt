@@ -43,37 +43,27 @@ const ROWS: [(bool, u64, u64, bool, Phase); 6] = [
     (STARTS, 9, 9, false, Phase::Closed),
 ];
 
-/// The answer to a start or a close of the first sprint. `None` where it isn't there.
-fn moved(
-    sprints: &mut Sprints,
-    starts: bool,
-    seconds: u64,
-    change: u64,
-) -> Option<Result<(), SprintFault>> {
+/// Has the first sprint start or close where its state allows that, and tells whether it did. `None` where it isn't there.
+fn moved(sprints: &mut Sprints, starts: bool, seconds: u64, change: u64) -> Option<bool> {
     let at = Moment::new(seconds)?;
     let sprint = SprintNo(1);
-    if sprints.state(sprint).is_none() {
-        return None;
-    }
-    if starts {
-        return Some(sprints.start(sprint, at, change));
-    }
-    Some(sprints.close(sprint, at, change))
-}
-
-fn answer_of(is_allowed: bool, state: &SprintState) -> Result<(), SprintFault> {
-    if is_allowed {
-        Ok(())
+    let kept = sprints.state(sprint)?;
+    let next = if starts {
+        kept.after_start(at, change)
     } else {
-        Err(SprintFault::StateIs(*state))
-    }
+        kept.after_close(at, change)
+    };
+    let Some(next) = next else {
+        return Some(false);
+    };
+    sprints.turn(sprint, next);
+    Some(true)
 }
 
 fn follow(sprints: &mut Sprints) -> Option<()> {
     for &(starts, seconds, change, is_allowed, phase) in &ROWS {
         let state = state_in(phase)?;
-        let answer = moved(sprints, starts, seconds, change)?;
-        is(answer == answer_of(is_allowed, &state))?;
+        is(moved(sprints, starts, seconds, change)? == is_allowed)?;
         is(sprints.state(SprintNo(1)) == Some(state))?;
         is(sprints.state(SprintNo(2)) == Some(SprintState::Future))?;
     }

@@ -1,18 +1,22 @@
-use Rattle.std.proofs.Common.{◌≡◌, ℕ, Some, ap, ap₂, sym, ◌∙◌, subst}
-use Rattle.sprints.specs.declared.state.SprintState.{SprintState}
-use Rattle.sprints.specs.declared.state.SprintState.TheVariants.{Future, Active}
-use Rattle.sprints.specs.Sprint.{state_of}
+use Rattle.std.proofs.Common.{ℕ, ap, ap₂, sym, ◌∙◌, subst}
+use Rattle.sprints.specs.State.{after_start}
 use Rattle.tracker_machine.specs.Meaning.{Meaning}
 use Rattle.tracker_machine.specs.Sprints.{turned}
 use Rattle.tracker_state.specs.Plan.{IsPrepared}
-use Rattle.setting_calls.proofs.Means.{start_turns}
+use Rattle.setting_calls.proofs.Means.{start_turns, may_start}
 use Rattle.setting_calls.proofs.turn_sprint.start_sprint.Goals as goal
 
-pub returns-in-Future : goal.returns-in-Future
-returns-in-Future c =
+pub turn-requires-clause-may : goal.turn-requires-clause-may
+turn-requires-clause-may c =
+    let kept = c.in_ok-found.found.state in
+    may_start c.args.state.now.machine c.args.sprint kept c.after_start-next.result c.in_ok-found.ensures.kept
+    (c.after_start-next.ensures ∙ ap₂ (λ (at change : ℕ). after_start kept at change) c.moment.ensures c.change.ensures)
+
+pub returns : goal.returns
+returns c =
     let m = c.args.state.now.machine in
-    let kept : state_of m.sprints c.args.sprint.0 ≡ Some Future = c.in_ok-found.ensures.kept ∙ ap (λ (s : SprintState). Some s) c.in-Future.is in
+    let kept = c.in_ok-found.found.state in
     subst (λ (meant : Meaning). IsPrepared meant c.args.state.now c.turn.result)
-    (ap₂ (λ (at change : ℕ). turned c.args.sprint Future (Some (Active at change))) c.moment.ensures c.change.ensures
-    ∙ sym (start_turns m c.args.caller.0 c.args.sprint Future kept c.in_ok-found.ensures.check))
-    (c.turn.ensures Future)
+    (ap (turned c.args.sprint kept) (c.after_start-next.ensures ∙ ap₂ (λ (at change : ℕ). after_start kept at change) c.moment.ensures c.change.ensures)
+    ∙ sym (start_turns m c.args.caller.0 c.args.sprint kept c.in_ok-found.ensures.kept c.in_ok-found.ensures.check))
+    c.turn.ensures

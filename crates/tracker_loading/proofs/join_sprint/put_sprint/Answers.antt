@@ -9,6 +9,6 @@ pub returns : goal.returns
 returns c =
     let front = c.args.sprints.now.sprints in
     let sprint = c.args.sprint in
-    let new = c.bring_to.new.sprints.sprints in
+    let new = c.turn.new.self.sprints in
     last_turned front new (future sprint.name) c.in-Ok.no.0 sprint.state c.in-Ok.ensures.created.0
-    (subst (λ (ss : List Sprint). IsInState ss new c.in-Ok.no.0 sprint.state) c.in-Ok.ensures.created.1 c.bring_to.ensures)
+    (subst (λ (ss : List Sprint). IsInState ss new c.in-Ok.no.0 sprint.state) c.in-Ok.ensures.created.1 c.turn.ensures.turned)

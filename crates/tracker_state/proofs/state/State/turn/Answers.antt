@@ -5,7 +5,8 @@ use Rattle.jql_meaning.specs.Surroundings.{Surroundings, surroundings_of}
 use Rattle.jql_meaning.specs.Sprints.{DifferInOneSprint}
 use Rattle.fields.specs.SetupParts.{parts}
 use Rattle.tracker_filters.specs.Sprint.{AreNumbered, HoldOneSprint}
-use Rattle.tracker_work.specs.Seen.{Seen}
+use Rattle.sprints.specs.State.{IsNextState}
+use Rattle.tracker_work.specs.Seen.{Seen, state_in}
 use Rattle.tracker_machine.specs.Machine.{Machine}
 use Rattle.tracker_machine.specs.Effect.{applied, IsAllowed, with_state}
 use Rattle.tracker_machine.specs.Effect.Effect.{NewState}
@@ -18,6 +19,15 @@ use Rattle.tracker_state.specs.contracts.state.State.{the_view}
 use Rattle.tracker_state.proofs.Sprinting.{around_turned, one_sprint_held, are_numbered, same_state}
 use Rattle.tracker_state.proofs.States.{state_planned}
 use Rattle.tracker_state.proofs.state.State.turn.Goals as goal
+
+pub turn-requires-clause-next : goal.turn-requires-clause-next
+unfolding IsAllowed
+turn-requires-clause-next g c =
+    let m : Machine = (the_view c.self.inside).machine in
+    let sprint = c.args.sprint in
+    let state = c.args.state in
+    let may : MayTurn m.moment m.change m.sprints sprint state = subst (λ (h : Held). MayTurn h.machine.moment h.machine.change h.machine.sprints sprint state) (sym c.self.view_is) c.requires in
+    (m.moment, subst (λ (seen : Seen). IsNextState m.moment seen.change (state_in seen.sprints sprint.0) state) (sym c.self.invariant.worked) may.next)
 
 pub see_sprint-requires-clause-differ : goal.see_sprint-requires-clause-differ
 unfolding IsAllowed
@@ -57,7 +67,7 @@ invariant_of-self g c =
     let is = c.self.invariant in
     let seen = c.see_sprint.new.self in
     let saw = c.see_sprint.ensures in
-    let work = c.turn.new.work in
+    let work = c.turn.new.self in
     let context = c.set_phase.new.self.context in
     let may : MayTurn m.moment m.change m.sprints sprint state = subst (λ (h : Held). MayTurn h.machine.moment h.machine.change h.machine.sprints sprint state) (sym c.self.view_is) c.requires in
     let around : surroundings_of context ≡ surroundings_in m.setup (in_state m.sprints sprint.0 state) =
@@ -65,7 +75,7 @@ invariant_of-self g c =
     ∙ ap (λ (s : Surroundings). record s { sprints = set s.sprints (sprint.0 - 1) c.phase_of.result }) is.around
     ∙ ap (λ (p : Phase). record (surroundings_in m.setup m.sprints) { sprints = set (surroundings_in m.setup m.sprints).sprints (sprint.0 - 1) p }) c.phase_of.ensures
     ∙ around_turned m.setup m.sprints sprint.0 state may.there in
-    let tells : work.seen ≡ record s.work.seen { sprints = in_state m.sprints sprint.0 state } = c.turn.ensures ∙ same_state s.work.seen sprint.0 state in
+    let tells : work.seen ≡ record s.work.seen { sprints = in_state m.sprints sprint.0 state } = c.turn.ensures.turned ∙ same_state s.work.seen sprint.0 state in
     let sprints = ap (λ (t : Seen). t.sprints) tells in
     let next : machine_of c.set_phase.new.self.setup s.moment s.change s.issues s.externals s.ranks seen s.boards work ≡ with_state m sprint state =
     λ i. record m { text = (c.set_phase.ensures.setup i).text; setup = parts (c.set_phase.ensures.setup i); sprints = sprints i; filters = saved_filters (saw.filters i) } in
