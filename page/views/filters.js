@@ -21,11 +21,14 @@ export function filtersSide({ use, now, signal }) {
     list,
   );
   let filters = [];
+  let drawn = '';
   const counts = new Map();
 
   async function load() {
     ({ filters } = await ask('filters', {}, { signal }));
-    draw();
+    const told = JSON.stringify(filters);
+    if (told !== drawn) draw();
+    drawn = told;
     await count();
   }
 
@@ -33,6 +36,7 @@ export function filtersSide({ use, now, signal }) {
     if (!element.open) return;
     for (const filter of filters) {
       const { total } = await ask('filter', { filter: filter.filter, count: 1 }, { signal });
+      if (counts.get(filter.filter) === total) continue;
       counts.set(filter.filter, total);
       const place = list.querySelector(`[data-filter="${filter.filter}"] .count`);
       if (place) refill(place, numberText(total), h('span', { class: 'unseen' }, ' issues'));
