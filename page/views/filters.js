@@ -16,7 +16,7 @@ const changes = new EventTarget();
 /** The saved filters, folded in a narrow window. `use(jql)` looks for one's issues; `now()` is the query that is shown. */
 export function filtersSide({ use, now, signal }) {
   const list = h('ul', { class: 'filters' });
-  const element = h('details', { class: 'side', open: window.innerWidth > 1000 },
+  const element = h('details', { class: 'side', open: window.innerWidth > 1100 },
     h('summary', {}, icon('down'), 'Saved filters'),
     list,
   );
