@@ -7,11 +7,13 @@ PROGRAM is the built tracker, as crates/tracker/out/tracker. One file is made by
 checks/bad_rows.py. Each case is a copy of it, to which `amend` gives a setup whose text is that one with some pieces changed. Where it ends
 with status 0, the rows of the setup and of groups have to be those that stand beside the case, all others as before, and every issue has to
 tell the same to `show` and `history` and to be found by new names; in all other cases the text that was written has to be that beside the
-case, and all rows as before. Then come a store without rows, rows of the first format, inputs that are too long, and words behind the word.
+case, and all rows as before. Then come a store without rows, rows of the first format, inputs that are too long, words behind the word, and
+texts that are no setups, of each of which a line or a table is told on standard error, or nothing.
 Each difference is told, and the status is 1. The last line counts the cases.
 """
 import contextlib
 import datetime
+import itertools
 import json
 import os
 import pathlib
@@ -128,6 +130,24 @@ def refused():
     yield 'too long', '#' * 1_048_577, 7, 'limit input\n'
 
 
+def placed():
+    """What is shown, a text that is no setup, its fault, and what is written on standard error."""
+    lines = SETUP.split('\n')
+    yield 'no TOML in line 7', '\n'.join([*lines[:6], '=', *lines[6:]]), 'setup 1\n', 'line 7\n'
+    yield 'no UTF-8 in line 3', '\n'.join([*lines[:2], '# \udcff', *lines[2:]]), 'setup 1\n', 'line 3\n'
+    yield 'a text cut off', SETUP[:SETUP.index('"cy"')], 'setup 1\n', 'line 4\n'
+    yield 'the second project', swapped(('key = "WEB", lead = "bo", ', 'key = "WEB", ')), 'setup 2 lead\n', 'project 2\n'
+    yield 'the third group', swapped(('name = "guests", members = ["cy"]', 'name = "guests"')), 'setup 2 members\n', 'group 3\n'
+    yield 'a transition from nowhere', swapped(('from = ["In Progress"]', 'from = []')), 'setup 2 from\n', 'transition 2\n'
+    yield 'a choice without options', swapped((', options = ["North", "South"]', '')), 'setup 2 options\n', 'field 1\n'
+    yield 'a wrong type', swapped(('key = "WEB"', 'key = 5')), 'setup 6 key\n', ''
+    yield 'a key of the top table', swapped(('week_starts = "monday"\n', '')), 'setup 2 week_starts\n', ''
+    yield 'an empty text', '', 'setup 2 utc_offset_minutes\n', ''
+    yield 'a setup', SETUP, '', ''
+    yield 'a text past the limit', '#' * 1_048_577, 'limit input\n', ''
+    yield 'no TOML behind a line as long as may be', '#' * 1_048_574 + '\n=', 'setup 1\n', 'line 2\n'
+
+
 class Cases:
     def __init__(self, program, room):
         self.program, self.room, self.count, self.wrong = program, room, 0, 0
@@ -167,6 +187,15 @@ class Cases:
         self.compare(about, run(self.program, store, 'amend', text.encode()), (status, written))
         self.compare(f'{about}: rows', rows_of(store), self.rows)
         self.compare(f'{about}: issues', told(self.program, store), self.told)
+
+    def placed(self, about, text, written, place):
+        """By both words, over a file and in memory: each has its status as it is told by what is written."""
+        self.count += 1
+        given = text.encode(errors='surrogateescape')
+        status = {'': 0, 'limit input\n': 7}.get(written, 8)
+        for word, store in itertools.product(('init', 'amend'), (':memory:', None)):
+            ran = subprocess.run([self.program, store or f'{self.room}/{self.count}-{word}.db', word], input=given, capture_output=True)
+            self.compare(f'{about}: {word}', (ran.returncode, ran.stdout.decode(), ran.stderr.decode()), (status, written, place))
 
     def filters(self):
         """A filter that asks for what is gone, though no issue has it."""
@@ -219,6 +248,8 @@ def main():
             cases.good(*it)
         for it in refused():
             cases.refused(*it)
+        for it in placed():
+            cases.placed(*it)
         cases.filters()
         cases.first_format()
         cases.others()

@@ -23,7 +23,8 @@ have these forms:
   text.
 - A table with the columns `Instead of`, `Stands` and `Fault`: a part of the text of docs/NEW-TRACKER.md, what stands there
   instead (`;` ends a line, ` & ` stands before a second change), and the fault that `TRACKER :memory: init` tells of the changed
-  text, or `none`. The text itself is compared with the one that a new file keeps.
+  text, or `none`; in a column `Place` what it writes on standard error, if anything. The text itself is compared with the one that a
+  new file keeps.
 
 In tables other columns are for the reader, one pair of backticks round a cell is dropped, and `\\|` is `|`. Each example that
 differs is told with its place, what the page prints (-) and what came (+). The last line counts them. The status is 1 where one
@@ -85,23 +86,23 @@ class SetUpRun(Run):
 
 
 class Faults:
-    """Changes of a new tracker's setup, each with the fault that the page prints."""
+    """Changes of a new tracker's setup, each with the fault that the page prints, and its place where it has one."""
 
     def __init__(self, tracker):
         self.tracker, self.lines = tracker, []
 
     def play(self, told):
-        for place, changes, wanted in self.lines:
+        for place, changes, *wanted in self.lines:
             text = new_setup()
             for change in changes.split(' & '):
                 part, _, new = change.partition(' | ')
                 if part.replace(';', '\n') not in text:
-                    told(place, changes, [wanted], [f'no {part}'])
+                    told(place, changes, wanted, [f'no {part}'])
                     break
                 text = text.replace(part.replace(';', '\n'), new.replace(';', '\n'))
             else:
                 came = output([self.tracker, ':memory:', 'init'], text).strip()
-                told(place, changes, [wanted], [came.removeprefix('setup ') or 'none'])
+                told(place, changes, wanted, (came.removeprefix('setup ') or 'none').split('\n'))
 
 
 def new_setup():
@@ -230,7 +231,8 @@ class Page:
         elif head == 'Text' and fault:
             self.checks.lines.append((place, row['Text'], f'fault {row["Place"]} {row["Kind"]}'))
         elif head == 'Instead of' and 'Stands' in row and 'Fault' in row:
-            self.faults.lines.append((place, f'{row["Instead of"]} | {row["Stands"]}', row['Fault']))
+            places = [row['Place']] if row.get('Place') else []
+            self.faults.lines.append((place, f'{row["Instead of"]} | {row["Stands"]}', row['Fault'], *places))
 
     def play(self, told):
         for place, command, wanted in self.commands:

@@ -1,3 +1,3 @@
-mod Fitting
+pub mod Fitting
 mod Listing
 mod Prepared

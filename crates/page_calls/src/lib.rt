@@ -7,4 +7,4 @@ pub mod describe;
 pub mod filter_list;
 pub mod issue_list;
 pub mod sprint_list;
-mod wanted;
+pub mod wanted;

@@ -11,7 +11,7 @@ use tracker_calls::{Refusal, Thing};
 use tracker_state::unknown;
 
 /// Those of the tracker's fields that are named, or all where none are, each once.
-pub(crate) fn wanted_fields(
+pub fn wanted_fields(
     alloc: Global,
     setup: &Setup,
     names: &Option<Names>,

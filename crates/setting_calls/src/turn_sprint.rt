@@ -29,7 +29,7 @@ pub fn start_sprint(
 {
     let found = sprint_to_plan(alloc, state, caller, sprint)?;
     let next = found.state.after_start(state.moment(), state.change());
-    turn(alloc, state, sprint, found, next)
+    turn(alloc, state, sprint, found.name, found.state, next)
 }
 
 /// Prepares that the sprint is closed now, or says why not.
@@ -43,7 +43,7 @@ pub fn close_sprint(
 {
     let found = sprint_to_plan(alloc, state, caller, sprint)?;
     let next = found.state.after_close(state.moment(), state.change());
-    turn(alloc, state, sprint, found, next)
+    turn(alloc, state, sprint, found.name, found.state, next)
 }
 
 /// The sprint of that number, where the caller may plan.
@@ -75,23 +75,24 @@ pub fn phase_of(state: &SprintState) -> SprintPhase
     }
 }
 
-// The sprint comes to its next state, where it has one.
+// The sprint of this name and state comes to its next state, where it has one.
 fn turn(
     alloc: Global,
     state: &State,
     sprint: SprintNo,
-    found: FoundSprint<'_>,
+    name: &str,
+    kept: SprintState,
     next: Option<SprintState>,
 ) -> Result<Prepared, Refusal>
-    requires named { name_of state.now.machine.sprints sprint.0 ≡ Some found.name.now }
+    requires named { name_of state.now.machine.sprints sprint.0 ≡ Some name.now }
     requires may { IfSome next (MayTurn state.now.machine.moment state.now.machine.change
         state.now.machine.sprints sprint) }
-    ensures { IsPrepared (turned sprint found.entry.state next) state.now result }
+    ensures { IsPrepared (turned sprint kept next) state.now result }
 {
     match next {
-        Some(next) => turn_to(alloc, state, sprint, found.name, next),
+        Some(next) => turn_to(alloc, state, sprint, name, next),
         None => Err(Refusal::Cause(Cause::SprintIs {
-            state: phase_of(&found.state),
+            state: phase_of(&kept),
         })),
     }
 }

@@ -7,7 +7,9 @@ use file_ends::Ended;
 use file_runs::{end_run, run_over_files};
 use keeper_told::open_told;
 use request_lines::{Sink, Source};
+use setup_places::{Keeping, help_on};
 use sqlite::{Error, ErrorCode, FileFrom, Unknown};
+use status_texts::SETUP_LIMIT;
 use std::alloc::Global;
 use std::net::{Net, TcpListener, TcpStream};
 use std::process::ExitCode;
@@ -27,6 +29,9 @@ const NO_STORE: u8 = 4;
 
 /// There was not enough memory.
 const NO_MEMORY: u8 = 6;
+
+/// The input is no setup.
+const NO_SETUP: u8 = 8;
 
 fn main(rt: HostRuntime) -> ExitCode {
     let alloc = rt.alloc();
@@ -74,7 +79,7 @@ fn in_memory(rt: &HostRuntime, words: &[String]) -> u8 {
     let Ok(keeper) = MemoryKeeper::new(rt.alloc(), &[], Vec::new(rt.alloc())) else {
         return NO_MEMORY;
     };
-    let mut input = Reading::new(rt.reader());
+    let mut input = Keeping::new(rt.alloc(), Reading::new(rt.reader()), to_keep(words));
     let mut out = Writing::new(io::writer(rt));
     let (status, keeper) = if is_backup(words) {
         back_up(rt.alloc(), words, &mut input, &mut out, keeper)
@@ -84,6 +89,7 @@ fn in_memory(rt: &HostRuntime, words: &[String]) -> u8 {
         run(rt.alloc(), words, &mut input, &mut out, keeper)
     };
     mem::forget(keeper);
+    help(rt, status, &input);
     status
 }
 
@@ -95,11 +101,12 @@ fn in_files(rt: &HostRuntime, words: &[String], path: &str) -> u8 {
     if is_amend(words) {
         return amend_files(rt, path);
     }
-    let mut input = Reading::new(rt.reader());
+    let mut input = Keeping::new(rt.alloc(), Reading::new(rt.reader()), to_keep(words));
     let mut out = Writing::new(io::writer(rt));
     match run_over_files(rt, words, path, Unknown, &mut input, &mut out) {
         Ok((status, end)) => {
             leave(rt, end);
+            help(rt, status, &input);
             status
         }
         Err(error) => not_opened(rt, error),
@@ -122,12 +129,13 @@ fn back_up_files(rt: &HostRuntime, words: &[String], path: &str) -> u8 {
 
 // Gives the setup on standard input to the tracker of a file.
 fn amend_files(rt: &HostRuntime, path: &str) -> u8 {
-    let mut input = Reading::new(rt.reader());
+    let mut input = Keeping::new(rt.alloc(), Reading::new(rt.reader()), SETUP_LIMIT as u32);
     let mut out = Writing::new(io::writer(rt));
     match open_told(rt, path, Unknown) {
         Ok(keeper) => {
             let (status, keeper) = amended(rt.alloc(), &mut input, &mut out, keeper);
             leave(rt, end_run(rt, keeper));
+            help(rt, status, &input);
             status
         }
         Err(error) => not_opened(rt, error),
@@ -150,6 +158,24 @@ fn amended<S: Source, T: Sink, P: Keeper + Drop>(
 fn leave(rt: &HostRuntime, end: Ended<FileFrom<Unknown>>) {
     if !end.is_whole() {
         let _ = eprintln!(rt; "log");
+    }
+}
+
+// How many bytes of the input are kept: all of a setup, so that it can be said where its fault is.
+fn to_keep(words: &[String]) -> u32 {
+    match words.first() {
+        Some(word) if word.as_str() == "init" || word.as_str() == "amend" => SETUP_LIMIT as u32,
+        _ => 0,
+    }
+}
+
+// Says where the fault of the text that was read is to be looked for, where it is no setup and that is told.
+fn help<S: Source + Drop>(rt: &HostRuntime, status: u8, input: &Keeping<S>) {
+    if status != NO_SETUP {
+        return;
+    }
+    if let Ok(Some(line)) = help_on(rt.alloc(), input.kept()) {
+        let _ = eprint!(rt; "{}", line.as_str());
     }
 }
 

@@ -6,4 +6,5 @@ mod opening;
 mod preparing;
 
 pub use desk::{Desk, OpenFault};
+pub use preparing::list_fault;
 pub use tracker_state::State;

@@ -192,8 +192,8 @@ fn part_fault(part: Part, most: u32) -> Option<&'static str>
     None
 }
 
-// More fields than a call may name, which no line does, and then a part that is out of range.
-fn list_fault(fields: &Option<Names>, part: Part) -> Option<&'static str>
+/// More fields than a call may name, which no line does, and then a part that is out of range.
+pub fn list_fault(fields: &Option<Names>, part: Part) -> Option<&'static str>
     ensures { option_map (λ name. Cause.Form name.now) result
         ≡ or_then (few_fields_refusal fields.now) (part_refusal 100 part) }
 {

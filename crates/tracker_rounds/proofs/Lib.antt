@@ -1,0 +1,6 @@
+mod Trails
+mod Making
+mod Looks
+mod Connections
+mod Links
+mod Sent

@@ -1,0 +1,5 @@
+pub mod Trail
+pub mod Serving
+pub mod Seated
+pub mod Rounds
+pub mod Left
