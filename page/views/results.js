@@ -10,6 +10,7 @@ import { agoText, today } from '../texts.js';
 
 const NO_ORDER = ['labels', 'fixVersion'];
 const SHORT_KEY = 'OPS-10000'.length;
+const MANY = 9;
 
 /** The table: `fill` draws it, `step` goes up and down its issues. `sort(field)` writes the order into the query. */
 export function resultsTable({ sort, signal }) {
@@ -36,6 +37,7 @@ export function resultsTable({ sort, signal }) {
     rows = new Map(issues.map((issue) => [issue.issue, rowOf(issue, columns, before.get(issue.issue))]));
     arrange(body, [...rows.values()].map((one) => one.element));
     table.classList.toggle('long-keys', issues.some(({ issue }) => issue.length > SHORT_KEY));
+    table.classList.toggle('many', columns.length > MANY);
     table.hidden = issues.length === 0;
     nothing.hidden = issues.length > 0;
     if (now && rows.has(now) && !rows.get(now).element.contains(document.activeElement)) {
