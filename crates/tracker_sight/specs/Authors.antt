@@ -9,7 +9,7 @@ use Rattle.tracker_machine.specs.Machine.{Machine, opening}
 use Rattle.tracker_machine.specs.Effect.{longer}
 use Rattle.tracker_machine.specs.Step.{user_of}
 use Rattle.tracker_runs.specs.Run.{Marked, plain, marked_next, end_of_run}
-use Rattle.tracker_sight.specs.Integrity.{may_change, IsMadeNow, AllEntries, MayCreate}
+use Rattle.tracker_sight.specs.Integrity.{may_change, IsKnown, IsMadeNow, AllEntries, MayCreate}
 
 -- ---- entries
 
@@ -20,6 +20,7 @@ pub record MakesEntry (m : Machine) (x : Marked) (place : ℕ) (e : Entry) : Typ
   pub c : Call
   pub asks : line_of x.line ≡ Ok (user, c)
   pub unmarked : x.mark ≡ plain
+  pub known : IsKnown m user
   pub issue : History
   pub there : slice_get m.histories place ≡ Some issue
   pub may : may_change m.setup (user_of m user) issue ≡ true
@@ -59,6 +60,7 @@ pub record CreatesIssue (m : Machine) (x : Marked) (h : History) : Type 0 where
   pub c : Call
   pub asks : line_of x.line ≡ Ok (user, c)
   pub unmarked : x.mark ≡ plain
+  pub known : IsKnown m user
   pub may : MayCreate m (user_of m user) h
 
 -- one of the lines did
