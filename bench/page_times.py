@@ -120,36 +120,34 @@ def boards(browser, number, runs):
     tell(f'a board of {count} cards', told)
 
 
-def keys(browser, runs):
+def press(browser, words, typed):
+    """Presses keys one after another, and tells how long each took to the picture behind it."""
     from selenium.webdriver import ActionChains
-    for words, where, wanted, pressed in (('j in a table of 100', '#/search', '.list tbody tr', 'j'), ('a letter in the query', '#/search', '.list tbody tr', None)):
-        browser.go(where, wanted)
-        time.sleep(1)
-        if pressed is None:
-            browser.keys('/')
-        watch(browser)
-        typed = 'status = Open AND assignee = anna and points'[:max(runs * 8, 24)] if pressed is None else pressed * max(runs * 8, 24)
-        for letter in typed:
-            ActionChains(browser.driver).send_keys(letter).perform()
-        time.sleep(0.5)
-        pictures = browser.js('return window.pictures')
-        short = len(typed) - len(pictures)
-        line = f'{words}: {len(typed)} keys, {short} of them within 16 ms'
-        print(f'{line}, the others at most {max(pictures)}' if pictures else line, flush=True)
+    watch(browser)
+    for letter in typed:
+        ActionChains(browser.driver).send_keys(letter).perform()
+    time.sleep(0.5)
+    pictures = browser.js('return window.pictures')
+    taken = (work(browser) - browser.worked) / len(typed)
+    short, good = len(typed) - len(pictures), len(typed) - len([one for one in pictures if one > 50])
+    line = f'{words}: {len(typed)} keys, {short} of them within 16 ms, {good} within 50 ms, the slowest {max(pictures, default=16)} ms'
+    print(f'{line}; the page\'s own thread {taken:.0f} ms of a processor a key', flush=True)
 
 
-def board_keys(browser, number, runs):
-    from selenium.webdriver import ActionChains
+def keys(browser, number, runs):
     from selenium.webdriver.common.keys import Keys
+    count = max(runs * 8, 24)
+    browser.go('#/search', '.list tbody tr')
+    time.sleep(2)
+    press(browser, 'j in a table of 100', 'j' * count)
+    browser.go('#/search', '.list tbody tr')
+    time.sleep(2)
+    browser.keys('/')
+    press(browser, 'a letter in the query', 'status = Open AND assignee = anna and points'[:count])
     browser.go(f'#/board/{number}', '.card p')
     time.sleep(2)
     browser.js('document.querySelector(".card").focus()')
-    watch(browser)
-    for _ in range(max(runs * 8, 24)):
-        ActionChains(browser.driver).send_keys(Keys.ARROW_DOWN).perform()
-    time.sleep(0.5)
-    pictures = browser.js('return window.pictures')
-    print(f'an arrow on the board: {max(runs * 8, 24)} keys, {max(runs * 8, 24) - len(pictures)} of them within 16 ms' + (f', the others at most {max(pictures)}' if pictures else ''), flush=True)
+    press(browser, 'an arrow on the board', [Keys.ARROW_DOWN] * count)
 
 
 def at_size(given, count):
@@ -164,8 +162,7 @@ def at_size(given, count):
         first_visits(browser, given.runs)
         searches(browser, given.runs)
         boards(browser, board, given.runs)
-        keys(browser, given.runs)
-        board_keys(browser, board, given.runs)
+        keys(browser, board, given.runs)
     finally:
         if browser:
             browser.quit()

@@ -17,6 +17,8 @@ import tempfile
 
 TOP = pathlib.Path(__file__).resolve().parent.parent
 PROGRAM = sys.argv[1] if len(sys.argv) > 1 else str(TOP / 'crates/tracker/out/tracker')
+if not pathlib.Path(PROGRAM).is_file():
+    sys.exit(f'{PROGRAM} is not there: nothing was tried')
 ISSUES = sys.argv[2] if len(sys.argv) > 2 else None
 
 

@@ -71,6 +71,8 @@ def wait_for(port):
 
 def main():
     program = sys.argv[1] if len(sys.argv) > 1 else str(TOP / 'crates/tracker/out/tracker')
+    if not pathlib.Path(program).is_file():
+        sys.exit(f'{program} is not there: nothing was tried')
     wrong = 0
     with tempfile.TemporaryDirectory() as name:
         room = pathlib.Path(name)

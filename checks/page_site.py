@@ -130,6 +130,9 @@ def main():
         return 0
     deploy = trial_of_deploy()
     program = os.path.abspath(sys.argv[1]) if len(sys.argv) > 1 else page_browser.PROGRAM
+    if not os.path.isfile(program):
+        print(f'{program} is not there: the page was not tried behind a site')
+        return 1
     port = int(sys.argv[2]) if len(sys.argv) > 2 else 8800
     with tempfile.TemporaryDirectory() as name:
         site = deploy.Site(pathlib.Path(name), program, port)

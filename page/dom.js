@@ -43,6 +43,22 @@ export function refill(element, ...children) {
   return put(element, ...children);
 }
 
+/** Has just these elements stand in an element, in this order. What stands in its place already isn't touched. */
+export function arrange(element, wanted) {
+  const kept = new Set(wanted);
+  for (const child of [...element.children]) if (!kept.has(child)) child.remove();
+  let at = element.firstElementChild;
+  for (const child of wanted) {
+    // (one that goes further back is taken out, so that those behind it stay)
+    if (at !== child && at?.nextElementSibling === child) {
+      at.remove();
+      at = child;
+    }
+    if (at === child) at = at.nextElementSibling;
+    else element.insertBefore(child, at);
+  }
+}
+
 let last = 0;
 
 /** A name for an element that no other one has. */

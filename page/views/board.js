@@ -12,6 +12,7 @@ import { allSprints } from '../sprints.js';
 import { boardData } from './board_data.js';
 import { boardFrame } from './board_frame.js';
 import { cardKeys } from './board_keys.js';
+import { cardMark } from './board_mark.js';
 import { boardMoves } from './board_moves.js';
 import { movedCards } from './cards.js';
 import { newIssue, onMade } from './create.js';
@@ -37,10 +38,12 @@ export async function boardView(place, route, signal) {
   const given = { element: frame.element, lists: frame.lists, drop: moves.drop, wayTo: moves.wayTo, draw, signal };
   const keys = cardKeys(given);
   const drag = dragCards(given);
+  const follow = cardMark({ element: frame.element, rings: frame.rings, signal });
 
   function draw() {
     frame.draw();
     keys.tidy();
+    follow();
   }
 
   /** A card is under way until the tracker has answered and the board was asked for again. */
@@ -77,6 +80,7 @@ export async function boardView(place, route, signal) {
 
   async function fill() {
     await data.fill(frame.fill);
+    frame.settle(signal);
   }
 
   async function tellMoved(moved) {

@@ -1,12 +1,14 @@
 // What is drawn of a board: its head, its columns, and the cards where the tracker has them.
 
-import { h, icon, refill } from '../dom.js';
+import { arrange, h, icon, refill } from '../dom.js';
 import { emptyState, statusBadge } from '../parts/small.js';
 import { href } from '../router.js';
 import { numberText, plural } from '../texts.js';
 import { fillCard, makeCard } from './cards.js';
 
 const FLASH = 3000;
+const SOME = 20;
+const whenIdle = window.requestIdleCallback ?? ((act) => setTimeout(act, 30));
 
 /** The frame of a board of this name; `jql` is its filter's query, where the caller is told it. */
 export function boardFrame({ name, jql, data }) {
@@ -20,6 +22,7 @@ export function boardFrame({ name, jql, data }) {
   });
   const columns = data.columns().map(({ status }) => column(status));
   const lists = new Map(columns.map(({ status, list }) => [status, list]));
+  const rings = new Map(columns.map(({ list, ring }) => [list, ring]));
   const element = h('div', { class: 'board', role: 'group', 'aria-label': 'Columns' },
     columns.map((one) => one.element),
   );
@@ -56,10 +59,23 @@ export function boardFrame({ name, jql, data }) {
     }
   }
 
+  /** Has the browser lay out the cards that are out of sight too, some at a time while nothing else is to do: then no key waits for that. */
+  function settle(signal) {
+    const left = [...cards.values()].filter((card) => !card.classList.contains('whole'));
+    const some = () => {
+      if (signal.aborted) return;
+      for (const card of left.splice(0, SOME)) card.classList.add('whole');
+      if (left.length > 0) whenIdle(some);
+    };
+    whenIdle(some);
+  }
+
   return {
     element,
     lists,
+    rings,
     draw,
+    settle,
     parts: [
       h('header', { class: 'board-head' },
         h('h1', {}, name),
@@ -94,16 +110,18 @@ export function boardFrame({ name, jql, data }) {
 function column(status) {
   const count = h('span', { class: 'count' });
   const list = h('ol', { class: 'cards', 'data-status': status, 'aria-label': status });
+  const ring = h('div', { class: 'ring', 'aria-hidden': 'true', hidden: true });
   return {
     status,
     list,
+    ring,
     element: h('section', { class: 'column', 'data-status': status, 'aria-label': status },
       h('h2', {}, statusBadge(status), count, h('span', { class: 'way', 'aria-hidden': 'true' })),
       list,
+      ring,
     ),
     take: (cards) => {
-      const stands = cards.length === list.children.length && cards.every((one, at) => list.children[at] === one);
-      if (!stands) list.replaceChildren(...cards);
+      arrange(list, cards);
       refill(count, numberText(cards.length), h('span', { class: 'unseen' }, ' cards'));
     },
   };

@@ -7,6 +7,8 @@ import { go } from '../router.js';
 /** Listens on a board. `isLifted` tells whether a card is being carried; `tidy` leaves one card in the order of tabs. */
 export function cardKeys({ element, lists, wayTo, drop, draw, signal }) {
   let lifted = null;
+  // The one card in the order of tabs.
+  let stop = null;
 
   function statuses() {
     return [...lists.keys()];
@@ -18,17 +20,22 @@ export function cardKeys({ element, lists, wayTo, drop, draw, signal }) {
 
   function focus(card) {
     if (!card) return;
-    for (const other of element.querySelectorAll('.card[tabindex="0"]')) other.tabIndex = -1;
-    card.tabIndex = 0;
-    card.focus();
+    stopAt(card);
+    card.focus({ preventScroll: true });
     card.scrollIntoView({ block: 'nearest', inline: 'nearest' });
   }
 
+  function stopAt(card) {
+    if (stop === card) return;
+    if (stop) stop.tabIndex = -1;
+    stop = card;
+    stop.tabIndex = 0;
+  }
+
   function tidy() {
-    if (!element.querySelector('.card[tabindex="0"]')) {
-      const first = element.querySelector('.card');
-      if (first) first.tabIndex = 0;
-    }
+    if (stop && element.contains(stop)) return;
+    const first = element.querySelector('.card');
+    if (first) stopAt(first);
   }
 
   function go_(card, key) {
@@ -153,10 +160,7 @@ export function cardKeys({ element, lists, wayTo, drop, draw, signal }) {
   element.addEventListener('keydown', keydown, { signal });
   element.addEventListener('focusin', (event) => {
     const card = event.target.closest('.card');
-    if (card && card.tabIndex !== 0) {
-      for (const other of element.querySelectorAll('.card[tabindex="0"]')) other.tabIndex = -1;
-      card.tabIndex = 0;
-    }
+    if (card) stopAt(card);
   }, { signal });
   element.addEventListener('focusout', (event) => {
     if (lifted && event.relatedTarget && !element.contains(event.relatedTarget)) back();

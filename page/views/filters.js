@@ -16,16 +16,19 @@ const changes = new EventTarget();
 /** The saved filters, folded in a narrow window. `use(jql)` looks for one's issues; `now()` is the query that is shown. */
 export function filtersSide({ use, now, signal }) {
   const list = h('ul', { class: 'filters' });
-  const element = h('details', { class: 'side', open: window.innerWidth > 1000 },
+  const element = h('details', { class: 'side', open: window.innerWidth > 1100 },
     h('summary', {}, icon('down'), 'Saved filters'),
     list,
   );
   let filters = [];
+  let drawn = '';
   const counts = new Map();
 
   async function load() {
     ({ filters } = await ask('filters', {}, { signal }));
-    draw();
+    const told = JSON.stringify(filters);
+    if (told !== drawn) draw();
+    drawn = told;
     await count();
   }
 
@@ -33,6 +36,7 @@ export function filtersSide({ use, now, signal }) {
     if (!element.open) return;
     for (const filter of filters) {
       const { total } = await ask('filter', { filter: filter.filter, count: 1 }, { signal });
+      if (counts.get(filter.filter) === total) continue;
       counts.set(filter.filter, total);
       const place = list.querySelector(`[data-filter="${filter.filter}"] .count`);
       if (place) refill(place, numberText(total), h('span', { class: 'unseen' }, ' issues'));

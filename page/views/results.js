@@ -1,14 +1,19 @@
 // What a search found, as a table whose heads sort. In a narrow window each issue is a block of its own.
+// A row is drawn anew only where it shows something else: an answer that is the one before it touches nothing, and a step two rows.
 
-import { fresh, h, icon, refill } from '../dom.js';
+import { arrange, fresh, h, icon, refill } from '../dom.js';
 import { shown, shownMoment } from '../fields/values.js';
 import { emptyState, keyLink } from '../parts/small.js';
-import { categoryOf, fieldOf, labelOf, same } from '../team.js';
+import { sprintName } from '../sprints.js';
+import { categoryOf, fieldOf, labelOf, onTeam, same } from '../team.js';
+import { agoText, today } from '../texts.js';
 
 const NO_ORDER = ['labels', 'fixVersion'];
+const SHORT_KEY = 'OPS-10000'.length;
+const MANY = 9;
 
 /** The table: `fill` draws it, `step` goes up and down its issues. `sort(field)` writes the order into the query. */
-export function resultsTable({ sort }) {
+export function resultsTable({ sort, signal }) {
   const head = h('tr', { role: 'row' });
   const body = h('tbody', { role: 'rowgroup' });
   const table = h('table', { class: 'list', role: 'table', 'aria-label': 'Issues found' },
@@ -22,17 +27,28 @@ export function resultsTable({ sort }) {
   const id = fresh('order');
   const order = h('select', { id, on: { change: () => order.value !== '' && sort(order.value) } });
   const orderChoice = h('span', { class: 'order narrow-only' }, h('label', { for: id }, 'Order'), order);
+  let drawnHead = '';
+  let rows = new Map();
 
   function fill({ issues, columns, keys }) {
     const now = document.activeElement?.closest('tr[data-key]')?.dataset.key;
     drawHead(columns, keys);
-    body.replaceChildren(...issues.map((issue) => row(issue, columns)));
+    const before = rows;
+    rows = new Map(issues.map((issue) => [issue.issue, rowOf(issue, columns, before.get(issue.issue))]));
+    arrange(body, [...rows.values()].map((one) => one.element));
+    table.classList.toggle('long-keys', issues.some(({ issue }) => issue.length > SHORT_KEY));
+    table.classList.toggle('many', columns.length > MANY);
     table.hidden = issues.length === 0;
     nothing.hidden = issues.length > 0;
-    if (now) body.querySelector(`tr[data-key="${now}"] a`)?.focus({ preventScroll: true });
+    if (now && rows.has(now) && !rows.get(now).element.contains(document.activeElement)) {
+      rows.get(now).element.querySelector('a').focus({ preventScroll: true });
+    }
   }
 
   function drawHead(columns, keys) {
+    const told = JSON.stringify([columns, columns.map(labelOf), keys[0] ?? null]);
+    if (told === drawnHead) return;
+    drawnHead = told;
     const now = document.activeElement?.closest('th')?.dataset.column;
     refill(head, columns.map((name) => headCell(name, keys[0])));
     if (now) head.querySelector(`th[data-column="${CSS.escape(now)}"] button`)?.focus();
@@ -57,23 +73,40 @@ export function resultsTable({ sort }) {
   }
 
   function step(by) {
-    const links = [...body.querySelectorAll('tr a.key')];
-    if (links.length === 0) return;
-    const at = links.indexOf(document.activeElement?.closest('tr')?.querySelector('a.key'));
-    links[Math.min(links.length - 1, Math.max(0, at < 0 ? 0 : at + by))].focus();
+    const now = document.activeElement?.closest('tr[data-key]');
+    const next = now ? (by > 0 ? now.nextElementSibling : now.previousElementSibling) : body.firstElementChild;
+    next?.querySelector('a.key').focus({ preventScroll: true });
+    next?.scrollIntoView({ block: 'nearest' });
   }
 
+  onTeam(() => {
+    drawnHead = '';
+    for (const one of rows.values()) one.told = '';
+  }, signal);
   return { element, orderChoice, fill, step };
 }
 
 function kindOf(name) {
   if (name === 'key' || name === 'summary' || name === 'status') return name;
-  if (name === 'created' || name === 'updated') return 'date';
+  if (isMoment(name)) return 'date';
   return fieldOf(name)?.kind ?? 'text';
 }
 
-function row(issue, columns) {
-  return h('tr', { role: 'row', 'data-key': issue.issue }, columns.map((name) => cell(issue, name)));
+/** The row of an issue: the one before it, where that shows the same. */
+function rowOf(issue, columns, before) {
+  const told = toldBy(issue, columns);
+  if (before?.told === told) return before;
+  return { told, element: h('tr', { role: 'row', 'data-key': issue.issue }, columns.map((name) => cell(issue, name))) };
+}
+
+/** All that a row goes by, but for what `describe` tells: the issue, the columns, the day, and names and moments in words. */
+function toldBy(issue, columns) {
+  const moments = columns.filter(isMoment).map((name) => agoText(issue[name]));
+  return JSON.stringify([issue, columns, today(), moments, issue.fields.sprint && sprintName(issue.fields.sprint)]);
+}
+
+function isMoment(name) {
+  return name === 'created' || name === 'updated';
 }
 
 function cell(issue, name) {
@@ -86,7 +119,7 @@ function cell(issue, name) {
     told,
     keyLink(issue.issue, { 'aria-label': `${issue.issue}: ${issue.fields.summary}` }),
   );
-  if (name === 'created' || name === 'updated') return h('td', told, shownMoment(issue[name]));
+  if (isMoment(name)) return h('td', told, shownMoment(issue[name]));
   const value = issue.fields[name];
   if (value === undefined) return h('td', { ...told, 'data-empty': true });
   return h('td',

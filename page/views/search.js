@@ -34,7 +34,7 @@ export function found() {
 /** Shows the view. */
 export function searchView(place, route, signal) {
   document.title = 'Search · Vuglastej';
-  const state = { jql: '', from: 0, columns: [], round: 0, isShown: false, trouble: null };
+  const state = { jql: '', from: 0, columns: [], round: 0, isShown: false, counted: '', trouble: null };
   const line = queryLine({ search: (jql) => look(jql, 0), typed });
   const hint = h('p', { class: 'hint', role: 'status', hidden: true });
   const fault = h('p', { class: 'fault', id: 'query-fault', role: 'alert', hidden: true });
@@ -165,22 +165,29 @@ export function searchView(place, route, signal) {
       return;
     }
     lastFound = issues.map((one) => one.issue);
-    refill(count, plural(total, 'issue', 'issues'));
     table.fill({ issues, columns: state.columns, keys: sortKeys(state.jql) });
-    const parts = pager({
+    if (list.firstElementChild !== table.element) refill(list, table.element);
+    drawCount(issues.length, total);
+    list.classList.remove('old');
+    state.isShown = true;
+    performance.mark('search drawn');
+  }
+
+  /** The count and the buttons for other parts, drawn anew only where they differ: one of them may have the focus. */
+  function drawCount(shown, total) {
+    const told = [state.from, shown, total].join();
+    if (told === state.counted && list.querySelector('.pager')) return;
+    state.counted = told;
+    refill(count, plural(total, 'issue', 'issues'));
+    list.querySelector('.pager')?.remove();
+    put(list, pager({
       from: state.from,
-      shown: issues.length,
+      shown,
       total,
       size: SIZE,
       what: 'issues found',
       step: (from) => { look(state.jql, from); window.scrollTo(0, 0); },
-    });
-    if (list.firstElementChild !== table.element) refill(list, table.element);
-    list.querySelector('.pager')?.remove();
-    put(list, parts);
-    list.classList.remove('old');
-    state.isShown = true;
-    performance.mark('search drawn');
+    }));
   }
 
   function calm() {
