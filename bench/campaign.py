@@ -16,8 +16,8 @@ bytes, words, numbers, characters and brackets. Of each:
 - http: each response has a status of docs/HTTP.md that fits its reply, and the next connection is answered. The rows have just the
   changes that were answered; where nothing was answered ok, all rows but the present's moment are as before.
 - csv: an import has the replies and the rows of the lines for which its records ask, by a reader of records of its own.
-- setups: behind a fault there are no rows; a good setup is kept as it is, can be used, is opened again, and isn't made again. What
-  Python's reader takes for TOML isn't refused as none.
+- setups: behind a fault there are no rows; standard error says at most the place that docs/SETUP-FAULTS.md has for it. A good setup is kept as
+  it is, can be used, is opened again, and isn't made again. What Python's reader takes for TOML isn't refused as none.
 - rows: a file whose rows, form, pages or log were changed is opened as C SQLite reads it, or refused, and then it and the commits
   of its log are as they were. What is opened can be used, and is sound for C SQLite afterwards.
 

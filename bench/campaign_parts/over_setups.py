@@ -11,6 +11,7 @@ from .running import Wrong, remove, rows_of, run
 
 LONGEST = 1_048_576
 FAULT = re.compile(rb'setup ([0-9]+)(?: .*)?\n', re.S)
+PLACE = re.compile(rb'([a-z]+) ([1-9][0-9]*)\n')
 LINES = [b'zz = 1', b'[zz]', b'[[group]]', b'[[project]]', b'[[offset]]', b'from = 5', b'minutes = 840', b'number = 10001', b'# \xc3\xbc',
          b'kind = "date"', b'members = []',
          b'versions = [ "2.0", # one\n "3.0",\n]', b'users."a" = 1', b'when = 2024-02-30T10:00:00Z', b'text = """\n\\\n  a"""', b'n = 0x_1',
@@ -73,6 +74,14 @@ def is_toml(sent):
         return False
 
 
+def is_place(told, kind, sent):
+    """Whether standard error says where to look: the line of a text that is no TOML, or the table that lacks a key, where it says one."""
+    place = PLACE.fullmatch(told)
+    if kind == 1:
+        return place is not None and place[1] == b'line' and int(place[2]) <= sent.count(b'\n') + 1
+    return not told or kind == 2 and place is not None and place[1] != b'line'
+
+
 class OverSetups:
     """Setups, of which most have a fault."""
 
@@ -107,7 +116,7 @@ class OverSetups:
         kind = fault and int(fault[1])
         self.seen[kind or ran.status] = self.seen.get(kind or ran.status, 0) + 1
         told = {0: ran.out == b'', 7: ran.out == b'limit input\n', 8: kind in SETUP_FAULTS}
-        if ran.told or not told.get(ran.status) or (len(sent) > LONGEST) != (ran.status == 7):
+        if not is_place(ran.told, kind, sent) or not told.get(ran.status) or (len(sent) > LONGEST) != (ran.status == 7):
             raise Wrong(f'init: status {ran.status}, {ran.out[:100]!r} and {ran.told[:200]!r} for {len(sent)} bytes')
         if kind == 1 and is_toml(sent):
             raise Wrong('init: TOML is taken for none')
