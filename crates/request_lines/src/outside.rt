@@ -16,9 +16,10 @@ pub trait Source {
     /// How often the source has failed.
     ghost faults: { Self → ℕ };
 
-    /// Puts some of the next bytes at the front of the room, and says how many: none at the end of the input alone.
+    /// Puts some of the next bytes at the front of the room, and says how many: none at the end of the input alone. Each read is offered
+    /// room for 4,096 bytes, or for more.
     fn read(&mut self, room: &mut [u8]) -> Result<usize, Failed>
-        requires { 0 < length room.old }
+        requires room { 4096 ≤ length room.old }
         ensures bound { ReadsAtMost result room.new }
         ensures bytes { ReadConsumes (left self.old) (left self.new) result room.new }
         ensures cause { HasCause (faults self.old) (faults self.new) result };

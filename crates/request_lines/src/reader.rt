@@ -69,7 +69,7 @@ impl Model for LineReader {
     ghost view = { λ r. take (r.to - r.from) (drop r.from r.room.items) };
 
     ghost invariant = { λ r. (r.from ≤ r.to) × (r.to ≤ length r.room.items)
-        × (0 < length r.room.items) };
+        × (4096 ≤ length r.room.items) };
 }
 
 impl LineReader {

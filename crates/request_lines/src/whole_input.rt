@@ -63,7 +63,7 @@ pub fn read_whole<S: Source>(
 
 // Room for what a read gives.
 fn room(alloc: Global) -> Result<Vec<u8>, AllocError>
-    ensures { IfOk result (λ room. 0 < length room.items) }
+    ensures { IfOk result (λ room. 4096 ≤ length room.items) }
 {
     vec![in alloc; 0; ROOM]
 }

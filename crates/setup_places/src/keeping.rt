@@ -57,7 +57,7 @@ impl<S: Source + Drop> Source for Keeping<S> {
     #[tactic(auto, using(crate::proofs::Kept::kept_more, crate::proofs::Kept::kept_still))]
     fn read(&mut self, room: &mut [u8]) -> Result<usize, Failed>
         // What each source does.
-        requires { 0 < length room.old }
+        requires room { 4096 ≤ length room.old }
         ensures bound { ReadsAtMost result room.new }
         ensures bytes { ReadConsumes (S.left self.old.source) (S.left self.new.source)
             result room.new }
