@@ -81,7 +81,8 @@ fn is_group_key(name: &str) -> bool
     name == "name" || name == "members"
 }
 
-fn is_project_key(name: &str) -> bool
+/// Whether a project's table has such a key.
+pub fn is_project_key(name: &str) -> bool
     ensures { result ≡ list_any (λ key. bytes_eq name.now key) (keys_of KeySet.Project) }
 {
     is_one_of(&PROJECT_KEYS, name)

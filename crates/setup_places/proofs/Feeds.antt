@@ -1,5 +1,5 @@
 -- Line feeds among bytes.
-use Rattle.std.proofs.Common.{◌≡◌, ◌≤◌, ◌==◌, ℕ, zero, suc, List, [], ◌∷◌, take, arith, inl, inr}
+use Rattle.std.proofs.Common.{◌≤◌, ◌==◌, ℕ, zero, suc, List, [], ◌∷◌, take, arith, inl, inr}
 use Rattle.std.proofs.lemmas.Bool.{cases_Bool}
 use Rattle.setup_places.specs.Places.{feeds}
 

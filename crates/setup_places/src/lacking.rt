@@ -11,7 +11,7 @@ ghost use Rattle.std.specs.List.{list_any};
 ghost use Rattle.std.specs.Str.{bytes_eq};
 
 use crate::place::{Place, table_name};
-use setup_drafts::keys::KeySet;
+use setup_drafts::keys::{KeySet, is_project_key};
 use toml::{Table, Value};
 
 /// The kinds of tables in the order in which a setup's are looked at.
@@ -22,17 +22,6 @@ const KINDS: [KeySet; 6] = [
     KeySet::Transition,
     KeySet::Field,
     KeySet::Offset,
-];
-
-/// The keys that a project has to have.
-const PROJECT_KEYS: [&str; 7] = [
-    "key",
-    "lead",
-    "browse",
-    "create",
-    "edit",
-    "transition",
-    "rank",
 ];
 
 /// The first table of a setup that lacks the key.
@@ -127,18 +116,6 @@ fn is_wanted_key(set: KeySet, key: &str) -> bool
         KeySet::Field => is_field_key(key),
         KeySet::Offset => key == "from" || key == "minutes",
     }
-}
-
-fn is_project_key(key: &str) -> bool
-    ensures { result ≡ list_any (λ k. bytes_eq key.now k) (keys_of KeySet.Project) }
-{
-    is_one_of(&PROJECT_KEYS, key)
-}
-
-fn is_one_of(keys: &[&str], name: &str) -> bool
-    ensures { result ≡ list_any (λ key. bytes_eq name.now key.now) keys.now }
-{
-    keys.iter().any(|key| name == *key)
 }
 
 fn is_field_key(key: &str) -> bool

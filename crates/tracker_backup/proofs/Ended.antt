@@ -11,10 +11,16 @@ use Rattle.row_restore.specs.Restoring.{IsRestoreFault}
 use Rattle.row_restore.specs.declared.restoring.RestoreFault.{RestoreFault}
 use Rattle.row_restore.specs.declared.restoring.RestoreFault.TheVariants.{BadLine, BadRow}
 use Rattle.tracker_backup.specs.Dumping.{IsDumped, DumpEnd}
-use Rattle.tracker_backup.specs.Ends.{WritesFrontOf, held, limit_input, bad_line, bad_row}
+use Rattle.status_texts.specs.Texts.{held, kept_line, limit_input, usage}
+use Rattle.status_texts.specs.Written.{GrewByFront}
+use Rattle.tracker_backup.specs.Ends.{WritesFrontOf, UsageEnd, bad_line}
 use Rattle.tracker_backup.specs.Restoring.{restore_limit, IsLineText, IsRowText, IsInputText, IsRestoreText, RestoreEnd}
 
 -- ---- what was due where a write failed
+
+-- a sink that grew by a front of a text has a front of it
+pub grown_front : (old new : Option (List ℕ)) (text : List ℕ) → GrewByFront old new (λ due. due ≡ text) → WritesFront old new text
+grown_front old new text (front, back, is, grew) = (front, back, sym is, grew)
 
 pub line_front : (bytes : List ℕ) (fault : RestoreFault) (number : ℕ) (old new : Option (List ℕ)) → IsRestoreFault bytes fault → fault ≡ BadLine number
     → WritesFront old new (bad_line number) → WritesFrontOf old new (λ text. IsLineText bytes text ⊎ IsRowText bytes text)
@@ -22,9 +28,9 @@ line_front bytes fault number old new why is front =
     (bad_line number, inl (number, subst (IsRestoreFault bytes) is why, refl), front)
 
 pub row_front : (bytes : List ℕ) (fault : RestoreFault) (kind number : ℕ) (old new : Option (List ℕ)) → IsRestoreFault bytes fault → fault ≡ BadRow kind number
-    → WritesFront old new (bad_row kind number) → WritesFrontOf old new (λ text. IsLineText bytes text ⊎ IsRowText bytes text)
+    → GrewByFront old new (λ due. due ≡ kept_line kind number) → WritesFrontOf old new (λ text. IsLineText bytes text ⊎ IsRowText bytes text)
 row_front bytes fault kind number old new why is front =
-    (bad_row kind number, inr (kind, number, subst (IsRestoreFault bytes) is why, refl), front)
+    (kept_line kind number, inr (kind, number, subst (IsRestoreFault bytes) is why, refl), grown_front old new (kept_line kind number) front)
 
 was_all : (all rest bytes : List ℕ) → Consumes (Some all) (Some rest) bytes → IsAtEnd (Some rest) → bytes ≡ all
 was_all all rest bytes read end = sym (append-nil bytes) ∙ ap (λ list. bytes ++ list) (sym end) ∙ sym read
@@ -41,8 +47,18 @@ pub input_front : (left after : Option (List ℕ)) (bytes : List ℕ) (old new :
     → WritesFrontOf old new (λ text. IsLineText bytes text ⊎ IsRowText bytes text) → WritesFrontOf old new (IsInputText left)
 input_front left after bytes old new read end (text, one, front) = (text, inr (whole_text left after bytes text read end one), front)
 
-pub limit_front : (left old new : Option (List ℕ)) → IfSome left (λ bytes. restore_limit < length bytes) → WritesFront old new limit_input → WritesFrontOf old new (IsInputText left)
-limit_front left old new long front = (limit_input, inl (refl, long), front)
+pub limit_front : (left old new : Option (List ℕ)) → IfSome left (λ bytes. restore_limit < length bytes) → GrewByFront old new (λ due. due ≡ limit_input) → WritesFrontOf old new (IsInputText left)
+limit_front left old new long front = (limit_input, inl (refl, long), grown_front old new limit_input front)
+
+-- ---- other words
+
+pub usage_end : (status : ℕ) (old new : Option (List ℕ)) → (status ≡ 1 → Appends old new usage) → (status ≡ 3 → GrewByFront old new (λ due. due ≡ usage)) → (status ≡ 1) ⊎ (status ≡ 3)
+    → UsageEnd status old new
+usage_end status old new told front which = record {
+  told = told;
+  written = λ is. grown_front old new usage (front is);
+  statuses = which;
+}
 
 -- ---- a dump
 
@@ -89,11 +105,11 @@ few status (inl nine) = (omega (arith, nine), λ is. omega (arith, nine, is))
 few status (inr three) = (omega (arith, three), λ is. omega (arith, three, is))
 
 pub held_end : (Restored : List ℕ → Type 0) (Same Held : Type 0) (status : ℕ) (left old new : Option (List ℕ)) → Same → Held → (status ≡ 9) ⊎ (status ≡ 3)
-    → (status ≡ 9 → Appends old new held) → (status ≡ 3 → WritesFront old new held) → RestoreEnd Restored Same Held status left left old new
+    → (status ≡ 9 → Appends old new held) → (status ≡ 3 → GrewByFront old new (λ due. due ≡ held)) → RestoreEnd Restored Same Held status left left old new
 held_end Restored Same Held status left old new same has which told front = record {
   done = λ is. absurd (neither status 0 which is (λ e. omega (arith, e)) (λ e. omega (arith, e)));
   read = λ is. absurd (neither status 2 which is (λ e. omega (arith, e)) (λ e. omega (arith, e)));
-  written = λ is. (held, inl (refl, has), front is);
+  written = λ is. (held, inl (refl, has), grown_front old new held (front is));
   unkept = λ is. absurd (neither status 4 which is (λ e. omega (arith, e)) (λ e. omega (arith, e)));
   bad = λ is. absurd (neither status 5 which is (λ e. omega (arith, e)) (λ e. omega (arith, e)));
   memory = λ is. absurd (neither status 6 which is (λ e. omega (arith, e)) (λ e. omega (arith, e)));

@@ -2,6 +2,7 @@
 use Rattle.std.specs.Prelude.{◌≡◌, ◌≢◌, ◌⊎◌, ℕ, List, [], ◌∷◌, ◌++◌, codes, decimal, Option}
 use Rattle.std.specs.Io.KnownBytes.{Appends}
 use Rattle.tracker_keeper.specs.Rows.{Rows, no_rows}
+use Rattle.status_texts.specs.Texts.{usage}
 use Rattle.row_lines.specs.Writing.{WritesFront}
 
 -- ---- the words
@@ -12,20 +13,7 @@ IsDump words = words ≡ codes "dump" ∷ []
 abbrev pub IsRestore : List (List ℕ) → Type 0
 IsRestore words = words ≡ codes "restore" ∷ []
 
--- ---- texts
-
-abbrev pub usage : List ℕ
-usage = codes "usage: exec, check, init, import USER, export, generate N\n"
-
-abbrev pub held : List ℕ
-held = codes "held\n"
-
-abbrev pub limit_input : List ℕ
-limit_input = codes "limit input\n"
-
--- the first row that is none of a tracker's, or that has to be there and isn't
-abbrev pub bad_row : ℕ → ℕ → List ℕ
-bad_row kind number = codes "kept " ++ (decimal kind ++ (32 ∷ decimal number) ++ 10 ∷ [])
+-- ---- a text
 
 -- the number of the first bad line
 abbrev pub bad_line : ℕ → List ℕ

@@ -6,7 +6,8 @@ use Rattle.tracker_keeper.specs.Rows.{Rows, found, no_rows}
 use Rattle.tracker_rows.specs.Loading.{IsFirstBad}
 use Rattle.row_lines.specs.Telling.{Tells, IsBadLine}
 use Rattle.row_restore.specs.Restoring.{IsBackup}
-use Rattle.tracker_backup.specs.Ends.{HadNone, Writes, WritesFrontOf, held, bad_row, limit_input, bad_line}
+use Rattle.status_texts.specs.Texts.{held, kept_line, limit_input}
+use Rattle.tracker_backup.specs.Ends.{HadNone, Writes, WritesFrontOf, bad_line}
 
 -- the most bytes of the input
 abbrev pub restore_limit : ℕ
@@ -32,7 +33,7 @@ abbrev pub IsRowText : List ℕ → List ℕ → Type 0
 IsRowText bytes text =
     (kind : ℕ) × (number : ℕ)
     × ((list : List Row) × Tells bytes list × IsFirstBad list kind number)
-    × (text ≡ bad_row kind number)
+    × (text ≡ kept_line kind number)
 
 -- the text on an input that is too long, or on its lines or rows
 abbrev pub IsInputText : Option (List ℕ) → List ℕ → Type 0

@@ -7,9 +7,9 @@ ghost use Rattle.tracker_backup.specs.Restoring.{IsRestored, RestoreEnd};
 
 use crate::dump::dump;
 use crate::restore::restore;
-use crate::telling::tell;
 use crate::words::{Word, word_in};
 use request_lines::{Sink, Source};
+use status_texts::tell;
 use std::alloc::Global;
 use tracker_keeper::Keeper;
 

@@ -5,12 +5,14 @@ ghost use Rattle.std.specs.Io.KnownBytes.{Appends, IsAtEnd};
 ghost use Rattle.request_lines.specs.Causes.{Rose};
 ghost use Rattle.tracker_keeper.specs.Rows.{Rows, no_rows};
 ghost use Rattle.tracker_keeper.specs.Causes.{HasKeepCause};
-ghost use Rattle.tracker_backup.specs.Ends.{HasItsRows, HasSome, Writes, WritesFrontOf, limit_input};
+ghost use Rattle.status_texts.specs.Texts.{limit_input};
+ghost use Rattle.tracker_backup.specs.Ends.{HasItsRows, HasSome, Writes, WritesFrontOf};
 ghost use Rattle.tracker_backup.specs.Restoring.{IsInputText, IsLineText, IsRestored, IsRowText, IsStored, RestoreEnd, restore_limit};
 
-use crate::telling::{tell, tell_line, tell_row};
+use crate::telling::tell_line;
 use request_lines::{InputFault, Sink, Source, read_whole};
 use row_restore::{RestoreFault, restore as restore_rows};
+use status_texts::{tell, tell_row};
 use std::alloc::Global;
 use tracker_keeper::{KeepFault, Keeper, Row};
 
