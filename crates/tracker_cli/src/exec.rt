@@ -8,17 +8,17 @@ ghost use Rattle.tracker_cli.specs.Answering.{AnswersKept, AsksFor, HasLine, IsA
 ghost use Rattle.tracker_cli.specs.Serving.{MakesCall};
 
 use call_lines::{AskedLine, Scratch, read_line_in};
-use fields::Steps;
+use fields::{Names, Steps};
 use request_lines::{Looked, Responder};
 use std::alloc::{AllocError, Global};
 use std::marker::Model;
 use std::sync::ledger::Ledger;
-use tracker_calls::{Call, Reply, UserName};
+use tracker_calls::{Call, Part, Reply, UserName};
 use tracker_core::Desk;
 use tracker_import::put_reply_line;
 use tracker_keeper::Keeper;
 use tracker_server::Maker;
-use written_shows::write_show;
+use written_shows::{write_list, write_show};
 
 /// A call that a line asks for, and the name of who asks.
 #[derive(Drop)]
@@ -120,6 +120,31 @@ impl<L: Ledger, P: Keeper + Drop> RequestLines<L, P> {
         ensures { HasLine (λ reply. MakesCall P.keeps P.tells P.faults P.leaves self.old
             caller.now call.now reply self.new) result answer.new.items }
     {
+        match call {
+            Call::List { jql, fields, part } => put_list(
+                self.alloc,
+                &self.desk,
+                caller.as_str(),
+                jql.as_str(),
+                fields,
+                *part,
+                &mut self.steps,
+                answer,
+            ),
+            _ => self.answer_by_reply(caller, call, answer),
+        }
+    }
+
+    // The same, by a reply.
+    fn answer_by_reply(
+        &mut self,
+        caller: &UserName,
+        call: &Call,
+        answer: &mut Vec<u8>,
+    ) -> Result<(), AllocError>
+        ensures { HasLine (λ reply. MakesCall P.keeps P.tells P.faults P.leaves self.old
+            caller.now call.now reply self.new) result answer.new.items }
+    {
         let reply = self.desk.call(caller, call, &mut self.steps);
         put_reply_line(self.alloc, &reply, answer)
     }
@@ -137,6 +162,26 @@ fn put_show<P: Keeper + Drop>(
         caller.now (Call.Show issue.now) reply desk.now) result answer.new.items }
 {
     match write_show(alloc, desk, caller, issue, answer) {
+        Ok(()) => end_line(answer),
+        Err(refusal) => put_reply_line(alloc, &Reply::Refused(refusal), answer),
+    }
+}
+
+// Puts the line of the reply to a list in place of what the answer held, in the same way.
+fn put_list<L: Ledger, P: Keeper + Drop>(
+    alloc: Global,
+    desk: &Desk<P>,
+    caller: &str,
+    jql: &str,
+    fields: &Option<Names>,
+    part: Part,
+    steps: &mut Steps<L>,
+    answer: &mut Vec<u8>,
+) -> Result<(), AllocError>
+    ensures { HasLine (λ reply. MakesCall P.keeps P.tells P.faults P.leaves desk.now
+        caller.now (Call.List jql.now fields.now part) reply desk.now) result answer.new.items }
+{
+    match write_list(alloc, desk, caller, jql, fields, part, steps, answer) {
         Ok(()) => end_line(answer),
         Err(refusal) => put_reply_line(alloc, &Reply::Refused(refusal), answer),
     }

@@ -1,3 +1,4 @@
 pub mod InOrder
+pub mod Lists
 pub mod Shows
 pub mod Writing

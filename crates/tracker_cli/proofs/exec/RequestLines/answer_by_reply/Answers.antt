@@ -1,7 +1,7 @@
 use Rattle.std.proofs.Common.{subst}
 use Rattle.tracker_core.specs.Desk.{DeskParts}
 use Rattle.tracker_cli.specs.Serving.{MakesCall}
-use Rattle.tracker_cli.proofs.exec.RequestLines.answer_call.Goals as goal
+use Rattle.tracker_cli.proofs.exec.RequestLines.answer_by_reply.Goals as goal
 
 pub returns : goal.returns
 returns g c =
