@@ -1,0 +1,5 @@
+mod Calls
+mod ManyRounds
+mod OneRound
+mod ServerWords
+mod Sent
