@@ -171,7 +171,7 @@ class Served(Case):
         self.start(':memory:')
 
     def start(self, store, port=FIRST_PORT):
-        running = subprocess.Popen([PROGRAM, str(store), 'serve', str(port)], stdout=subprocess.DEVNULL, stderr=subprocess.DEVNULL)
+        running = subprocess.Popen([PROGRAM, str(store), 'serve', str(port), '2'], stdout=subprocess.DEVNULL, stderr=subprocess.DEVNULL)
         self.addCleanup(lambda: (running.kill(), running.wait()))
         wait_for(port, running)
         self.url = f'http://127.0.0.1:{port}'

@@ -1,6 +1,6 @@
 //! The tracker's command line: `tracker STORE WORDS..`, the request lines on standard input, the replies on
 //! standard output; `tracker STORE dump` and `tracker STORE restore`, all rows out and in; `tracker STORE amend`, another setup on standard
-//! input; or `tracker STORE serve PORT`, requests over HTTP. The status is that of the command.
+//! input; or `tracker STORE serve PORT WORKERS`, requests over HTTP. The status is that of the command.
 #![tactic(auto)]
 
 use file_ends::Ended;
@@ -11,14 +11,12 @@ use setup_places::{Keeping, help_on};
 use sqlite::{Error, ErrorCode, FileFrom, Unknown};
 use status_texts::SETUP_LIMIT;
 use std::alloc::Global;
-use std::net::{Net, TcpListener, TcpStream};
 use std::process::ExitCode;
-use std::sync::Wait;
-use std::time::Clock;
 use std::{env, io, mem};
+use store_servers::{FileKeeper, serve_file, serve_memory};
 use tracker_amend::{amend_setup, is_amend};
 use tracker_backup::{back_up, is_backup};
-use tracker_cli::{PortLinks, Reading, Writing, run, serve};
+use tracker_cli::{Reading, Writing, run};
 use tracker_keeper::{Keeper, MemoryKeeper};
 
 /// The words are none of the command's.
@@ -56,15 +54,15 @@ fn main(rt: HostRuntime) -> ExitCode {
         // The kit's runtime waits in `main` alone.
         (Some(path), true) => match open_told(&rt, path, Unknown) {
             Ok(keeper) => {
-                let (status, keeper) = serve_port(&rt, &words, keeper);
-                leave(&rt, end_run(&rt, keeper));
+                let (status, keeper) = serve_file(&rt, &words, FileKeeper { keeper });
+                leave(&rt, end_run(&rt, keeper.keeper));
                 served(&rt, status)
             }
             Err(error) => not_opened(&rt, error),
         },
         (None, true) => match MemoryKeeper::new(alloc, &[], Vec::new(alloc)) {
             Ok(keeper) => {
-                let (status, keeper) = serve_port(&rt, &words, keeper);
+                let (status, keeper) = serve_memory(&rt, &words, keeper);
                 mem::forget(keeper);
                 served(&rt, status)
             }
@@ -195,22 +193,10 @@ fn is_serve(words: &[String]) -> bool {
     }
 }
 
-// Serves HTTP on the port that the word behind `serve` names, until it is stopped, and hands the keeper back.
-fn serve_port<R, P>(rt: &R, words: &[String], keeper: P) -> (u8, P)
-where
-    R: Wait + Alloc<A = Global> + Net<Listener = TcpListener, Stream = TcpStream> + Clock,
-    P: Keeper + Drop,
-{
-    let port = words.get(1).map_or("", |word| word.as_str());
-    let links = PortLinks::new(rt, port);
-    let (status, _links, keeper) = serve(rt.alloc(), rt, words, links, keeper);
-    (status, keeper)
-}
-
 // Says how the words are to be where they are none of a server's.
 fn served(rt: &HostRuntime, status: u8) -> u8 {
     if status == NO_COMMAND {
-        let _ = eprintln!(rt; "usage: serve PORT");
+        let _ = eprintln!(rt; "usage: serve PORT WORKERS");
     }
     status
 }
