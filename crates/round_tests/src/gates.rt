@@ -15,6 +15,7 @@ const PAUSE: u64 = 100;
 struct Seen {
     first: u32,
     answered: bool,
+    came: bool,
     looks: u64,
     gave_up: bool,
 }
@@ -22,6 +23,7 @@ struct Seen {
 const NOTHING: Seen = Seen {
     first: 0,
     answered: false,
+    came: false,
     looks: 0,
     gave_up: false,
 };
@@ -75,7 +77,8 @@ impl<R: Wait + Clock> Gate for HoldsTheFirst<'_, R> {
     }
 }
 
-/// Holds the second call of each worker until worker 0 comes to its second look.
+/// Holds the second call of each worker until worker 0 comes to its second look, and the other worker to its first call: so each of two
+/// workers serves one of two connections.
 #[derive(Drop)]
 pub struct HoldsForLooks<'a, R: Wait + Clock> {
     rt: &'a R,
@@ -96,17 +99,35 @@ impl<'a, R: Wait + Clock> HoldsForLooks<'a, R> {
     }
 }
 
+// Notes that a worker came, and whether another one had come before.
+fn note_worker<R: Wait>(rt: &R, seen: &Mutex<Seen>, worker: u32) {
+    let mut seen = seen.lock(rt);
+    if seen.first == 0 {
+        seen.first = worker;
+    }
+    if worker != seen.first {
+        seen.came = true;
+    }
+}
+
+// Worker 0 has come to its second look, and two other workers have come.
+fn may_go_on<R: Wait>(rt: &R, seen: &Mutex<Seen>) -> bool {
+    let seen = seen.lock(rt);
+    seen.looks >= 2 && seen.came
+}
+
 impl<R: Wait + Clock> Gate for HoldsForLooks<'_, R> {
     fn pass(&self, worker: u32, call: u64) {
         if worker == 0 {
             self.seen.lock(self.rt).looks = call;
             return;
         }
+        note_worker(self.rt, &self.seen, worker);
         if call != 2 {
             return;
         }
         for _ in 0..TURNS {
-            if self.seen.lock(self.rt).looks >= 2 {
+            if may_go_on(self.rt, &self.seen) {
                 return;
             }
             thread::sleep(self.rt, Duration::from_micros(PAUSE));

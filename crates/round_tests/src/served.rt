@@ -29,7 +29,8 @@ pub struct Sent<'a> {
     pub failing: &'a [u64],
 }
 
-fn links(alloc: Global, sent: Sent<'_>) -> Result<Memories, AllocError> {
+/// They.
+pub fn links(alloc: Global, sent: Sent<'_>) -> Result<Memories, AllocError> {
     let mut links = Vec::new(alloc);
     for _ in 0..sent.count {
         let source = MemorySource::new(sent.bytes.to_vec(alloc)?, Vec::new(alloc), Vec::new(alloc));
