@@ -10,7 +10,7 @@ use Rattle.tracker_server.specs.Exchanges.{Exchange}
 use Rattle.tracker_server.specs.declared.event.Event.{Event}
 use Rattle.tracker_server.specs.declared.serve.ConnEnd.{ConnEnd}
 use Rattle.tracker_server.specs.declared.serve.ConnEnd.TheVariants as conn
-use Rattle.tracker_cli.specs.Serving.{HasServed, IsServe, failures_among}
+use Rattle.tracker_cli.specs.Serving.{HasServed, failures_among}
 use Rattle.run_laws.specs.Twice.{Had}
 use Rattle.whole_laws.specs.Connections.{EndsByBytes, EndsWithLinks, IsByBytes, IsServed, NeitherFailed}
 use Rattle.whole_laws.proofs.Counts.{no_bad, none_failed}
@@ -59,20 +59,20 @@ zero_or_six status range one two four five = by (cases_eq status 0) (cases_eq st
     by (inr some) (inr other) = let most = range.0 in let three = range.1 in absurd (omega (arith, most, three, one, two, four, five, some, other))
 
 module _ {P : Type 0} (keeps : P → Rows → Type 0) (tells : P → Type 0) (faults : P → ℕ) (leaves : P → Rows → Rows → Type 0) (Linked : DeskParts P → List Event → DeskParts P → Type 0)
-    (setup_text : List ℕ) (old_keeper new_keeper : P) (words : List (List ℕ)) (status links_before links_now : ℕ) where
+    (setup_text : List ℕ) (old_keeper new_keeper : P) (Asked : Type 0) (status links_before links_now : ℕ) where
   abbrev All : Type 0
   All = HasServed keeps tells faults leaves Linked setup_text old_keeper new_keeper
 
-  pub ends_with_links : (status ≡ 1 → (port : ℕ) → ¬ IsServe words port) → ((status ≡ 0) ⊎ (status ≡ 2) → All) → (status ≡ 2 → Rose links_before links_now) → (status ≡ 4 → Rose (faults old_keeper) (faults new_keeper))
+  pub ends_with_links : (status ≡ 1 → Asked → ⊥) → (status ≡ 0 → All) → (status ≡ 2 → Rose links_before links_now) → (status ≡ 4 → Rose (faults old_keeper) (faults new_keeper))
       → (status ≡ 5 → (kind : ℕ) × (number : ℕ) × HasBadRow keeps tells old_keeper new_keeper kind number) → (status ≤ 6) × (status ≢ 3)
-      → EndsWithLinks (NeitherFailed links_before links_now (faults old_keeper) (faults new_keeper)) (Had keeps tells old_keeper new_keeper) setup_text words status
+      → EndsWithLinks (NeitherFailed links_before links_now (faults old_keeper) (faults new_keeper)) Asked (Had keeps tells old_keeper new_keeper) setup_text status
       (λ refused. (served : All) × (failures_among served.events ≡ refused))
-  ends_with_links usage served linked kept bad range port rows m is had opened none =
-      by (zero_or_six status range (λ one. usage one port is) (λ two. none.one (linked two)) (λ four. none.other (kept four))
+  ends_with_links usage served linked kept bad range rows m asked had opened none =
+      by (zero_or_six status range (λ one. usage one asked) (λ two. none.one (linked two)) (λ four. none.other (kept four))
       (λ five. let b = bad five in no_bad setup_text rows m b.0 b.1 opened (b.2 rows had.kept had.told)))
     where
       by : (status ≡ 6) ⊎ (status ≡ 0) → (status ≡ 6) ⊎ ((status ≡ 0) × ((s : All) × (failures_among s.events ≡ 0)))
       by (inl six) = inl six
       by (inr zero) =
-          let s : All = served (inl zero) in
+          let s : All = served zero in
           inr (zero, (s, none_failed (faults old_keeper) (faults new_keeper) (failures_among s.events) none.other s.counted))

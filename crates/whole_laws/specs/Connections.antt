@@ -12,7 +12,6 @@ use Rattle.tracker_server.specs.Exchanges.{Exchange, AreAnswered, events_of, req
 use Rattle.tracker_server.specs.declared.event.Event.{Event}
 use Rattle.tracker_server.specs.declared.serve.ConnEnd.{ConnEnd}
 use Rattle.tracker_server.specs.declared.serve.ConnEnd.TheVariants as conn
-use Rattle.tracker_cli.specs.Serving.{IsServe}
 
 -- neither count of faults rose, and neither stands at its last value
 pub record NeitherFailed (one_before one_now other_before other_now : ℕ) : Type 0 where
@@ -53,11 +52,10 @@ EndsByBytes Unfailing end Served old new =
     × ((exchanges : List Exchange) × (last : Option Refused) × Served exchanges last
     × Appends old new (joined (responses 16 exchanges last))))
 
--- Where neither the links nor the keeper failed, a server over rows that are a tracker's, or none, ends as no link is left, and no call was
--- refused since the keeper failed; or memory lacked. `Served` says what was served, and that so many calls were refused so.
-abbrev pub EndsWithLinks : Type 0 → (Rows → Type 0) → List ℕ → List (List ℕ) → ℕ
-    → (ℕ → Type 0) → Type 0
-EndsWithLinks Unfailing Have setup_text words status Served =
-    (port : ℕ) (rows : Rows) (m : Machine) → IsServe words port → Have rows
-    → IsOpened setup_text rows m → Unfailing
+-- Where neither the links nor the keeper failed, a server that was asked for over rows that are a tracker's, or none, ends as no link is
+-- left, and no call was refused since the keeper failed; or memory lacked. `Served` says what was served, and that so many calls were
+-- refused so.
+abbrev pub EndsWithLinks : Type 0 → Type 0 → (Rows → Type 0) → List ℕ → ℕ → (ℕ → Type 0) → Type 0
+EndsWithLinks Unfailing Asked Have setup_text status Served =
+    (rows : Rows) (m : Machine) → Asked → Have rows → IsOpened setup_text rows m → Unfailing
     → (status ≡ 6) ⊎ ((status ≡ 0) × Served 0)

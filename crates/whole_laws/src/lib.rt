@@ -3,8 +3,10 @@
 
 mod command;
 mod connection;
+mod rounds;
 mod server;
 
 pub use command::run_command;
 pub use connection::serve_one;
+pub use rounds::serve_all_by_rounds;
 pub use server::serve_all;

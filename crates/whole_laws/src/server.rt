@@ -1,8 +1,8 @@
 //! A server in which nothing outside failed.
-ghost use Rattle.std.specs.Prelude.{◌≡◌, map, string_bytes};
+ghost use Rattle.std.specs.Prelude.{◌≡◌, ℕ, map, string_bytes};
 ghost use Rattle.run_laws.specs.Twice.{Had};
 ghost use Rattle.tracker_server.specs.Served.{AreOfLinks};
-ghost use Rattle.tracker_cli.specs.Serving.{MakesCall, HasServed, failures_among};
+ghost use Rattle.tracker_cli.specs.Serving.{MakesCall, IsServe, HasServed, failures_among};
 ghost use Rattle.whole_laws.specs.Connections.{EndsWithLinks, NeitherFailed};
 
 use fields::BUILT_IN;
@@ -24,7 +24,8 @@ pub fn serve_all<R: Wait, K: Links, P: Keeper + Drop>(
 ) -> (u8, K, P)
     ensures { EndsWithLinks
         (NeitherFailed (K.faults links) (K.faults result.1) (P.faults keeper) (P.faults result.2))
-        (Had P.keeps P.tells keeper result.2) BUILT_IN.now (map string_bytes words.now) result.0
+        ((port : ℕ) × IsServe (map string_bytes words.now) port)
+        (Had P.keeps P.tells keeper result.2) BUILT_IN.now result.0
         (λ refused. (served : HasServed P.keeps P.tells P.faults P.leaves
         (AreOfLinks K.In.left K.At.ahead (MakesCall P.keeps P.tells P.faults P.leaves)
         (K.ahead links) (K.ahead result.1))
