@@ -256,7 +256,7 @@ class Trial:
             it.bind(('127.0.0.1', 0))
             port = it.getsockname()[1]
         self.disk.filled()
-        server = self.disk.start([self.program, self.store, 'serve', str(port)], stdout=subprocess.DEVNULL)
+        server = self.disk.start([self.program, self.store, 'serve', str(port), '2'], stdout=subprocess.DEVNULL)
         try:
             self.served(server, port)
         finally:
@@ -264,7 +264,7 @@ class Trial:
             server.wait()
 
     def served(self, server, port):
-        for _ in range(100):
+        for _ in range(1_200):
             time.sleep(0.1)
             with contextlib.suppress(ConnectionRefusedError):
                 socket.create_connection(('127.0.0.1', port), 1).close()

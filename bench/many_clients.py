@@ -3,7 +3,7 @@
 
 usage: python3 bench/many_clients.py PROGRAM [--clients N] [--seconds N] [--workers N] [--kills N] [--seed N] [--kept FOLDER]
 
-PROGRAM is the built tracker, crates/tracker/out/tracker. It serves a file, by `serve PORT`, or with N workers by `serve PORT N`. 64 clients
+PROGRAM is the built tracker, crates/tracker/out/tracker. It serves a file by `serve PORT N`, with 4 workers where none are named. 64 clients
 ask it for 600 seconds, each a process that sends one call after another, in connections of one to sixteen requests: creates with an external
 id, edits, transitions, moves and reads. Some requests are sent in two pieces. Two thirds of a second apart on average, one of them is killed,
 and another one takes its place; where the killed one waited for the answer to a create, that create is sent again.
@@ -208,9 +208,10 @@ class Trial:
         return replies
 
     def serve(self):
-        words = ['serve', str(self.port), *([str(self.options.workers)] if self.options.workers else [])]
+        words = ['serve', str(self.port), str(self.options.workers)]
         server = subprocess.Popen([self.options.program, self.store, *words], stdout=subprocess.DEVNULL)
-        for _ in range(400):
+        end = time.monotonic() + PATIENCE
+        while time.monotonic() < end:
             with contextlib.suppress(ConnectionRefusedError):
                 socket.create_connection((HOST, self.port), 1).close()
                 return server
@@ -395,7 +396,7 @@ def main():
     asked.add_argument('program')
     asked.add_argument('--clients', type=int, default=64)
     asked.add_argument('--seconds', type=float, default=600)
-    asked.add_argument('--workers', type=int)
+    asked.add_argument('--workers', type=int, default=4)
     asked.add_argument('--kills', type=int)
     asked.add_argument('--seed', type=int, default=random.SystemRandom().randrange(10 ** 9))
     asked.add_argument('--kept', type=pathlib.Path)

@@ -323,7 +323,7 @@ class Served:
         with socket.socket() as it:
             it.bind(('127.0.0.1', 0))
             port = it.getsockname()[1]
-        words = ['serve', str(port), *([str(self.workers)] if self.workers else [])]
+        words = ['serve', str(port), str(self.workers)]
         server = subprocess.Popen([runs.program, runs.store, *words], env=runs.refusing(number, lasting), stdout=subprocess.DEVNULL,
                                   stderr=subprocess.DEVNULL)
         try:
@@ -430,7 +430,7 @@ def main():
     asked.add_argument('--lasting', action='store_true')
     asked.add_argument('--seconds', type=float, default=3_600)
     asked.add_argument('--seed', type=int, default=random.SystemRandom().randrange(10 ** 9))
-    asked.add_argument('--workers', type=int)
+    asked.add_argument('--workers', type=int, default=1)
     options = asked.parse_args()
     print(f'seed {options.seed}', flush=True)
     signal.signal(signal.SIGTERM, lambda *_: sys.exit('ended'))

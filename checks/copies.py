@@ -159,7 +159,7 @@ def opened(program, copy):
 
 
 def serving(program, store):
-    run = subprocess.Popen([program, store, 'serve', str(PORT)])
+    run = subprocess.Popen([program, store, 'serve', str(PORT), '2'])
     while run.poll() is None:
         with socket.socket() as link:
             if link.connect_ex(('127.0.0.1', PORT)) == 0:

@@ -1,12 +1,14 @@
 #!/usr/bin/env python3
 """Asks the tracker over HTTP by sockets, by Python's client and by curl, and compares what comes with what docs/HTTP.md says.
 
-usage: python3 checks/over_http.py [PROGRAM [PORT]]
+usage: python3 checks/over_http.py [PROGRAM [PORT]] [--workers N]
 
-PROGRAM is the built tracker, crates/tracker/out/tracker by default, and is started on PORT of 127.0.0.1, 8766 by default. Each case
-has a line. The last one counts them, and the status is 1 where one is not ok. It takes two minutes, most of them behind clients that are
-slow. bench/http_requests.py times requests.
+PROGRAM is the built tracker, crates/tracker/out/tracker by default, and is started on PORT of 127.0.0.1, 8766 by default, with 4 workers or
+with N. Each case has a line. The last one counts them, and the status is 1 where one is not ok. It takes two to five minutes, most of them
+behind clients that are slow. bench/http_requests.py times requests.
 """
+import argparse
+import contextlib
 import http.client
 import json
 import os
@@ -75,10 +77,10 @@ def answers(came, without_body=False):
 
 
 class Asking:
-    """Asks the program on a port, and tells each case."""
+    """Asks the program on a port, which serves with so many workers, and tells each case."""
 
-    def __init__(self, port):
-        self.port, self.good, self.bad = port, 0, 0
+    def __init__(self, port, workers=1):
+        self.port, self.workers, self.good, self.bad = port, workers, 0, 0
 
     def tell(self, name, wanted, came):
         if wanted == came:
@@ -317,24 +319,98 @@ def never_reads(link, _stop):
         pass
 
 
-def slow_clients(ask):
-    """Clients that hold a connection up, and how long the next one waits behind them."""
-    for name, hold, limit in (('a client that sends nothing', silent, 12), ('half a head', half_a_head, 12), ('one that never reads', never_reads, 15),
-                              ('a byte each two seconds', trickle, 62)):
-        stop = threading.Event()
-        with socket.socket() as link:
+def idle(link, _stop):
+    """Asks for an issue, and keeps its connection open."""
+    link.sendall(request(SHOW))
+
+
+@contextlib.contextmanager
+def held(ask, hold, count):
+    """So many clients that hold a connection up, each in this way."""
+    stop = threading.Event()
+    with contextlib.ExitStack() as stack:
+        holders = []
+        for _ in range(count):
+            link = stack.enter_context(socket.socket())
             link.setsockopt(socket.SOL_SOCKET, socket.SO_RCVBUF, 4_096)
             link.connect((HOST, ask.port))
-            holder = threading.Thread(target=hold, args=(link, stop))
-            holder.start()
-            time.sleep(0.3)
-            begun = time.time()
-            came = answers(ask.exchange(request(SHOW, CLOSE), finish=False, patience=90))
-            took = time.time() - begun
-            stop.set()
+            holders.append(threading.Thread(target=hold, args=(link, stop)))
+            holders[-1].start()
+        time.sleep(0.3)
+        yield
+        stop.set()
+        for holder in holders:
             holder.join()
-        ask.tell(f'behind {name} the next client is served within {limit} seconds', ([200], True), ([it.status for it in came], took <= limit))
-        print(f'        after {took:.1f} seconds')
+
+
+def wait_behind(ask, hold, count):
+    """What the next client is answered behind so many of these, and how long it waits."""
+    with held(ask, hold, count):
+        begun = time.time()
+        came = answers(ask.exchange(request(SHOW, CLOSE), finish=False, patience=200))
+        return came, time.time() - begun
+
+
+def served_behind(ask, name, hold, count, limit, tries=1, least=0):
+    """How long the next client waits behind so many of these, at best."""
+    came, took = wait_behind(ask, hold, count)
+    while took > limit and tries > 1:
+        # (whom the end of a round fell upon has waited for all workers; the next one doesn't)
+        tries -= 1
+        came, took = wait_behind(ask, hold, count)
+    ask.tell(f'behind {name} the next client is served within {limit} seconds', ([200], True), ([it.status for it in came], least <= took <= limit))
+    print(f'        after {took:.1f} seconds')
+
+
+def slow_clients(ask):
+    """Clients that hold a connection up, one in each worker, and how long the next one waits behind them."""
+    for name, hold, limit in (('clients that send nothing', silent, 12), ('half a head', half_a_head, 12), ('some that never read', never_reads, 15),
+                              ('a byte each two seconds', trickle, 62)):
+        if ask.workers > 1:
+            served_behind(ask, f'{name}, in each worker but one,', hold, ask.workers - 1, 2, tries=2)
+            # (until they have gone, none is free for those that hold up all of them)
+            time.sleep(0.5)
+        served_behind(ask, f'{name}, in each worker,', hold, ask.workers, limit)
+
+
+def idle_clients(ask):
+    """Sixteen connections that stay open: ten seconds and a fifth, for the reading away, for each that a worker has to wait for."""
+    served_behind(ask, 'sixteen connections that stay open', idle, 16, round(10.3 * -(-16 // ask.workers)) + 3)
+
+
+def beside_each_other(ask):
+    """Creates by as many clients at once as there are workers, and the keys and changes that they are told."""
+    count = 10 * ask.workers
+    said, lock = [], threading.Lock()
+
+    def create():
+        for found in answers(ask.exchange(posted(CREATE, CLOSE), finish=False)):
+            with lock:
+                said.append((found.status, found.body))
+
+    before = json.loads(answers(ask.exchange(request('/search?jql=', CLOSE)))[0].body)['ok']['total']
+    clients = [threading.Thread(target=create) for _ in range(count)]
+    for client in clients:
+        client.start()
+    for client in clients:
+        client.join()
+    wanted = [f'OPS-{number}' for number in range(before + 1, before + count + 1)]
+    ask.tell(f'{count} creates at once', ([200] * count, sorted(wanted)),
+             ([status for status, _ in said], sorted(json.loads(body)['ok']['issue'] for _, body in said)))
+
+
+def rebalanced(ask):
+    """Moves between the same two, until a rank has 128 bytes. Worker 0 begins a rebalancing then and ends it, while clients go on."""
+    moves = b''.join(posted(b'{"call":"move_before","issue":"OPS-%d","other":"OPS-%d"}' % pair) for pair in ((3, 2), (2, 3)) * 8)
+    statuses, longest, now = set(), 0, {}
+    for _ in range(60):
+        statuses |= {it.status for it in answers(ask.exchange(moves))}
+        now = json.loads(answers(ask.exchange(posted(b'{"call":"balance"}', CLOSE)))[0].body)['ok']
+        if now.get('bucket') == 1:
+            break
+        longest = max(longest, now['longest'])
+    ask.tell('ranks that have grown long are rebalanced', ({200}, True, True, 1, 'idle'),
+             (statuses, 100 < longest < 144, now['longest'] < 64, now.get('bucket'), now['state']))
 
 
 def long_bodies(ask):
@@ -367,9 +443,43 @@ def without_descriptors(ask, running):
     ask.tell('a client that comes while no descriptor is free', ([200], True, None), ([it.status for it in found], 2 < took < 10, running.poll()))
 
 
-def started(program, port):
-    """The program, which listens."""
-    running = subprocess.Popen([program, ':memory:', 'serve', str(port)], stdout=subprocess.DEVNULL)
+def threads_of(running):
+    """How many threads the program has."""
+    return len(os.listdir(f'/proc/{running.pid}/task'))
+
+
+def with_threads(ask, running):
+    """Each worker has a thread, and so has worker 0, as soon as a round has begun."""
+    for _ in range(40):
+        if threads_of(running) == ask.workers + 1:
+            break
+        time.sleep(0.05)
+    ask.tell(f'the threads of {ask.workers} workers and of worker 0', ask.workers + 1, threads_of(running))
+
+
+def without_threads(ask, program):
+    """No thread can be made. One worker serves on the thread of the program then, more connections than a round takes."""
+    if os.geteuid() or not shutil.which('setpriv') or not shutil.which('prlimit'):
+        print('setpriv or prlimit is not there, or the user is not root: the case without threads is left out')
+        return
+    with tempfile.TemporaryDirectory() as room:
+        os.chmod(room, 0o755)
+        limited = ['setpriv', '--reuid=65534', '--regid=65534', '--clear-groups', 'prlimit', '--nproc=1:1', shutil.copy(program, room)]
+        running = started(limited, ask.port, ask.workers)
+        try:
+            ask.one('an issue is made without threads', posted(CREATE, CLOSE), 200, '{"ok":{"already":false,"change":1,"issue":"OPS-1"}}')
+            many = [answers(ask.exchange(request(SHOW, CLOSE)))[0].status for _ in range(70)]
+            ask.tell('seventy connections without threads', ([200] * 70, 1, None), (many, threads_of(running), running.poll()))
+            served_behind(ask, 'one that sends nothing, and without threads,', silent, 1, 12, least=9)
+        finally:
+            running.kill()
+            running.wait()
+
+
+def started(program, port, workers=1, store=':memory:'):
+    """The program, or these words before its own, which listens."""
+    before = [program] if isinstance(program, str) else program
+    running = subprocess.Popen([*before, store, 'serve', str(port), str(workers)], stdout=subprocess.DEVNULL)
     for _ in range(200):
         if running.poll() is not None:
             sys.exit(f'{program} ended with status {running.returncode}')
@@ -382,20 +492,28 @@ def started(program, port):
     sys.exit(f'{program} does not listen')
 
 
+def words():
+    known = argparse.ArgumentParser(description=__doc__, formatter_class=argparse.RawDescriptionHelpFormatter)
+    known.add_argument('program', nargs='?', default=str(TOP / 'crates/tracker/out/tracker'))
+    known.add_argument('port', nargs='?', type=int, default=8766)
+    known.add_argument('--workers', type=int, default=4)
+    return known.parse_args()
+
+
 def main():
-    words = sys.argv[1:]
-    if len(words) > 2 or words[:1] in (['-h'], ['--help']):
-        sys.exit(__doc__)
-    program = os.path.abspath(words[0]) if words else str(TOP / 'crates/tracker/out/tracker')
-    ask = Asking(int(words[1]) if len(words) > 1 else 8766)
-    running = started(program, ask.port)
+    given = words()
+    ask = Asking(given.port, given.workers)
+    running = started(os.path.abspath(given.program), ask.port, ask.workers)
     try:
-        for cases in (calls, targets, heads, methods, connections, python_client, curl, long_bodies, slow_clients):
+        for cases in (calls, targets, heads, methods, connections, python_client, curl, beside_each_other, rebalanced, long_bodies, slow_clients,
+                      idle_clients):
             cases(ask)
+        with_threads(ask, running)
         without_descriptors(ask, running)
     finally:
         running.kill()
         running.wait()
+    without_threads(ask, os.path.abspath(given.program))
     print(f'{ask.good} ok, {ask.bad} not ok')
     sys.exit(1 if ask.bad else 0)
 

@@ -1,12 +1,13 @@
 #!/usr/bin/env python3
 """Runs the tracker behind nginx, by the configuration of docs/HTTP.md, and asks it by curl with names and passwords.
 
-usage: python3 checks/over_nginx.py [PROGRAM]
+usage: python3 checks/over_nginx.py [PROGRAM] [--workers N] [--kept N]
 
-PROGRAM is the built tracker, crates/tracker/out/tracker by default. It is served on port 8765 of 127.0.0.1, and nginx listens on 8443. nginx,
-openssl and curl have to be there, and wrk may be: it tells how many shows come through in a second. Each case has a line; the status is
-1 where one is not ok.
+PROGRAM is the built tracker, crates/tracker/out/tracker by default. It is served on port 8765 of 127.0.0.1 with 4 workers or with N, and nginx
+listens on 8443. With `--kept` nginx keeps so many connections to it open. nginx, openssl and curl have to be there, and wrk may be: it
+tells how many shows come through in a second. Each case has a line; the status is 1 where one is not ok.
 """
+import argparse
 import pathlib
 import re
 import shutil
@@ -20,16 +21,24 @@ TOP = pathlib.Path(__file__).resolve().parent.parent
 FRONT = 'https://127.0.0.1:8443'
 
 
-def set_up(room):
+def set_up(room, kept):
     """nginx's configuration, a certificate and a user in that folder."""
     page = (TOP / 'docs/HTTP.md').read_text(encoding='utf-8')
-    server = re.search(r'```nginx\n(.*?)```', page, re.S)[1].replace('/etc/nginx/', f'{room}/')
+    server, keeping, *_ = (it.replace('/etc/nginx/', f'{room}/') for it in re.findall(r'```nginx\n(.*?)```', page, re.S))
+    if kept:
+        server = re.sub(r'keepalive +[0-9]+;', f'keepalive {kept};', keeping) + re.sub(r'( +)proxy_pass.*?Connection close;\n',
+                                                                                  lambda it: kept_open(it[1]), server, flags=re.S)
     (room / 'nginx.conf').write_text(f'pid {room}/pid;\nerror_log {room}/errors;\nevents {{}}\nhttp {{\naccess_log off;\n{server}}}\n', encoding='utf-8')
     subprocess.run(['openssl', 'req', '-x509', '-newkey', 'rsa:2048', '-nodes', '-days', '1', '-subj', '/CN=localhost', '-keyout', f'{room}/tracker.key',
                     '-out', f'{room}/tracker.crt'], check=True, capture_output=True)
     word = subprocess.run(['openssl', 'passwd', '-apr1', 'secret'], check=True, capture_output=True, text=True).stdout
     (room / 'tracker.users').write_text(f'anna:{word}', encoding='utf-8')
     room.chmod(0o755)
+
+
+def kept_open(margin):
+    """How a location passes requests on by connections that stay open."""
+    return ''.join(f'{margin}{line}\n' for line in ('proxy_pass http://tracker;', 'proxy_http_version 1.1;', 'proxy_set_header Connection "";'))
 
 
 def curl(*words, user='anna:secret'):
@@ -70,14 +79,18 @@ def wait_for(port):
 
 
 def main():
-    program = sys.argv[1] if len(sys.argv) > 1 else str(TOP / 'crates/tracker/out/tracker')
-    if not pathlib.Path(program).is_file():
-        sys.exit(f'{program} is not there: nothing was tried')
+    known = argparse.ArgumentParser(description=__doc__, formatter_class=argparse.RawDescriptionHelpFormatter)
+    known.add_argument('program', nargs='?', default=str(TOP / 'crates/tracker/out/tracker'))
+    known.add_argument('--workers', type=int, default=4)
+    known.add_argument('--kept', type=int, default=0)
+    given = known.parse_args()
+    if not pathlib.Path(given.program).is_file():
+        sys.exit(f'{given.program} is not there: nothing was tried')
     wrong = 0
     with tempfile.TemporaryDirectory() as name:
         room = pathlib.Path(name)
-        set_up(room)
-        tracker = subprocess.Popen([program, f'{room}/rows', 'serve', '8765'])
+        set_up(room, given.kept)
+        tracker = subprocess.Popen([given.program, f'{room}/rows', 'serve', '8765', str(given.workers)])
         nginx = subprocess.Popen(['nginx', '-c', f'{room}/nginx.conf', '-g', 'daemon off;'], stderr=subprocess.DEVNULL)
         try:
             for port in (8765, 8443):

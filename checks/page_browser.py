@@ -82,7 +82,7 @@ class Servers:
         wait_for_port(self.port)
 
     def start_tracker(self):
-        self.tracker = subprocess.Popen([self.program, self.file, 'serve', str(self.behind)], stdout=subprocess.DEVNULL)
+        self.tracker = subprocess.Popen([self.program, self.file, 'serve', str(self.behind), '4'], stdout=subprocess.DEVNULL)
         wait_for_port(self.behind)
 
     def stop_tracker(self):

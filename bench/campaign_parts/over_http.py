@@ -1,4 +1,4 @@
-"""Connections to `serve PORT`, one after another, over a file."""
+"""Connections to `serve PORT 1`, one after another, over a file."""
 import contextlib
 import json
 import os
@@ -114,7 +114,7 @@ class OverHttp:
     def serve(self):
         self.stop()
         self.port = free_port()
-        self.server = subprocess.Popen([self.program, self.store, 'serve', str(self.port)], stdout=subprocess.DEVNULL,
+        self.server = subprocess.Popen([self.program, self.store, 'serve', str(self.port), '1'], stdout=subprocess.DEVNULL,
                                        stderr=subprocess.PIPE)
         end = time.monotonic() + SECONDS
         while time.monotonic() < end and self.server.poll() is None:
