@@ -19,7 +19,8 @@ bytes, words, numbers, characters and brackets. Of each:
 - setups: behind a fault there are no rows; standard error says at most the place that docs/SETUP-FAULTS.md has for it. A good setup is kept as
   it is, can be used, is opened again, and isn't made again. What Python's reader takes for TOML isn't refused as none.
 - rows: a file whose rows, form, pages or log were changed is opened as C SQLite reads it, or refused, and then it and the commits
-  of its log are as they were. What is opened can be used, and is sound for C SQLite afterwards.
+  of its log are as they were, or after status 5 all in the file, with the same rows. What is opened can be used, and is sound for C SQLite
+  afterwards.
 
 The seed is printed first; with `--seed` all is the same again but what the clock and the port say. A wrong input is made smaller, and kept in
 a folder of its own in FOLDER (tracker-campaign-SEED in the folder for temporary files) with the file as it was before and the command that

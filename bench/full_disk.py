@@ -12,7 +12,8 @@ which is raised again (the signal that comes with it is ignored, as a service ma
   lines are acknowledged again, in the same run. The rows are those of the other tracker.
 - kill: the run is killed while the disk is full. A copy of the file and its log on another disk has the rows of the acknowledged lines; so has
   the file itself, opened while the disk is full, where it is opened at all, and opened when there is room.
-- serve: a request that changes something is answered 503, one that reads 200; when there is room, 200.
+- serve: requests that change something are answered 200 while they fit, and then one 503; one that reads is answered 200; when there is
+  room, both 200.
 - begin: `init` and `exec` on a full disk with a file that isn't there yet; when there is room they make it.
 
 What was seen is told a line at a time; what may not be so begins with `wrong`, and the status is then 1.
@@ -37,6 +38,7 @@ from kills import rows_of  # noqa: E402
 
 MEGABYTE = 1_048_576
 SIZE, FILLER = 3 * MEGABYTE, 1 * MEGABYTE
+MOST_EDITS = 1_000
 SETUP = TOP / 'docs/NEW-TRACKER.md'
 READS = [{'call': 'show', 'issue': 'OPS-1'}, {'call': 'history', 'issue': 'OPS-2', 'count': 3},
          {'call': 'search', 'jql': 'points >= 0 ORDER BY rank DESC', 'count': 20},
@@ -272,10 +274,14 @@ class Trial:
             if server.poll() is not None:
                 self.tell(f'serve on a full disk ends with status {server.returncode}')
                 return
-        edit = {'call': 'edit', 'issue': 'OPS-1', 'set': {'description': 'w' * 4_000}}
-        self.tell(f'a show is answered {self.request(port, READS[0])}, an edit {self.request(port, edit)}')
+        edits = ({'call': 'edit', 'issue': 'OPS-1', 'set': {'description': f'{number} ' + 'w' * 4_000}} for number in range(MOST_EDITS))
+        answers = [self.request(port, READS[0])]
+        while answers[-1] == 200 and len(answers) < MOST_EDITS:
+            answers.append(self.request(port, next(edits)))
+        full = answers[0], answers[-1], self.request(port, READS[0])
+        self.must(f'a show is answered {full[0]}, {len(answers) - 2} edits 200 and then one {full[1]}, and a show {full[2]}', full == (200, 503, 200))
         self.disk.roomy(server)
-        after = self.request(port, READS[0]), self.request(port, edit)
+        after = self.request(port, READS[0]), self.request(port, next(edits))
         self.must(f'with room a show is answered {after[0]}, an edit {after[1]}', after == (200, 200))
 
     @staticmethod

@@ -12,7 +12,7 @@ cases alike, and what they don't let through is told.
   output was written, and the rows are as before, or for `generate` a tracker's. On a file that isn't there yet too.
 - exec, exec behind, fresh exec, import: the status is 0 or 6. Each line that wasn't refused with 15 has the reply that it has in a run over these lines alone, with
   ample memory, and the file has the rows of that run. At 6 the last reply may be cut, or missing though its call was made.
-- serve: requests over two connections. Each is answered 15 with status 503, or as in such a run, but for the times; where a connection ends
+- serve: requests over two connections. Each is answered 15 with status 507, or as in such a run, but for the times; where a connection ends
   before its last response, or the server ends with status 6, the rest wasn't made, or one call of it.
 
 After each run the file is opened again with ample memory, and has the same rows then. A run that ends by a signal, or not within 60 seconds,
@@ -346,7 +346,7 @@ class Served:
         made, given, maybe = [], [], []
         for calls, found in zip(CONNECTIONS, responses):
             for call, (status, body) in zip(calls, found):
-                if (status == 503) != (body == MEMORY):
+                if (status == 507) != (body == MEMORY):
                     raise Wrong(f'{call} is answered {status} with {body}')
                 if body != MEMORY:
                     made.append(call)

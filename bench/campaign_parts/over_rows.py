@@ -172,9 +172,10 @@ class OverRows:
         told = {0: not ran.out, 4: not ran.out, 5: KEPT.fullmatch(ran.out)}
         if ran.told not in (b'', b'store\n' if ran.status == 4 else b'') or not told.get(ran.status):
             raise Wrong(f'opening: status {ran.status}, {ran.out[:100]!r} and {ran.told[-2_000:]!r}')
-        # (a log without a commit says nothing, and may be made anew)
+        # (a log without a commit says nothing, and may be made anew; one with commits is copied into a file that was opened)
         (file, log), (file_before, log_before) = contents(held), before
-        if ran.status and (file != file_before or committed(log) != committed(log_before)):
+        if ran.status and (file != file_before or committed(log) != committed(log_before)) and not (
+                ran.status == 5 and committed(log_before) and rows is not None and self.rows(held) == rows):
             raise Wrong(f'opening ended with {ran.status}, and the file is not as it was')
         if not ran.status:
             self.used(held, rows, sound, sent)
