@@ -1,6 +1,6 @@
 #!/usr/bin/env python3
-"""Times request lines: 50,000 creates, and 50,000 edits, shows and histories of 5,000 issues; 10,000 moves of 10,000 issues; and 10,000
-creates behind 1,000 issues and behind 40,000.
+"""Times request lines: 50,000 creates, and 50,000 edits, shows and histories of 5,000 issues; 10,000 moves of 10,000 issues
+and of 50,000; and 10,000 creates behind 1,000 issues and behind 40,000.
 
 usage: python3 bench/lines.py PROGRAM.. [LINES]
 
@@ -36,8 +36,8 @@ def edit(number):
     return line('bo', 'edit', issue=f'OPS-{number % ISSUES + 1}', set={'points': str(number // ISSUES % 9 + 1), 'description': f'Seen at step {number} again, and noted.'})
 
 
-def move(by):
-    one, other = by.sample(range(1, RANKED + 1), 2)
+def move(by, issues):
+    one, other = by.sample(range(1, issues + 1), 2)
     return line('anna', by.choice(['move_before', 'move_after']), issue=f'OPS-{one}', other=f'OPS-{other}')
 
 
@@ -78,7 +78,8 @@ KINDS = [
     ('edit', LOAD, [edit(number) for number in range(LINES)]),
     ('show', LOAD, [line('cy', 'show', issue=f'OPS-{number % ISSUES + 1}') for number in range(LINES)]),
     ('history', LOAD, [line('cy', 'history', issue=f'OPS-{number % ISSUES + 1}') for number in range(LINES)]),
-    ('move', [create(number) for number in range(RANKED)], [move(LOTS) for _ in range(10_000)]),
+    ('move', [create(number) for number in range(RANKED)], [move(LOTS, RANKED) for _ in range(10_000)]),
+    ('move of 50,000', [create(number) for number in range(50_000)], [move(LOTS, 50_000) for _ in range(10_000)]),
     ('create behind 1,000', [create(number) for number in range(1_000)], [create(number) for number in range(10_000)]),
     ('create behind 40,000', [create(number) for number in range(40_000)], [create(number) for number in range(10_000)]),
 ]

@@ -1,5 +1,6 @@
 #!/bin/sh
-# Builds an order of 50,000 issues, makes 10,000 moves in it, loads its ranks into a new order, and prints the time for each.
+# Builds orders of 10,000 issues, 50,000 and 200,000, makes 10,000 moves in each at places that a generator names and 10,000 from the
+# end to the top, loads its ranks into a new order, and prints the time for each.
 #
 # The program is written into a copy of the repository's crates, where `rt run` proves and builds it. Nothing in the repository
 # changes. It takes some minutes where the crates below haven't been proved yet, and about one where they have.
@@ -9,17 +10,17 @@ work=$(mktemp -d)
 trap 'rm -rf "$work"' EXIT
 mkdir "$work/crates"
 cp "$top/HANDLES" "$work/HANDLES"
-for crate in field_values rank_strings board; do
+for crate in field_values rising_numbers rank_strings board; do
     cp -a "$top/crates/$crate" "$work/crates/$crate"
     grep "^$crate:" "$top/crates.txt" >> "$work/crates.txt"
 done
 echo "order_bench: field_values rank_strings board" >> "$work/crates.txt"
 program=$work/crates/order_bench
-mkdir -p "$program/src" "$program/proofs/create" "$program/proofs/move_after" "$program/proofs/append"
+mkdir -p "$program/src" "$program/proofs/create" "$program/proofs/move_after" "$program/proofs/move_before" "$program/proofs/append"
 (cd "$work" && git init -q .)
 
 cat > "$program/src/main.rt" <<'RATTLE'
-//! Builds an order of 50,000 issues, moves 10,000 of them, loads their ranks into a new order, and prints the time for each.
+//! Builds orders, moves issues in them, loads their ranks into a new order, and prints the time for each.
 #![tactic(auto)]
 
 use board::{Order, Place, laws};
@@ -29,7 +30,7 @@ use std::alloc::Global;
 use std::process::ExitCode;
 use std::time::Instant;
 
-const ISSUES: u32 = 50_000;
+const SIZES: [u32; 3] = [10_000, 50_000, 200_000];
 const MOVES: u32 = 10_000;
 
 /// Puts a new issue behind all others.
@@ -43,7 +44,7 @@ fn create(order: &mut Order, number: u32) -> Result<(), RankFault> {
     }
     let rank = order.rank_for(None, Place::Last, 0)?;
     let _bucket = rank.bucket();
-    let _ = order.list();
+    let _ = order.issues();
     laws::moves_keep_the_order();
     order.put(issue, rank);
     Ok(())
@@ -56,27 +57,43 @@ fn move_after(order: &mut Order, issue: IssueNo, other: IssueNo) -> Result<(), R
     }
     let rank = order.rank_for(Some(issue), Place::After(other), 0)?;
     let _bucket = rank.bucket();
-    let _ = order.list();
+    let _ = order.issues();
     laws::moves_keep_the_order();
     order.put(issue, rank);
     Ok(())
 }
 
-fn build(order: &mut Order) -> Result<(), RankFault> {
-    for number in 0..ISSUES {
+/// Moves an issue before another one.
+fn move_before(order: &mut Order, issue: IssueNo, other: IssueNo) -> Result<(), RankFault> {
+    if issue.0 == other.0 || order.place_of(issue).is_none() || order.place_of(other).is_none() {
+        return Ok(());
+    }
+    let rank = order.rank_for(Some(issue), Place::Before(other), 0)?;
+    let _bucket = rank.bucket();
+    let _ = order.issues();
+    laws::moves_keep_the_order();
+    order.put(issue, rank);
+    Ok(())
+}
+
+fn build(order: &mut Order, issues: u32) -> Result<(), RankFault> {
+    for number in 0..issues {
         create(order, number + 1)?;
     }
     Ok(())
 }
 
 /// Issues that a generator names.
-fn move_some(order: &mut Order) -> Result<(), RankFault> {
+fn move_some(order: &mut Order, issues: u32) -> Result<(), RankFault> {
+    if issues == 0 {
+        return Ok(());
+    }
     let mut seed: u32 = 1;
     for _ in 0..MOVES {
         seed = seed.wrapping_mul(1_664_525).wrapping_add(1_013_904_223);
-        let issue = IssueNo((seed >> 8) % ISSUES + 1);
+        let issue = IssueNo((seed >> 8) % issues + 1);
         seed = seed.wrapping_mul(1_664_525).wrapping_add(1_013_904_223);
-        let other = IssueNo((seed >> 8) % ISSUES + 1);
+        let other = IssueNo((seed >> 8) % issues + 1);
         move_after(order, issue, other)?;
     }
     Ok(())
@@ -84,9 +101,11 @@ fn move_some(order: &mut Order) -> Result<(), RankFault> {
 
 /// The ranks of the issues, in the order of their numbers, as rows keep them.
 fn kept_ranks(alloc: Global, order: &Order) -> Result<Vec<(Rank, IssueNo)>, Memory> {
-    let mut kept = Vec::with_capacity(alloc, order.list().len())?;
-    for pair in order.list() {
-        kept.push((pair.0.copy(alloc)?, pair.1))?;
+    let mut kept = Vec::with_capacity(alloc, order.issues().len())?;
+    for issue in order.issues() {
+        if let Some(rank) = order.rank_of(*issue) {
+            kept.push((rank.copy(alloc)?, *issue))?;
+        }
     }
     kept.sort_unstable_by_key(|pair| pair.1.0);
     Ok(kept)
@@ -103,7 +122,7 @@ fn append(order: &mut Order, rank: Rank, issue: IssueNo) -> bool {
     if !order.is_above_all(&rank) {
         return false;
     }
-    let _ = order.list();
+    let _ = order.issues();
     laws::ranks_that_rise();
     order.put(issue, rank);
     true
@@ -114,7 +133,7 @@ fn load(alloc: Global, kept: Vec<(Rank, IssueNo)>) -> Option<Order> {
     let mut kept = kept;
     kept.sort_unstable_by(|a, b| a.0.cmp(&b.0));
     let mut order = Order::empty(alloc);
-    let Ok(()) = order.reserve(2 * ISSUES as usize) else {
+    let Ok(()) = order.reserve(kept.len()) else {
         return None;
     };
     for (rank, issue) in kept {
@@ -125,44 +144,49 @@ fn load(alloc: Global, kept: Vec<(Rank, IssueNo)>) -> Option<Order> {
     Some(order)
 }
 
-fn main(rt: HostRuntime) -> ExitCode {
+/// Moves the last issue to the top, so many times.
+fn move_up(order: &mut Order) -> Result<(), RankFault> {
+    for _ in 0..MOVES {
+        if let ([first, ..], [.., last]) = (order.issues(), order.issues()) {
+            let (first, last) = (*first, *last);
+            move_before(order, last, first)?;
+        }
+    }
+    Ok(())
+}
+
+/// What is timed of an order of so many issues, in nanoseconds: a create, a move, a move from the end to the top, and loading a rank.
+fn timed(rt: &HostRuntime, issues: u32) -> Option<[u128; 4]> {
     let mut order = Order::empty(rt.alloc());
-    let Ok(begin) = Instant::now(&rt) else {
-        return ExitCode::from(1);
-    };
-    if build(&mut order).is_err() {
-        return ExitCode::from(2);
+    let begin = Instant::now(rt).ok()?;
+    build(&mut order, issues).ok()?;
+    let built = Instant::now(rt).ok()?;
+    move_some(&mut order, issues).ok()?;
+    let moved = Instant::now(rt).ok()?;
+    move_up(&mut order).ok()?;
+    let end = Instant::now(rt).ok()?;
+    let kept = kept_ranks(rt.alloc(), &order).ok()?;
+    let unloaded = Instant::now(rt).ok()?;
+    let loaded = load(rt.alloc(), kept)?;
+    let now = Instant::now(rt).ok()?;
+    if loaded.len() != order.len() {
+        return None;
     }
-    let Ok(built) = Instant::now(&rt) else {
-        return ExitCode::from(1);
-    };
-    if move_some(&mut order).is_err() {
-        return ExitCode::from(3);
+    Some([
+        built.duration_since(begin).as_nanos().checked_div(issues as u128)?,
+        moved.duration_since(built).as_nanos() / 10_000,
+        end.duration_since(moved).as_nanos() / 10_000,
+        now.duration_since(unloaded).as_nanos().checked_div(issues as u128)?,
+    ])
+}
+
+fn main(rt: HostRuntime) -> ExitCode {
+    for &issues in &SIZES {
+        let Some([create, moved, up, load]) = timed(&rt, issues) else {
+            return ExitCode::from(1);
+        };
+        let _ = println!(rt; "{issues} issues: create {create} ns, move {moved}, to the top {up}, load {load}");
     }
-    let Ok(end) = Instant::now(&rt) else {
-        return ExitCode::from(1);
-    };
-    let Ok(kept) = kept_ranks(rt.alloc(), &order) else {
-        return ExitCode::from(4);
-    };
-    let Ok(unloaded) = Instant::now(&rt) else {
-        return ExitCode::from(1);
-    };
-    let Some(loaded) = load(rt.alloc(), kept) else {
-        return ExitCode::from(5);
-    };
-    let Ok(now) = Instant::now(&rt) else {
-        return ExitCode::from(1);
-    };
-    if loaded.list().len() != order.list().len() {
-        return ExitCode::from(6);
-    }
-    let load = now.duration_since(unloaded).as_micros();
-    let create = built.duration_since(begin).as_nanos() / 50_000;
-    let moved = end.duration_since(built).as_nanos() / 10_000;
-    let _ = println!(rt; "create: {create} ns each of 50000");
-    let _ = println!(rt; "move: {moved} ns each of 10000");
-    let _ = println!(rt; "load: {load} us for 50000");
     ExitCode::from(0)
 }
 RATTLE
@@ -179,7 +203,7 @@ pub put-requires-clause-free : goal.put-requires-clause-free
 put-requires-clause-free c =
     let issue : IssueNo = record { 0 = c.args.number } in
     let absent : IsIn c.reserve.new.self.pairs c.args.number → ⊥ = λ there. let some = c.place_of.ensures.there.1 there in let none = c.if-is_some.ensures in false≢true (none ∙ some) in
-    (c.moves_keep_the_order.ensures.there c.reserve.new.self.pairs issue None Last 0 c.in_ok-rank.rank c.list.ensures.order c.bucket-bucket.ensures.is_rank (search rules) absent c.in_ok-rank.ensures.rank).free
+    (c.moves_keep_the_order.ensures.there c.reserve.new.self.pairs issue None Last 0 c.in_ok-rank.rank c.issues.ensures.order c.bucket-bucket.ensures.is_rank (search rules) absent c.in_ok-rank.ensures.rank).free
 ANTT
 
 cat > "$program/proofs/move_after/Answers.antt" <<'ANTT'
@@ -189,8 +213,10 @@ use Rattle.order_bench.proofs.move_after.Goals as goal
 
 pub put-requires-clause-free : goal.put-requires-clause-free
 put-requires-clause-free c =
-    (c.moves_keep_the_order.ensures.there c.args.order.now.pairs c.args.issue (Some c.args.issue) (After c.args.other) 0 c.in_ok-rank.rank c.list.ensures.order c.bucket-bucket.ensures.is_rank (search rules) refl c.in_ok-rank.ensures.rank).free
+    (c.moves_keep_the_order.ensures.there c.args.order.now.pairs c.args.issue (Some c.args.issue) (After c.args.other) 0 c.in_ok-rank.rank c.issues.ensures.order c.bucket-bucket.ensures.is_rank (search rules) refl c.in_ok-rank.ensures.rank).free
 ANTT
+
+sed 's/After/Before/g; s/move_after/move_before/' "$program/proofs/move_after/Answers.antt" > "$program/proofs/move_before/Answers.antt"
 
 cat > "$program/proofs/append/Answers.antt" <<'ANTT'
 use Rattle.std.proofs.Common.{rules, ◌∙◌}
@@ -201,7 +227,7 @@ use Rattle.order_bench.proofs.append.Goals as goal
 pub put-requires-clause-free : goal.put-requires-clause-free
 put-requires-clause-free c =
     let absent : IsIn c.reserve.new.self.pairs c.args.issue.0 → ⊥ = λ there. let some = c.place_of.ensures.there.1 there in let none = c.if-is_some.ensures in false≢true (none ∙ some) in
-    (c.ranks_that_rise.ensures.last c.reserve.new.self.pairs c.args.issue c.args.rank c.list.ensures.order absent (c.is_above_all.ensures.0 (search rules))).0
+    (c.ranks_that_rise.ensures.last c.reserve.new.self.pairs c.args.issue c.args.rank c.issues.ensures.order absent (c.is_above_all.ensures.0 (search rules))).0
 ANTT
 
 cd "$program"

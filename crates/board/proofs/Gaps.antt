@@ -1,6 +1,6 @@
 -- A place in the whole order, and among the other issues.
-use Rattle.std.proofs.Common.{◌≡◌, ◌≢◌, ℕ, zero, suc, ◌+◌, ◌-◌, ◌<◌, ◌≤◌, true, false, List, [], ◌∷◌, ◌⊎◌, length, get_or, Option, Some, None, Result, Ok, Err, IfOk, IfErr, refl, sym, ◌∙◌, ap, subst, inl, inr, arith}
-use Rattle.std.specs.Prelude.{slice_get, option_map, IfSome}
+use Rattle.std.proofs.Common.{◌≡◌, ◌≢◌, ℕ, zero, suc, ◌+◌, ◌-◌, ◌<◌, ◌≤◌, true, false, List, [], ◌∷◌, ◌⊎◌, length, get_or, Option, Some, None, Result, Ok, Err, IfOk, IfErr, refl, sym, ◌∙◌, ap, inl, inr, arith}
+use Rattle.std.specs.Prelude.{slice_get, option_map, IfSome, MatchOption}
 use Rattle.std.proofs.lemmas.Bool.{cases_eq, cases_lt}
 use Rattle.std.proofs.lemmas.Bool.Decides.{nat_tests}
 use Rattle.std.proofs.lemmas.Option.{slice_get-get_or, slice_get_past}
@@ -11,10 +11,10 @@ use Rattle.rank_strings.specs.declared.fault.RankFault.TheVariants.{Exhausted, M
 use Rattle.board.specs.declared.place.Place.{Place}
 use Rattle.board.specs.declared.place.Place.TheVariants.{Before, After, Last}
 use Rattle.board.specs.Order.{Pair, IsOrder, places_before, place_in, rank_in, pair_before, without}
+use Rattle.board.specs.Moved.{own_rank}
 use Rattle.board.specs.Table.{nothing, number_at}
-use Rattle.board.specs.Place.{above_place, gap, stands_at, others, rank_above, rank_below, IsBeside, own_place, AreNamed, IsRankFor, IsChosenBeside, ExplainsBeside, ExplainsNoRank}
+use Rattle.board.specs.Place.{above_place, gap, stands_at, others, rank_above, rank_below, IsBeside, AreNamed, IsRankFor, IsChosenBeside, ExplainsBeside, ExplainsNoRank}
 use Rattle.board.proofs.Moves.{places_before-number_at, number_at-places_before}
-use Rattle.board.proofs.Given.{found_from_some}
 use Rattle.board.proofs.Put.{AreOthers}
 use Rattle.board.proofs.Put as Put
 
@@ -159,13 +159,10 @@ sides ps None place order named not_there = (refl, refl)
 sides ps (Some issue) place order named not_there = sides_of_own ps order issue named.issue_there place named not_there
 
 -- the rank that the issue has
-pub kept_rank : (ps : List Pair) (issue : Option IssueNo) (place : Place) (empty own : ℕ) (p : Pair) → stands_at ps issue place ≡ true → own_place ps issue ≡ Some own → p ≡ get_or ps own p → IsRankFor ps issue place empty p.0
-kept_rank ps None place empty own p stands is read = absurd (cc)
-kept_rank ps (Some issue) place empty own p stands is read =
-    let found = found_from_some ps issue.0 own is in
-    let at : slice_get ps own ≡ Some p = slice_get-get_or ps own p found.0 ∙ ap Some (sym read) in
-    let rank : rank_in ps issue.0 ≡ Some p.0 = ap (λ k. option_map (λ q. q.0) (slice_get ps k)) found.1 ∙ ap (option_map (λ q. q.0)) at in
-    record { kept = λ i same _. let e : issue ≡ i = cc in sym (ap (λ j. rank_in ps j.0) e) ∙ rank; moved = λ no. absurd (cc) }
+pub kept_rank : (ps : List Pair) (issue : Option IssueNo) (place : Place) (empty : ℕ) (rank : RankParts) → stands_at ps issue place ≡ true → own_rank ps issue ≡ Some rank → IsRankFor ps issue place empty rank
+kept_rank ps None place empty rank stands own = absurd (cc)
+kept_rank ps (Some issue) place empty rank stands own =
+    record { kept = λ i same _. let e : issue ≡ i = cc in sym (ap (λ j. rank_in ps j.0) e) ∙ own; moved = λ no. absurd (cc) }
 
 module _ (ps : List Pair) (issue : Option IssueNo) (place : Place) (empty : ℕ) (order : IsOrder ps) (named : AreNamed ps issue place) (not_there : stands_at ps issue place ≡ false) where
   pub moved_rank : (r : Result RankParts RankFault) → IfOk r (IsChosenBeside (rank_above ps (above_place ps place)) (rank_below ps (above_place ps place)) empty) → IfOk r (IsRankFor ps issue place empty)
@@ -179,18 +176,11 @@ module _ (ps : List Pair) (issue : Option IssueNo) (place : Place) (empty : ℕ)
   no_rank (Err (Exhausted low high)) explained = let s = sides ps issue place order named not_there in (not_there, rw (s.0, s.1) explained)
   no_rank (Err Memory) explained = tt
 
-pub stands_here : (ps : List Pair) (issue : Option IssueNo) (place : Place) (own : ℕ) → IsOrder ps → AreNamed ps issue place → own_place ps issue ≡ Some own → IsBeside own (above_place ps place) → stands_at ps issue place ≡ true
-stands_here ps None place own order named is beside = absurd (cc)
-stands_here ps (Some issue) place own order named is beside =
-    let found = found_from_some ps issue.0 own is in
-    stands_from ps order issue named.issue_there place named (subst (λ k. IsBeside k (above_place ps place)) (sym found.1) beside)
-
-pub stands_elsewhere : (ps : List Pair) (issue : Option IssueNo) (place : Place) (own : ℕ) → IsOrder ps → AreNamed ps issue place → own_place ps issue ≡ Some own → ¬ IsBeside own (above_place ps place) → stands_at ps issue place ≡ false
-stands_elsewhere ps None place k order named is apart = refl
-stands_elsewhere ps (Some issue) place own order named is apart =
-    let found = found_from_some ps issue.0 own is in
-    stands_not ps order issue named.issue_there place named (subst (λ k. ¬ IsBeside k (above_place ps place)) (sym found.1) apart)
-
-pub stands_nowhere : (ps : List Pair) (issue : Option IssueNo) (place : Place) → AreNamed ps issue place → own_place ps issue ≡ None → stands_at ps issue place ≡ false
-stands_nowhere ps None place named none = refl
-stands_nowhere ps (Some issue) place named none = let past = places_before_none ps issue.0 none in let there = named.issue_there in absurd (omega (arith, past, there))
+-- an issue that is beside the gap stands there, with its rank
+pub rank_standing : (ps : List Pair) (issue : IssueNo) (place : Place) → IsOrder ps → AreNamed ps (Some issue) place → IsBeside (places_before ps issue.0) (above_place ps place) →
+    MatchOption (rank_in ps issue.0) (stands_at ps (Some issue) place ≡ false) (λ rank. (stands_at ps (Some issue) place ≡ true) × (own_rank ps (Some issue) ≡ Some rank))
+rank_standing ps issue place order named beside = by (rank_in ps issue.0) refl
+  where
+    by : (o : Option RankParts) → rank_in ps issue.0 ≡ o → MatchOption o (stands_at ps (Some issue) place ≡ false) (λ rank. (stands_at ps (Some issue) place ≡ true) × (own_rank ps (Some issue) ≡ Some rank))
+    by None e = let some = ap (option_map (λ (p : Pair). p.0)) (slice_get-get_or ps (places_before ps issue.0) nothing named.issue_there) in absurd (cc)
+    by (Some rank) e = (stands_from ps order issue named.issue_there place named beside, e)

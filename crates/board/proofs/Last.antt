@@ -9,7 +9,8 @@ use Rattle.board.specs.Table.{nothing}
 use Rattle.board.specs.Laws.{GoesBehindAll, RankAboveAllGoesLast, RankAboveTheLastGoesLast}
 use Rattle.board.proofs.Moves.{places_before-number_at}
 use Rattle.board.proofs.Given.{without-absent}
-use Rattle.board.proofs.Placing.{Fits, put_in-fits, free_where_fits, fits_between}
+use Rattle.board.specs.Search.{Fits}
+use Rattle.board.proofs.Placing.{put_in-fits, free_where_fits, fits_between}
 
 insert-last : (xs : List Pair) (x : Pair) → insert xs (length xs) x ≡ xs ++ x ∷ []
 insert-last [] x = refl

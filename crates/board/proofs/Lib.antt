@@ -4,8 +4,12 @@ pub mod Moves
 pub mod Counts
 pub mod Given
 pub mod Put
+pub mod Tabled
 pub mod Gaps
 pub mod Placing
+pub mod Ranked
+pub mod Viewed
+pub mod Kept
 pub mod Issues
 pub mod Computed
 pub mod Rows

@@ -17,7 +17,7 @@ use Rattle.board.specs.declared.place.Place.{Place}
 use Rattle.board.specs.declared.place.Place.TheVariants.{Before, After, Last}
 use Rattle.board.specs.Order.{Pair, IsOrder, IsFreeFor, places_before, rank_in, without, put_in}
 use Rattle.board.specs.Table.{nothing, number_at}
-use Rattle.board.specs.Search.{rank_at}
+use Rattle.board.specs.Search.{rank_at, Fits}
 use Rattle.board.specs.Place.{above_place, gap, stands_at, others, rank_above, rank_below, bucket_beside, AreNamed, IsRankFor, IsChosenBeside}
 use Rattle.board.specs.Laws.{IsAskedFor, PutsThere, RanksPutThere, OrderIsKept}
 use Rattle.board.proofs.Moves.{places_before-number_at, number_at-places_before}
@@ -36,12 +36,6 @@ without-differs (p ∷ ps) issue k lt = by (p.1.0 == issue) refl k lt (without-d
     by true is k lt rest = rw is (rest k (let shorter = rw is at lt in shorter))
     by false is zero lt rest = rw is (let other : p.1.0 ≢ issue = grind (arith, nat_tests) in other)
     by false is (suc k) lt rest = rw is (let shorter = rw is at lt in rest k (omega arith))
-
--- where a pair goes among others that are in order
-pub record Fits (rest : List Pair) (rank : RankParts) (to : ℕ) : Type 0 where
-  pub in_range : to ≤ length rest
-  pub below : (k : ℕ) → k < to → rank_cmp (rank_at rest k) rank ≡ Less
-  pub above : (k : ℕ) → to ≤ k → k < length rest → rank_cmp rank (rank_at rest k) ≡ Less
 
 pub IsOrder-insert : (rest : List Pair) (to : ℕ) (rank : RankParts) (issue : IssueNo) → IsOrder rest → IsRank rank → Fits rest rank to → ((k : ℕ) → k < length rest → number_at rest k ≢ issue.0) → IsOrder (insert rest to (rank, issue))
 IsOrder-insert rest to rank issue order is_rank fits differ = record {

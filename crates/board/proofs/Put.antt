@@ -1,24 +1,20 @@
 -- A pair that goes to its place among the others.
-use Rattle.std.proofs.Common.{◌≡◌, ◌≢◌, ℕ, zero, suc, ◌+◌, ◌-◌, ◌<◌, ◌≤◌, true, false, List, [], ◌∷◌, ◌⊎◌, length, get_or, Option, refl, sym, ◌∙◌, ap, subst, inl, inr, arith}
+use Rattle.std.proofs.Common.{◌≡◌, ◌≢◌, ℕ, zero, suc, ◌+◌, ◌-◌, ◌<◌, ◌≤◌, true, false, List, [], ◌∷◌, ◌⊎◌, length, get_or, refl, sym, ◌∙◌, ap, subst, inl, inr, arith}
 use Rattle.std.specs.Prelude.{AllPairs, All, insert, remove}
 use Rattle.std.specs.declared.cmp.Ordering.{Ordering}
 use Rattle.std.specs.declared.cmp.Ordering.TheVariants.{Less, Equal, Greater}
 use Rattle.std.specs.Ordering.{is_lt, ordering_reverse}
-use Rattle.std.specs.List.Sorted.{IsPermutation}
 use Rattle.std.proofs.lemmas.Bool.{cases_eq, cases_lt}
-use Rattle.std.proofs.lemmas.List.{get_or_default, get_or_past}
+use Rattle.std.proofs.lemmas.List.{get_or_past}
 use Rattle.std.proofs.lemmas.List.Edits.{length-insert, length-remove, get_or-insert_below, get_or-insert_at, get_or-insert_above, get_or-remove_below, get_or-remove_above}
 use Rattle.std.proofs.lemmas.List.Quantifiers.{all_pairs_remove}
-use Rattle.std.proofs.lemmas.List.Sorted.{IsPermutation-trans, IsPermutation-remove, IsPermutation-insert, sum_by-IsPermutation}
 use Rattle.rank_strings.specs.Rank.{RankParts, IsRank, IsBelow, rank_cmp}
 use Rattle.rank_strings.specs.Total.{rank_cmp-total}
 use Rattle.rank_strings.proofs.Reading.{same_from_equal}
-use Rattle.field_values.specs.declared.numbers.IssueNo.{IssueNo}
 use Rattle.board.specs.Order.{Pair, IsOrder, IsFreeFor, places_before, without, put_in}
-use Rattle.board.specs.Table.{nothing, number_at, IsTableOf, IsKept, HasPairAt, GoesTo}
-use Rattle.board.specs.Search.{rank_at, IsFront}
-use Rattle.board.specs.Lengths.{AreCountsOf}
-use Rattle.board.proofs.Moves.{AreOnce, places_before-number_at, number_at-places_before, AreOnce-moved}
+use Rattle.board.specs.Table.{nothing, number_at}
+use Rattle.board.specs.Search.{rank_at, IsFront, Fits, GoesTo}
+use Rattle.board.proofs.Moves.{places_before-number_at, number_at-places_before}
 use Rattle.board.proofs.Given.{without-at, without-absent}
 
 -- a pair stands behind those below it and before those above it
@@ -119,14 +115,15 @@ above_from_not_below a r is_a is_r not_below differ = rank_cmp-total.antisymm r 
     greater Equal a b = absurd (b refl)
     greater Greater a b = refl
 
-module _ (ps new : List Pair) (rank : RankParts) (issue : IssueNo) (table : List (Option ℕ)) (counts : List ℕ) (place below to : ℕ)
-    (order : IsOrder ps) (free : IsFreeFor ps issue.0 rank) (front : IsFront ps rank below)
-    (pair : HasPairAt ps issue.0 (rank, issue) new table counts place) (goes : GoesTo place below to) where
+-- the place that a rank has among the others
+module _ (ps : List Pair) (rank : RankParts) (issue : ℕ) (place below to : ℕ)
+    (order : IsOrder ps) (free : IsFreeFor ps issue rank) (front : IsFront ps rank below)
+    (place_is : place ≡ places_before ps issue) (goes : GoesTo place below to) where
   abbrev rest : List Pair
-  rest = without issue.0 ps
+  rest = without issue ps
 
   o : AreOthers ps rest place
-  o = subst (λ k. AreOthers ps rest k) (sym pair.place_is) (others ps issue.0 order)
+  o = subst (λ k. AreOthers ps rest k) (sym place_is) (others ps issue order)
 
   to_in : to ≤ length rest
   to_in = by (cases_lt place (length ps)) (cases_lt place below)
@@ -157,50 +154,5 @@ module _ (ps new : List Pair) (rank : RankParts) (issue : IssueNo) (table : List
       not_below (inr h) (inr l) (inl m) = let t = goes.earlier l in let n = o.there m in λ e. front.not_below (k + 1) (omega (arith, t)) (omega (arith, n)) (sym (ap (λ p. rank_cmp p.0 rank) (o.behind k h)) ∙ e)
       not_below (inr h) l (inr m) = let n = o.not_there m in absurd (omega (arith, n))
 
-  pub to_in_new : to < length new
-  to_in_new = let r = ap length pair.others in let n = length-remove new place pair.in_range in let t = to_in in omega (arith, r, n, t)
-
-  pub put_in-moved : insert (remove new place) to (get_or new place nothing) ≡ put_in (rank, issue) rest
-  put_in-moved =
-      ap (λ xs. insert xs to (get_or new place nothing)) pair.others ∙ ap (λ x. insert rest to x) pair.stands
-      ∙ sym (put_in-at rest to (rank, issue) to_in below_to above_to)
-
-  is_insert : insert (remove new place) to (get_or new place nothing) ≡ insert rest to (rank, issue)
-  is_insert = ap (λ xs. insert xs to (get_or new place nothing)) pair.others ∙ ap (λ x. insert rest to x) pair.stands
-
-  in_order : IsOrder (insert rest to (rank, issue))
-  in_order = record {
-    ranks = all (λ p. IsRank p.0) o.in_order.ranks front.is_rank;
-    rising = AllPairs-insert (λ p q. IsBelow p.0 q.0) rest to (rank, issue) o.in_order.rising to_in
-        (λ k d lt. let n = to_in in subst (λ p. IsBelow p.0 rank) (get_or_default rest k nothing d (omega (arith, n))) (below_to k lt))
-        (λ k d le lt. subst (λ p. IsBelow rank p.0) (get_or_default rest k nothing d lt) (above_to k le lt));
-    once = subst AreOnce is_insert (AreOnce-moved new place to pair.in_range to_in_new pair.once);
-  }
-    where
-      all : (P : Pair → Type 0) → All P rest → P (rank, issue) → All P (insert rest to (rank, issue))
-      all P each one k d lt = by (cases_lt k to) (cases_eq k to)
-        where
-          by : (k < to) ⊎ (to ≤ k) → (k ≡ to) ⊎ (k ≡ to → ⊥) → P (get_or (insert rest to (rank, issue)) k d)
-          by (inl a) e = let n = to_in in subst P (sym (get_or-insert_below rest to (rank, issue) d k a to_in)) (each k d (omega (arith, n)))
-          by (inr a) (inl e) = subst P (sym (ap (λ m. get_or (insert rest to (rank, issue)) m d) e ∙ get_or-insert_at rest to (rank, issue) d to_in)) one
-          by (inr a) (inr e) =
-              let n = length-insert rest to (rank, issue) to_in in
-              let is : k - 1 + 1 ≡ k = omega arith in
-              subst P (sym (ap (λ m. get_or (insert rest to (rank, issue)) m d) (sym is) ∙ get_or-insert_above rest to (rank, issue) d (k - 1) (omega arith) to_in)) (each (k - 1) d (omega arith))
-
-  counted : AreCountsOf (insert rest to (rank, issue)) counts
-  counted n = pair.counted n ∙ sym (sum_by-IsPermutation _ new (insert rest to (rank, issue)) moved)
-    where
-      own : (rank, issue) ≡ get_or new place (rank, issue)
-      own = sym pair.stands ∙ get_or_default new place nothing (rank, issue) pair.in_range
-
-      moved : IsPermutation new (insert rest to (rank, issue))
-      moved = IsPermutation-trans new ((rank, issue) ∷ rest) (insert rest to (rank, issue))
-          (subst (λ xs. IsPermutation new ((rank, issue) ∷ xs)) pair.others (IsPermutation-remove new place (rank, issue) pair.in_range own))
-          (IsPermutation-insert rest to (rank, issue))
-
-  pub IsKept-moved : (slots : ℕ) (moved : List (Option ℕ)) → IsTableOf (insert (remove new place) to (get_or new place nothing)) moved → (0 < length moved → 255 ≤ length counts) → length moved ≤ slots + 1 →
-      IsKept (insert (remove new place) to (get_or new place nothing)) moved counts slots
-  IsKept-moved slots moved places lengths enough =
-      subst (λ xs. IsKept xs moved counts slots) (sym is_insert)
-      (record { order = in_order; places = subst (λ xs. IsTableOf xs moved) is_insert places; counted = counted; all_lengths = lengths; enough = enough })
+  pub fits_there : Fits rest rank to
+  fits_there = record { in_range = to_in; below = below_to; above = above_to }

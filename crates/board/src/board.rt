@@ -40,7 +40,7 @@ impl Board {
                 room.push_reserved(*issue);
             }
         }
-        room.sort_unstable_by_key(|issue| order.places_before(*issue));
+        room.sort_unstable_by(|one, other| order.compare(*one, *other));
         Ok(())
     }
 }

@@ -2,32 +2,10 @@
 ghost use Rattle.std.specs.Prelude.{◌≡◌, ◌<◌, ◌↔◌, IsTrue, IfOk, IfErr, IfSome};
 ghost use Rattle.std.specs.Option.{option_copied};
 ghost use Rattle.rank_strings.specs.Rank.{IsBelow};
-ghost use Rattle.board.specs.Order.{IsOrder};
-ghost use Rattle.board.specs.Place.{rank_above, rank_below, IsBeside, bucket_between, bucket_beside, if_in, IsChosenBeside, ExplainsBeside};
+ghost use Rattle.board.specs.Place.{IsBeside, bucket_between, bucket_beside, if_in, IsChosenBeside, ExplainsBeside};
 
-use field_values::IssueNo;
 use rank_strings::{Rank, RankFault, between};
 use std::alloc::Global;
-
-/// The rank just below a gap with so many pairs above it, where there is one.
-pub fn rank_below(pairs: &[(Rank, IssueNo)], above: usize) -> Option<&Rank>
-    ensures { option_copied result ≡ rank_below pairs.now above }
-{
-    match pairs.get(above) {
-        Some(pair) => Some(&pair.0),
-        None => None,
-    }
-}
-
-/// The rank just above a gap with so many pairs above it, where there is one.
-pub fn rank_above(pairs: &[(Rank, IssueNo)], above: usize) -> Option<&Rank>
-    ensures { option_copied result ≡ rank_above pairs.now above }
-{
-    match above.checked_sub(1) {
-        Some(before) => rank_below(pairs, before),
-        None => None,
-    }
-}
 
 /// Whether a pair at a place is one of the two beside a gap.
 pub(crate) fn is_beside(place: usize, above: usize) -> bool
@@ -84,23 +62,4 @@ pub(crate) fn rank_between(
 {
     let bucket = bucket_beside(low, high, empty_bucket);
     between(alloc, if_in(bucket, low), if_in(bucket, high), bucket)
-}
-
-/// The rank that is chosen where so many pairs stand above.
-pub(crate) fn rank_at_gap(
-    alloc: Global,
-    pairs: &[(Rank, IssueNo)],
-    above: usize,
-    empty_bucket: u8,
-) -> Result<Rank, RankFault>
-    requires bucket { empty_bucket < 3 }
-    requires order { IsOrder pairs.now }
-    ensures chosen { IfOk result (IsChosenBeside (rank_above pairs.now above)
-        (rank_below pairs.now above) empty_bucket) }
-    ensures fault { IfErr result (ExplainsBeside (rank_above pairs.now above)
-        (rank_below pairs.now above) empty_bucket) }
-{
-    let low = rank_above(pairs, above);
-    let high = rank_below(pairs, above);
-    rank_between(alloc, low, high, empty_bucket)
 }

@@ -2,16 +2,15 @@
 #![tactic(auto)]
 
 mod board;
+mod find;
 mod gap;
+mod giving;
 pub mod laws;
 mod lengths;
 mod order;
-mod pairs;
 mod place;
-mod search;
-mod shift;
+mod room;
 
 pub use board::Board;
-pub use gap::{rank_above, rank_below};
 pub use order::Order;
 pub use place::Place;

@@ -8,11 +8,11 @@ use Rattle.field_values.specs.declared.numbers.IssueNo.{IssueNo}
 use Rattle.rank_strings.specs.Rank.{RankParts, IsRank, rank_cmp}
 use Rattle.board.specs.Order.{Pair, IsOrder, IsFreeFor, without, put_in}
 use Rattle.board.specs.Table.{nothing}
-use Rattle.board.specs.Search.{rank_at}
+use Rattle.board.specs.Search.{rank_at, Fits}
 use Rattle.board.proofs.Moves.{places_before-number_at}
 use Rattle.board.proofs.Given.{without-at}
 use Rattle.board.proofs.Put.{AreOthers, others}
-use Rattle.board.proofs.Placing.{Fits, put_in-fits, free_where_fits, order_is_kept}
+use Rattle.board.proofs.Placing.{put_in-fits, free_where_fits, order_is_kept}
 
 insert_set : {X : Type 0} (xs : List X) (k : ℕ) (x : X) → k < length xs → insert (remove xs k) k x ≡ set xs k x
 insert_set [] k x lt = absurd (omega arith)

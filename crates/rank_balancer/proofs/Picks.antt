@@ -1,13 +1,21 @@
 -- The picked pair stands at the border between two buckets.
-use Rattle.std.proofs.Common.{◌≡◌, ◌≢◌, ℕ, zero, suc, ◌+◌, ◌<◌, ◌≤◌, ◌==◌, true, false, List, [], ◌∷◌, ◌⊎◌, length, get_or, Some, None, refl, ap, inl, inr, arith}
+use Rattle.std.proofs.Common.{◌≡◌, ◌≢◌, ℕ, zero, suc, ◌+◌, ◌<◌, ◌≤◌, ◌==◌, true, false, Bool, List, [], ◌∷◌, ◌⊎◌, length, get_or, Some, None, refl, sym, ◌∙◌, ap, inl, inr, arith}
 use Rattle.std.specs.List.Sorted.{IsPartitionedBy, IsPartitionPoint}
 use Rattle.std.proofs.lemmas.Bool.{cases_eq, cases_lt}
 use Rattle.std.proofs.lemmas.Bool.Decides.{nat_tests}
-use Rattle.std.specs.Prelude.{nat_le}
-use Rattle.board.specs.Order.{Pair, IsOrder}
+use Rattle.std.specs.Prelude.{nat_le, option_map}
+use Rattle.std.proofs.lemmas.List.{get_or-map, length-map}
+use Rattle.std.proofs.lemmas.Option.{slice_get-get_or}
+use Rattle.field_values.specs.declared.numbers.IssueNo.{IssueNo}
+use Rattle.rank_strings.specs.Rank.{RankParts}
+use Rattle.board.specs.Order.{Pair, IsOrder, rank_in}
+use Rattle.board.specs.Issues.{issues_in}
+use Rattle.board.specs.Place.{rank_below}
+use Rattle.board.specs.Search.{rank_at}
 use Rattle.board.specs.Table.{nothing}
+use Rattle.board.proofs.Tabled.{rank_in-at}
 use Rattle.board.proofs.Placing.{bucket_le}
-use Rattle.rank_balancer.specs.Border.{bucket_at, IsBorder, StandsAt}
+use Rattle.rank_balancer.specs.Border.{bucket_at, is_up_to, IsBorder, StandsAt}
 use Rattle.rank_balancer.specs.Pick.{first_in, last_in}
 
 -- buckets rise along an order
@@ -21,12 +29,44 @@ buckets_rise ps order i j d le lt = by (cases_eq i j)
 pub parted_by_bucket : (ps : List Pair) (bucket : ℕ) → IsOrder ps → IsPartitionedBy (λ p. nat_le p.0.bucket bucket) ps
 parted_by_bucket ps bucket order i j d le lt h = let rise = buckets_rise ps order i j d le lt in grind (arith, nat_tests)
 
-pub border_from_point : (ps : List Pair) (bucket n : ℕ) → n ≤ length ps → IsPartitionPoint (λ p. nat_le p.0.bucket bucket ≡ true) (λ p. nat_le p.0.bucket bucket ≡ false) ps n → IsBorder ps bucket n
-border_from_point ps bucket n le point = record {
-  in_range = le;
-  up_to = λ k lt. let h = point.0 k nothing (omega arith) lt in grind (arith, nat_tests);
-  beyond = λ k ge lt. let h = point.1 k nothing ge lt in grind (arith, nat_tests);
-}
+-- the same by issues: one at a place, and its rank
+module _ (ps : List Pair) (order : IsOrder ps) (bucket : ℕ) (is : List IssueNo) (same : is ≡ issues_in ps) where
+  abbrev q : IssueNo → Bool
+  q i = is_up_to bucket (rank_in ps i.0)
+
+  up_to_at : (k : ℕ) (d : IssueNo) → k < length ps → is_up_to bucket (rank_in ps (get_or is k d).0) ≡ nat_le (bucket_at ps k) bucket
+  up_to_at k d lt =
+      let i : get_or is k d ≡ (get_or ps k nothing).1 = ap (λ (xs : List IssueNo). get_or xs k d) same ∙ get_or-map (λ (p : Pair). p.1) ps k nothing d lt in
+      ap q i ∙ ap (is_up_to bucket) (rank_in-at ps k order lt)
+
+  many : length is ≡ length ps
+  many = ap length same ∙ length-map ps (λ (p : Pair). p.1)
+
+  pub issues_parted : IsPartitionedBy (λ i. is_up_to bucket (rank_in ps i.0)) is
+  issues_parted i j d le lt h =
+      let n = many in
+      up_to_at i d (omega arith) ∙ parted_by_bucket ps bucket order i j nothing le (omega arith) (sym (up_to_at j d (omega arith)) ∙ h)
+
+  pub border_of_issues : (n : ℕ) → n ≤ length is → IsPartitionPoint (λ i. is_up_to bucket (rank_in ps i.0) ≡ true) (λ i. is_up_to bucket (rank_in ps i.0) ≡ false) is n → IsBorder ps bucket n
+  border_of_issues n le point =
+      let m = many in
+      record {
+        in_range = omega arith;
+        up_to = λ k lt. let h = sym (up_to_at k nothing.1 (omega arith)) ∙ point.0 k nothing.1 (omega arith) lt in grind (arith, nat_tests);
+        beyond = λ k ge lt. let h = sym (up_to_at k nothing.1 lt) ∙ point.1 k nothing.1 ge (omega arith) in grind (arith, nat_tests);
+      }
+
+-- the bucket of the rank at a place
+pub bucket_below : (ps : List Pair) (place : ℕ) (rank : RankParts) → place < length ps → Some rank ≡ rank_below ps place → rank.bucket ≡ bucket_at ps place
+bucket_below ps place rank lt is =
+    let got : Some rank ≡ Some (rank_at ps place) = is ∙ ap (option_map (λ (p : Pair). p.0)) (slice_get-get_or ps place nothing lt) in
+    let same : rank ≡ rank_at ps place = cc in
+    ap (λ (r : RankParts). r.bucket) same
+
+pub some_below : (ps : List Pair) (place : ℕ) → place < length ps → None ≡ rank_below ps place → ⊥
+some_below ps place lt is =
+    let got : None ≡ Some (rank_at ps place) = is ∙ ap (option_map (λ (p : Pair). p.0)) (slice_get-get_or ps place nothing lt) in
+    cc
 
 -- no pair of the bucket
 pub first_in-none : (ps : List Pair) (bucket : ℕ) → ((k : ℕ) → k < length ps → bucket_at ps k ≢ bucket) → first_in bucket ps ≡ None

@@ -1,10 +1,16 @@
 -- Where an order changes from one bucket to another.
-use Rattle.std.specs.Prelude.{ℕ, ◌≡◌, ◌<◌, ◌≤◌, List, length, slice_index_or, Option, Some}
+use Rattle.std.specs.Prelude.{ℕ, ◌≡◌, ◌<◌, ◌≤◌, Bool, false, nat_le, List, length, slice_index_or, Option, Some, None}
+use Rattle.rank_strings.specs.Rank.{RankParts}
 use Rattle.board.specs.Order.{Pair}
 use Rattle.board.specs.Table.{nothing}
 
 abbrev pub bucket_at : List Pair → ℕ → ℕ
 bucket_at ps place = let p = slice_index_or ps place nothing in p.0.bucket
+
+-- a rank that an issue has is in a bucket up to this one
+abbrev pub is_up_to : ℕ → Option RankParts → Bool
+is_up_to bucket None = false
+is_up_to bucket (Some rank) = nat_le rank.bucket bucket
 
 -- the first pairs, and no others, are in buckets up to this one
 pub record IsBorder (ps : List Pair) (bucket border : ℕ) : Type 0 where

@@ -10,7 +10,7 @@ ghost use Rattle.rank_balancer.specs.Balance.{Agrees, next_bucket};
 ghost use Rattle.rank_balancer.specs.Pick.{first_rank, IsNextRank, ExplainsNoNext};
 
 use crate::search::count_up_to;
-use board::{rank_above, rank_below};
+use board::Order;
 use field_values::IssueNo;
 use rank_strings::{Rank, RankFault, between};
 use std::alloc::Global;
@@ -51,7 +51,7 @@ fn neighbour<'a>(moves: &'a [(IssueNo, Rank)], first: Option<&'a Rank>) -> Optio
 /// Plans so many picks on the way to the bucket above, from the pair before the border on.
 fn plan_up(
     alloc: Global,
-    pairs: &[(Rank, IssueNo)],
+    order: &Order,
     from: u8,
     border: usize,
     count: usize,
@@ -59,20 +59,20 @@ fn plan_up(
     // Ranks of the old bucket stand before the border, all others are in the bucket above, and
     // there are so many to pick.
     requires from { from < 2 }
-    requires order { IsOrder pairs.now }
-    requires parted { IsParted pairs.now from (from + 1) border }
+    requires order { IsOrder order.now.pairs }
+    requires parted { IsParted order.now.pairs from (from + 1) border }
     requires count { count ≤ border }
     // Each is the pick of the order that those before it leave. Where one has no room, the whole
     // plan is refused.
-    ensures picks { IfOk result (λ moves. ArePicks pairs.now from (from + 1) moves.items
+    ensures picks { IfOk result (λ moves. ArePicks order.now.pairs from (from + 1) moves.items
         × (length moves.items ≡ count)) }
-    ensures fault { IfErr result (ExplainsRefusal pairs.now from (from + 1) count) }
+    ensures fault { IfErr result (ExplainsRefusal order.now.pairs from (from + 1) count) }
 {
     let mut moves = Vec::with_capacity(alloc, count)?;
     for place in (border - count..border).rev() {
-        let beside = neighbour(&moves, rank_below(pairs, border));
+        let beside = neighbour(&moves, order.rank_below(border));
         match next_rank(alloc, from + 1, beside) {
-            Ok(rank) => moves.push_reserved((pairs[place].1, rank)),
+            Ok(rank) => moves.push_reserved((order.issue_at(place), rank)),
             Err(fault) => return Err(fault),
         }
     }
@@ -82,22 +82,24 @@ fn plan_up(
 /// Plans so many picks on the way from bucket 2 to 0, from the pair behind the border on.
 fn plan_down(
     alloc: Global,
-    pairs: &[(Rank, IssueNo)],
+    order: &Order,
     border: usize,
     count: usize,
 ) -> Result<Vec<(IssueNo, Rank)>, RankFault>
-    requires order { IsOrder pairs.now }
-    requires parted { IsParted pairs.now 0 2 border }
-    requires count { count + border ≤ length pairs.now }
-    ensures picks { IfOk result (λ moves. ArePicks pairs.now 2 0 moves.items
+    requires order { IsOrder order.now.pairs }
+    requires parted { IsParted order.now.pairs 0 2 border }
+    requires count { count + border ≤ length order.now.pairs }
+    ensures picks { IfOk result (λ moves. ArePicks order.now.pairs 2 0 moves.items
         × (length moves.items ≡ count)) }
-    ensures fault { IfErr result (ExplainsRefusal pairs.now 2 0 count) }
+    ensures fault { IfErr result (ExplainsRefusal order.now.pairs 2 0 count) }
 {
+    // The proof needs that so many can be counted.
+    let _ = order.len();
     let mut moves = Vec::with_capacity(alloc, count)?;
     for place in border..border + count {
-        let beside = neighbour(&moves, rank_above(pairs, border));
+        let beside = neighbour(&moves, order.rank_above(border));
         match next_rank(alloc, 0, beside) {
-            Ok(rank) => moves.push_reserved((pairs[place].1, rank)),
+            Ok(rank) => moves.push_reserved((order.issue_at(place), rank)),
             Err(fault) => return Err(fault),
         }
     }
@@ -107,21 +109,22 @@ fn plan_down(
 /// Plans the picks of a step, at most so many.
 pub(crate) fn plan_moves(
     alloc: Global,
-    pairs: &[(Rank, IssueNo)],
+    order: &Order,
     from: u8,
     most: usize,
 ) -> Result<Vec<(IssueNo, Rank)>, RankFault>
-    requires order { IsOrder pairs.now }
-    requires agrees { Agrees pairs.now (Moving from (next_bucket from)) }
-    ensures step { IfOk result (λ moves. IsStep pairs.now from
+    requires agrees { Agrees order.now.pairs (Moving from (next_bucket from)) }
+    ensures step { IfOk result (λ moves. IsStep order.now.pairs from
         (next_bucket from) most moves.items) }
-    ensures fault { IfErr result (ExplainsRefusal pairs.now from (next_bucket from) most) }
+    ensures fault { IfErr result (ExplainsRefusal order.now.pairs from (next_bucket from) most) }
 {
+    // The proof needs that it is an order.
+    let _ = order.issues();
     if from == 2 {
-        let border = count_up_to(pairs, 1);
-        plan_down(alloc, pairs, border, most.min(pairs.len() - border))
+        let border = count_up_to(order, 1);
+        plan_down(alloc, order, border, most.min(order.len() - border))
     } else {
-        let border = count_up_to(pairs, from);
-        plan_up(alloc, pairs, from, border, most.min(border))
+        let border = count_up_to(order, from);
+        plan_up(alloc, order, from, border, most.min(border))
     }
 }

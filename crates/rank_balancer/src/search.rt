@@ -1,35 +1,57 @@
 //! Where an order changes from one bucket to another, and the issue that is picked.
-ghost use Rattle.std.specs.Prelude.{◌≡◌, None, MatchOption};
-ghost use Rattle.board.specs.Order.{IsOrder};
-ghost use Rattle.rank_balancer.specs.Border.{IsBorder, StandsAt};
+ghost use Rattle.std.specs.Prelude.{◌≡◌, ◌<◌, ◌↔◌, IsTrue, length, None, MatchOption};
+ghost use Rattle.board.specs.Order.{rank_in};
+ghost use Rattle.rank_balancer.specs.Border.{bucket_at, is_up_to, IsBorder, StandsAt};
 ghost use Rattle.rank_balancer.specs.Pick.{first_in, last_in, pick_of};
 ghost use Rattle.rank_balancer.specs.Step.{left_in, ranks_left};
 
 use crate::balance::Balance;
 use board::Order;
 use field_values::IssueNo;
-use rank_strings::Rank;
 
-/// How many pairs are in buckets up to this one.
-pub(crate) fn count_up_to(pairs: &[(Rank, IssueNo)], bucket: u8) -> usize
-    requires { IsOrder pairs.now }
-    ensures { IsBorder pairs.now bucket result }
+/// Whether the issue's rank is in a bucket up to this one.
+fn is_up_to(order: &Order, issue: IssueNo, bucket: u8) -> bool
+    ensures { result ≡ is_up_to bucket (rank_in order.now.pairs issue.0) }
 {
-    pairs.partition_point(|pair| pair.0.bucket() <= bucket)
+    match order.rank_of(issue) {
+        Some(rank) => rank.bucket() <= bucket,
+        None => false,
+    }
+}
+
+/// How many ranks are in buckets up to this one. It is found by halving.
+pub(crate) fn count_up_to(order: &Order, bucket: u8) -> usize
+    ensures { IsBorder order.now.pairs bucket result }
+{
+    order
+        .issues()
+        .partition_point(|issue| is_up_to(order, *issue, bucket))
+}
+
+/// Whether the rank at a place is in the bucket.
+fn is_in(order: &Order, place: usize, bucket: u8) -> bool
+    requires { place < length order.now.pairs }
+    ensures { IsTrue result ↔ (bucket_at order.now.pairs place ≡ bucket) }
+{
+    match order.rank_below(place) {
+        Some(rank) => rank.bucket() == bucket,
+        None => false,
+    }
 }
 
 /// The place of the last rank in the bucket.
-fn last_place(pairs: &[(Rank, IssueNo)], bucket: u8) -> Option<usize>
-    requires { IsOrder pairs.now }
-    ensures { MatchOption result (last_in bucket pairs.now ≡ None)
-        (λ place. StandsAt pairs.now place (last_in bucket pairs.now)) }
+fn last_place(order: &Order, bucket: u8) -> Option<usize>
+    ensures { MatchOption result (last_in bucket order.now.pairs ≡ None)
+        (λ place. StandsAt order.now.pairs place (last_in bucket order.now.pairs)) }
 {
-    let above = count_up_to(pairs, bucket);
+    // The proof needs that it is an order.
+    let _ = order.issues();
+    let above = count_up_to(order, bucket);
     if above == 0 {
         return None;
     }
     let place = above - 1;
-    if pairs[place].0.bucket() == bucket {
+    if is_in(order, place, bucket) {
         Some(place)
     } else {
         None
@@ -37,13 +59,14 @@ fn last_place(pairs: &[(Rank, IssueNo)], bucket: u8) -> Option<usize>
 }
 
 /// The place of the first rank in bucket 2.
-fn first_place(pairs: &[(Rank, IssueNo)]) -> Option<usize>
-    requires { IsOrder pairs.now }
-    ensures { MatchOption result (first_in 2 pairs.now ≡ None)
-        (λ place. StandsAt pairs.now place (first_in 2 pairs.now)) }
+fn first_place(order: &Order) -> Option<usize>
+    ensures { MatchOption result (first_in 2 order.now.pairs ≡ None)
+        (λ place. StandsAt order.now.pairs place (first_in 2 order.now.pairs)) }
 {
-    let place = count_up_to(pairs, 1);
-    if place < pairs.len() {
+    // The proof needs that it is an order.
+    let _ = order.issues();
+    let place = count_up_to(order, 1);
+    if place < order.len() {
         Some(place)
     } else {
         None
@@ -58,26 +81,24 @@ pub fn pick(order: &Order, balance: &Balance) -> Option<IssueNo>
     let Balance::Moving { from, .. } = *balance else {
         return None;
     };
-    let pairs = order.list();
     let place = if from == 2 {
-        first_place(pairs)
+        first_place(order)
     } else {
-        last_place(pairs, from)
+        last_place(order, from)
     };
     match place {
-        Some(place) => Some(pairs[place].1),
+        Some(place) => Some(order.issue_at(place)),
         None => None,
     }
 }
 
-/// How many pairs are in the bucket.
-fn count_in(pairs: &[(Rank, IssueNo)], bucket: u8) -> usize
-    requires { IsOrder pairs.now }
-    ensures { result ≡ left_in bucket pairs.now }
+/// How many ranks are in the bucket.
+fn count_in(order: &Order, bucket: u8) -> usize
+    ensures { result ≡ left_in bucket order.now.pairs }
 {
-    let up_to = count_up_to(pairs, bucket);
+    let up_to = count_up_to(order, bucket);
     match bucket.checked_sub(1) {
-        Some(below) => up_to - count_up_to(pairs, below),
+        Some(below) => up_to - count_up_to(order, below),
         None => up_to,
     }
 }
@@ -87,7 +108,7 @@ pub fn left(order: &Order, balance: &Balance) -> usize
     ensures { result ≡ ranks_left order.now.pairs balance.now }
 {
     match *balance {
-        Balance::Moving { from, .. } => count_in(order.list(), from),
+        Balance::Moving { from, .. } => count_in(order, from),
         Balance::Idle(_) => 0,
     }
 }

@@ -1,6 +1,5 @@
 //! A step of the rebalancing: planned first, and then applied.
 ghost use Rattle.std.specs.Prelude.{◌≡◌, ◌≤◌, ◌<◌, IfOk, IfErr, Ok, min, length, vec_len};
-ghost use Rattle.board.specs.Order.{IsOrder};
 ghost use Rattle.board.specs.Moved.{IsRefusalOf};
 ghost use Rattle.rank_balancer.specs.Balance.{Agrees, IsMoving, next_bucket, from_of, to_of};
 ghost use Rattle.rank_balancer.specs.Step.{IsStep, ArePicks, ExplainsRefusal, after_moves, balance_after};
@@ -64,9 +63,11 @@ pub fn plan_step(
     ensures refused { IfErr result (IsRefusalOf
         (planned order.now.pairs (from_of balance.now) (to_of balance.now) at_most)) }
 {
+    // The proof needs that it is an order.
+    let _ = order.issues();
     match *balance {
         Balance::Moving { from, .. } => {
-            match plan_moves(alloc, order.list(), from, at_most as usize) {
+            match plan_moves(alloc, order, from, at_most as usize) {
                 Ok(moves) => Ok(StepPlan { moves }),
                 Err(fault) => Err(fault),
             }
@@ -87,7 +88,7 @@ pub fn apply(plan: StepPlan, order: &mut Order, balance: &mut Balance)
         ≡ balance_after order.new.pairs (from_of balance.old) (to_of balance.old) }
 {
     // The proof needs that it is an order.
-    let _ = order.list();
+    let _ = order.issues();
     for (issue, rank) in plan.moves {
         order.put(issue, rank);
     }

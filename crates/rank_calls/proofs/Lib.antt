@@ -1,3 +1,4 @@
 pub mod Ops
 pub mod Ranking
+pub mod Beside
 pub mod Rebalancing

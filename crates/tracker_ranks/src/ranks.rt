@@ -64,7 +64,7 @@ impl Ranks {
     pub fn len(&self) -> usize
         ensures { result ≡ length self.now.order }
     {
-        self.order.list().len()
+        self.order.len()
     }
 
     /// The order, lent.
@@ -82,7 +82,7 @@ impl Ranks {
         self.balance
     }
 
-    /// The issue's place from 0, which is the top of a board; `None` exactly where there is no such issue.
+    /// The issue's place from 0, which is the top of a board, found by halving; `None` exactly where there is no such issue.
     pub fn place_of(&self, issue: IssueNo) -> Option<usize>
         ensures { result ≡ place_in self.now.order issue.0 }
     {
@@ -93,10 +93,7 @@ impl Ranks {
     pub fn rank_of(&self, issue: IssueNo) -> Option<&Rank>
         ensures { option_copied result ≡ rank_in self.now.order issue.0 }
     {
-        match self.order.place_of(issue) {
-            Some(place) => Some(&self.order.list()[place].0),
-            None => None,
-        }
+        self.order.rank_of(issue)
     }
 
     /// The bytes of the longest rank's text, 0 where there is none.

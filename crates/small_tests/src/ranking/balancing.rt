@@ -1,19 +1,37 @@
-ghost use Rattle.std.specs.Prelude.{◌≡◌, ◌⊎◌, IsTrue, All};
+ghost use Rattle.std.specs.Prelude.{◌≡◌, ◌<◌, ◌⊎◌, IsTrue, All, length};
+ghost use Rattle.rank_balancer.specs.Border.{bucket_at};
 ghost use Rattle.rank_balancer.specs.Balance.{Agrees, IsMoving, IsInCircle};
 
 use super::placing::{MOST_ZEROS, behind_zeros, is, is_written, put, put_text, rank_for};
 use board::{Order, Place};
 use field_values::IssueNo;
 use rank_balancer::{Balance, BalanceIs, apply, pick, plan_step};
-use rank_strings::Rank;
 use std::alloc::Global;
 
-/// Whether all ranks are in one of these buckets.
-fn are_in(pairs: &[(Rank, IssueNo)], one: u8, other: u8) -> bool
-    ensures { IsTrue result → All (λ p. (p.0.bucket ≡ one) ⊎ (p.0.bucket ≡ other)) pairs.now }
+/// Whether the rank at a place is in one of these buckets.
+fn is_in(order: &Order, place: usize, one: u8, other: u8) -> bool
+    requires { place < length order.now.pairs }
+    ensures { IsTrue result → (bucket_at order.now.pairs place ≡ one)
+        ⊎ (bucket_at order.now.pairs place ≡ other) }
 {
-    for pair in pairs {
-        if pair.0.bucket() != one && pair.0.bucket() != other {
+    match order.rank_below(place) {
+        Some(rank) => is_one_of(rank.bucket(), one, other),
+        None => false,
+    }
+}
+
+fn is_one_of(bucket: u8, one: u8, other: u8) -> bool
+    ensures { IsTrue result → (bucket ≡ one) ⊎ (bucket ≡ other) }
+{
+    bucket == one || bucket == other
+}
+
+/// Whether all ranks are in one of these buckets.
+fn are_in(order: &Order, one: u8, other: u8) -> bool
+    ensures { IsTrue result → All (λ p. (p.0.bucket ≡ one) ⊎ (p.0.bucket ≡ other)) order.now.pairs }
+{
+    for place in 0..order.len() {
+        if !is_in(order, place, one, other) {
             return false;
         }
     }
@@ -29,7 +47,7 @@ fn may_step(order: &Order, balance: &Balance) -> bool
         Balance::Idle(_) => false,
         Balance::Moving { from, to } => {
             let next = if from == 2 { 0 } else { from.wrapping_add(1) };
-            from < 3 && to == next && are_in(order.list(), from, to)
+            from < 3 && to == next && are_in(order, from, to)
         }
     }
 }
@@ -70,12 +88,15 @@ fn start(balance: &mut Balance) -> Option<Result<(), BalanceIs>> {
 
 /// Whether these are the issues in their order, with these ranks.
 fn is_list(alloc: Global, order: &Order, want: &[(u32, &str)]) -> bool {
-    if order.list().len() != want.len() {
+    if order.len() != want.len() {
         return false;
     }
-    for (place, pair) in order.list().iter().enumerate() {
-        let (number, text) = want[place];
-        if pair.1.0 != number || !is_written(alloc, &pair.0, text) {
+    for (place, &(number, text)) in want.iter().enumerate() {
+        let has_rank = match order.rank_below(place) {
+            Some(rank) => is_written(alloc, rank, text),
+            None => false,
+        };
+        if order.place_of(IssueNo(number)) != Some(place) || !has_rank {
             return false;
         }
     }

@@ -46,7 +46,7 @@ fn stands(order: &Order, issue: u32, place: usize) -> bool {
 }
 
 fn stand_as_moved(order: &Order) -> bool {
-    order.list().len() == 3
+    order.len() == 3
         && stands(order, 3, 0)
         && stands(order, 2, 1)
         && stands(order, 1, 2)

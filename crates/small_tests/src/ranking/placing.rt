@@ -1,19 +1,31 @@
 // Orders that are asked for a rank or changed only where they may be.
-ghost use Rattle.std.specs.Prelude.{◌≡◌, ◌≢◌, IsTrue, IfSome};
+ghost use Rattle.std.specs.Prelude.{◌≡◌, ◌≢◌, ◌<◌, IsTrue, IfSome, length};
 ghost use Rattle.board.specs.Order.{IsIn, IsFreeFor};
 ghost use Rattle.board.specs.Place.{AreNamed, named_by};
+ghost use Rattle.board.specs.Search.{rank_at};
 
 use board::{Order, Place};
 use field_values::IssueNo;
 use rank_strings::{Rank, RankFault};
 use std::alloc::{AllocError, Global};
 
+/// Whether the rank stands at a place.
+fn is_at(order: &Order, place: usize, rank: &Rank) -> bool
+    requires { place < length order.now.pairs }
+    ensures { rank_at order.now.pairs place ≡ rank.now → IsTrue result }
+{
+    match order.rank_below(place) {
+        Some(own) => *own == *rank,
+        None => false,
+    }
+}
+
 /// Whether no other issue has the rank.
 fn is_free(order: &Order, issue: IssueNo, rank: &Rank) -> bool
     ensures { IsTrue result → IsFreeFor order.now.pairs issue.0 rank.now }
 {
-    for pair in order.list() {
-        if pair.1.0 != issue.0 && pair.0 == *rank {
+    for place in 0..order.len() {
+        if order.issue_at(place).0 != issue.0 && is_at(order, place, rank) {
             return false;
         }
     }

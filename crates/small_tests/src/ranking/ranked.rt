@@ -88,7 +88,7 @@ fn has_rank(alloc: Global, ranks: &Ranks, issue: u32, text: &str) -> bool {
 
 /// Whether these are the issues in their order, with these ranks.
 fn are_ranked(alloc: Global, ranks: &Ranks, want: &[(u32, &str)]) -> bool {
-    if ranks.len() != want.len() || ranks.order().list().len() != want.len() {
+    if ranks.len() != want.len() || ranks.order().issues().len() != want.len() {
         return false;
     }
     for (place, &(issue, text)) in want.iter().enumerate() {

@@ -1,9 +1,6 @@
-use Rattle.std.proofs.Common.{◌≡◌, ◌+◌, ◌++◌, ◌∷◌, [], length, vec_len, get_or, sym, ◌∙◌, ap, subst, rules, arith}
+use Rattle.std.proofs.Common.{◌≡◌, ◌+◌, ◌++◌, ◌∷◌, [], length, vec_len, sym, ◌∙◌, ap, subst, rules, arith}
 use Rattle.std.specs.Option.{option_copied}
-use Rattle.std.proofs.lemmas.List.{get_or_default}
 use Rattle.field_values.specs.declared.numbers.IssueNo.{IssueNo}
-use Rattle.board.specs.Order.{Pair}
-use Rattle.board.specs.Table.{nothing}
 use Rattle.board.specs.Place.{rank_above}
 use Rattle.rank_balancer.specs.Step.{neighbour_after}
 use Rattle.rank_balancer.proofs.Moved.{issue_at}
@@ -12,14 +9,14 @@ use Rattle.rank_balancer.proofs.plan.plan_down.Goals as goal
 
 pub loop-place-preserved : goal.loop-place-preserved
 loop-place-preserved c =
-    let ps = c.args.pairs.now in
+    let ps = c.args.order.now.pairs in
     let ms = c.loop-place.moves.items in
     let place = c.loop-place.place in
     let beside : option_copied c.neighbour-beside.result ≡ neighbour_after ms (rank_above ps c.args.border) = rw (sym c.rank_above.ensures, sym c.deref.ensures.value) c.neighbour-beside.ensures in
     let next = rw beside at c.in-Ok.ensures.next in
     let n = c.requires.count in
     let plans = plans_down ps c.args.border place ms c.in-Ok.rank (omega (arith, n)) c.loop-place.invariant.plans next in
-    let e : (get_or ps place c.index-pairs-place.result).1 ≡ issue_at ps place = ap (λ (p : Pair). p.1) (get_or_default ps place c.index-pairs-place.result nothing (omega (arith, n))) in
+    let e : c.issue_at.result ≡ issue_at ps place = c.issue_at.ensures in
     let items : c.push_reserved.new.self.items ≡ ms ++ (issue_at ps place, c.in-Ok.rank) ∷ [] = c.push_reserved.ensures.items ∙ ap (λ (i : IssueNo). ms ++ (i, c.in-Ok.rank) ∷ []) e in
     record {
       plans = subst (λ xs. PlansDown ps c.args.border (place + 1) xs) (sym items) plans;
@@ -29,7 +26,7 @@ loop-place-preserved c =
 
 pub returns-in-Err-clause-fault : goal.returns-in-Err-clause-fault
 returns-in-Err-clause-fault c =
-    let ps = c.args.pairs.now in
+    let ps = c.args.order.now.pairs in
     let ms = c.loop-place.moves.items in
     let beside : option_copied c.neighbour-beside.result ≡ neighbour_after ms (rank_above ps c.args.border) = rw (sym c.rank_above.ensures, sym c.deref.ensures.value) c.neighbour-beside.ensures in
     let no_rank = rw beside at c.in-Err.ensures.fault in

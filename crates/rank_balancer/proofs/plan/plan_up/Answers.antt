@@ -1,9 +1,6 @@
-use Rattle.std.proofs.Common.{◌≡◌, ◌+◌, ◌-◌, ◌++◌, ◌∷◌, [], length, vec_len, get_or, sym, ◌∙◌, ap, subst, rules, arith}
+use Rattle.std.proofs.Common.{◌≡◌, ◌+◌, ◌-◌, ◌++◌, ◌∷◌, [], length, vec_len, sym, ◌∙◌, ap, subst, rules, arith}
 use Rattle.std.specs.Option.{option_copied}
-use Rattle.std.proofs.lemmas.List.{get_or_default}
 use Rattle.field_values.specs.declared.numbers.IssueNo.{IssueNo}
-use Rattle.board.specs.Order.{Pair}
-use Rattle.board.specs.Table.{nothing}
 use Rattle.board.specs.Place.{rank_below}
 use Rattle.rank_balancer.specs.Step.{neighbour_after}
 use Rattle.rank_balancer.proofs.Moved.{issue_at}
@@ -12,7 +9,7 @@ use Rattle.rank_balancer.proofs.plan.plan_up.Goals as goal
 
 pub loop-place-preserved : goal.loop-place-preserved
 loop-place-preserved c =
-    let ps = c.args.pairs.now in
+    let ps = c.args.order.now.pairs in
     let ms = c.loop-place.moves.items in
     let place = c.loop-place.place - 1 in
     let is : c.loop-place.place ≡ place + 1 = omega arith in
@@ -21,7 +18,7 @@ loop-place-preserved c =
     let next = rw beside at c.in-Ok.ensures.next in
     let plans = plans_up ps c.args.from c.args.border place ms c.in-Ok.rank c.requires.from was next in
     let n = c.requires.parted.in_range in
-    let e : (get_or ps place c.index-pairs-place.result).1 ≡ issue_at ps place = ap (λ (p : Pair). p.1) (get_or_default ps place c.index-pairs-place.result nothing (omega (arith, n))) in
+    let e : c.issue_at.result ≡ issue_at ps place = c.issue_at.ensures in
     let items : c.push_reserved.new.self.items ≡ ms ++ (issue_at ps place, c.in-Ok.rank) ∷ [] = c.push_reserved.ensures.items ∙ ap (λ (i : IssueNo). ms ++ (i, c.in-Ok.rank) ∷ []) e in
     record {
       plans = subst (λ xs. PlansUp ps c.args.from c.args.border place xs) (sym items) plans;
@@ -32,7 +29,7 @@ loop-place-preserved c =
 
 pub returns-in-Err-clause-fault : goal.returns-in-Err-clause-fault
 returns-in-Err-clause-fault c =
-    let ps = c.args.pairs.now in
+    let ps = c.args.order.now.pairs in
     let ms = c.loop-place.moves.items in
     let place = c.loop-place.place - 1 in
     let is : c.loop-place.place ≡ place + 1 = omega arith in

@@ -12,13 +12,13 @@ use Rattle.rank_balancer.proofs.step.apply.Goals as goal
 pub put-requires-clause-free : goal.put-requires-clause-free
 put-requires-clause-free c =
     let whole = sym c.loop-issue.invariant.rest ∙ ap (λ xs. c.loop-issue.yielded ++ xs) c.in-Some.ensures.steps.0 in
-    let keeps = keeps_among c.args.order.now.pairs c.args.balance.now c.args.plan c.loop-issue.yielded (c.in-Some.issue, c.in-Some.rank) (into_iter_items c.next.new.self) c.list.ensures.order c.requires.moving c.requires.agrees c.requires.planned whole in
+    let keeps = keeps_among c.args.order.now.pairs c.args.balance.now c.args.plan c.loop-issue.yielded (c.in-Some.issue, c.in-Some.rank) (into_iter_items c.next.new.self) c.issues.ensures.order c.requires.moving c.requires.agrees c.requires.planned whole in
     rw c.loop-issue.invariant.order keeps.free
 
 pub put-requires-clause-room : goal.put-requires-clause-room
 put-requires-clause-room c none =
     let whole = sym c.loop-issue.invariant.rest ∙ ap (λ xs. c.loop-issue.yielded ++ xs) c.in-Some.ensures.steps.0 in
-    let keeps = keeps_among c.args.order.now.pairs c.args.balance.now c.args.plan c.loop-issue.yielded (c.in-Some.issue, c.in-Some.rank) (into_iter_items c.next.new.self) c.list.ensures.order c.requires.moving c.requires.agrees c.requires.planned whole in
+    let keeps = keeps_among c.args.order.now.pairs c.args.balance.now c.args.plan c.loop-issue.yielded (c.in-Some.issue, c.in-Some.rank) (into_iter_items c.next.new.self) c.issues.ensures.order c.requires.moving c.requires.agrees c.requires.planned whole in
     let pairs = ap (λ (o : Ranking). o.pairs) c.loop-issue.invariant.order in
     let past = places_before_none (after_moves c.args.order.now.pairs c.loop-issue.yielded) c.in-Some.issue.0 (rw pairs at none) in
     let there = keeps.there in

@@ -4,7 +4,5 @@ use Rattle.small_tests.proofs.ranking.placing.is_free.Goals as goal
 
 pub returns : goal.returns
 returns c _ =
-    let items = c.list-pair-items.ensures.pairs in
-    let each = rw items at c.loop-pair.invariant in
-    let end = rw items at c.loop-pair-test.false in
-    free_from_each c.args.order.now.pairs c.args.issue.0 c.args.rank.now (λ k lt. each k (omega (arith, end)))
+    let end = c.loop-place-test.false in
+    free_from_each c.args.order.now.pairs c.args.issue.0 c.args.rank.now (λ k lt. c.loop-place.invariant k (omega (arith, end, c.len-place-end.ensures)))
