@@ -1,7 +1,7 @@
 -- What becomes of cells and heap when an end is written, added or taken away.
-use Rattle.std.proofs.Common.{◌⊎◌, ◌≡◌, ◌≢◌, ℕ, ◌+◌, ◌-◌, ◌<◌, ◌≤◌, Option, Some, None, List, [], ◌∷◌, ◌++◌, length, take, set, refl, sym, ◌∙◌, ap, subst, inl, inr, arith}
+use Rattle.std.proofs.Common.{◌⊎◌, ◌≡◌, ◌≢◌, ℕ, ◌+◌, ◌-◌, ◌<◌, ◌≤◌, Option, Some, None, List, [], ◌∷◌, ◌++◌, length, get_or, take, set, refl, sym, ◌∙◌, ap, subst, inl, inr, arith}
 use Rattle.std.proofs.lemmas.Bool.{cases_eq, cases_lt}
-use Rattle.std.proofs.lemmas.List.{length-set, get_or-set_other, length-append, length-take, get_or-take, get_or_append_left}
+use Rattle.std.proofs.lemmas.List.{length-set, get_or_default, get_or-set_other, length-append, length-take, get_or-take, get_or_append_left}
 use Rattle.std.proofs.lemmas.Grind.{get_or-set_at}
 use Rattle.filter_views.specs.declared.due.Due.{Due}
 use Rattle.filter_views.specs.RowParts.{RowParts}
@@ -69,6 +69,14 @@ module _ (ds : List Due) (rs : List RowParts) (d : Due) (agree : Agree ds rs) (l
           differ (sym its.same_filter ∙ mine.same_filter) (sym its.same_issue ∙ mine.same_issue) in
           end_moved ds over _ _ (omega (arith, l, size)) l (other_is _ ne)
       by (inr l) = end_nowhere over _ (omega (arith, l, size)) ∙ sym (end_nowhere ds _ l)
+
+-- where the entry of a cell has this end already, nothing moves
+pub stays : (ds : List Due) (rs : List RowParts) (d x : Due) (k : ℕ) → Agree ds rs → IsHeap ds → place_in rs d.filter.0 d.issue.0 < length ds → k ≡ place_in rs d.filter.0 d.issue.0 → x ≡ get_or ds k x
+    → x.end ≡ d.end → PutsEnd ds rs ds rs d.filter.0 d.issue.0 (Some d.end)
+stays ds rs d x k agree heap lt place is same =
+    let read : due_at ds k ≡ x = get_or_default ds k no_due x (omega (arith, lt, place)) ∙ sym is in
+    let at : (due_at ds (place_in rs d.filter.0 d.issue.0)).end ≡ d.end = ap (λ j. (due_at ds j).end) (sym place) ∙ ap (λ (e : Due). e.end) read ∙ same in
+    record { agree = agree; heap = heap; same = refl; here = end_there ds _ lt ∙ ap Some at; others = λ g j n. refl }
 
 -- the end of a cell that has none is added
 module _ (ds es : List Due) (rs ss : List RowParts) (d : Due) (agree : Agree ds rs) (is : es ≡ ds ++ d ∷ []) (few : length es < no_place) (free : length ds ≤ place_in rs d.filter.0 d.issue.0)

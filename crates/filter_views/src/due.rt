@@ -1,5 +1,5 @@
 //! The end of a cell, as it stands in the heap.
-ghost use Rattle.std.specs.Prelude.{◌≡◌};
+ghost use Rattle.std.specs.Prelude.{◌≡◌, IsTrue};
 ghost use Rattle.filter_views.specs.Due.{is_before};
 
 use field_values::{FilterNo, IssueNo, Moment};
@@ -19,5 +19,12 @@ impl Due {
         ensures { result ≡ is_before self.now other.now }
     {
         self.cmp(other).is_lt()
+    }
+
+    /// Whether it comes at this moment.
+    pub(crate) fn ends_at(&self, end: Moment) -> bool
+        ensures { IsTrue result → (self.now.end ≡ end) }
+    {
+        self.end == end
     }
 }

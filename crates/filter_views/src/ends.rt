@@ -11,7 +11,7 @@ use crate::heap::{exchange, mend};
 use crate::rows::{place_in, set_place, set_truth};
 use field_values::{FilterNo, IssueNo, Memory, Moment};
 
-/// Writes an end over that of its cell.
+/// Writes an end over that of its cell. Where it is the same, nothing moves.
 fn replace_end(heap: &mut [Due], rows: &mut [FilterRow], due: Due)
     requires agree { Agree heap.old rows.old }
     requires heap { IsHeap heap.old }
@@ -19,6 +19,9 @@ fn replace_end(heap: &mut [Due], rows: &mut [FilterRow], due: Due)
     ensures { PutsEnd heap.old rows.old heap.new rows.new due.filter.0 due.issue.0 (Some due.end) }
 {
     let place = place_in(rows, due.filter, due.issue);
+    if heap[place].ends_at(due.end) {
+        return;
+    }
     heap[place] = due;
     mend(heap, rows, place);
 }
