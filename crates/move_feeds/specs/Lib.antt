@@ -1,0 +1,8 @@
+pub mod Block
+pub mod Changes
+pub mod Changed
+pub mod Feed
+pub mod FeedList
+pub mod Held
+pub mod Laws
+pub mod Rows
