@@ -108,8 +108,12 @@ impl<V: Kept> Turn<V> {
         ensures same { (seat.new.table_id ≡ seat.old.table_id) × (seat.new.id ≡ seat.old.id) }
         ensures left { seat.new.me ≡ (leaving seat.old.me.0, rest seat.old.me.1) }
     {
-        self.table.shared.fetch_add::<Leave>(seat, TURN, 1);
-        self.table.shared.wake_all(TURN);
+        let turn = self.table.shared.fetch_add::<Leave>(seat, TURN, 1);
+        // Each ticket before this one has had its turn, so nobody waits where none was drawn behind it. Whoever draws one after this
+        // look at the tickets finds the turn passed on, and doesn't sleep on the old one.
+        if self.table.shared.peek(DRAWN) != turn.wrapping_add(1) {
+            self.table.shared.wake_all(TURN);
+        }
     }
 
     pub(crate) fn name_calls(&self, seat: &mut SeatOf<V>, part: u32)

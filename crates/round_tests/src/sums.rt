@@ -3,6 +3,20 @@ ghost use Rattle.std.specs.Prelude.{◌≡◌, ◌==◌, vec_len};
 
 use desk_turn::{Entry, Kept, Memory};
 use std::alloc::Global;
+use turn_workers::Wakes;
+
+/// A sum, and how many looks are owed behind it.
+#[derive(Clone, Copy)]
+pub struct Added {
+    pub sum: u64,
+    pub owed: u64,
+}
+
+impl Wakes for Added {
+    fn wakes(&self) -> bool {
+        self.owed > 0
+    }
+}
 
 /// Adds up what it is asked, and owes a look for each. To ask 0 is a look, which finds nothing
 /// where no look is owed.
@@ -10,7 +24,7 @@ use std::alloc::Global;
 pub struct Sums {
     pub sum: u64,
     pub owed: u64,
-    pub entries: Vec<Entry<u64, u64>>,
+    pub entries: Vec<Entry<u64, Added>>,
 }
 
 impl Sums {
@@ -28,7 +42,7 @@ impl Sums {
 impl Kept for Sums {
     type Ask = u64;
 
-    type Told = u64;
+    type Told = Added;
 
     type Origin = ();
 
@@ -42,11 +56,19 @@ impl Kept for Sums {
 
     ghost is_look = { λ ask. ask == 0 };
 
-    fn enter(&mut self, caller: u32, ask: &u64) -> Result<Option<u64>, Memory> {
+    fn enter(&mut self, caller: u32, ask: &u64) -> Result<Option<Added>, Memory> {
         if *ask == 0 && self.owed == 0 {
             return Ok(None);
         }
-        let told = self.sum.wrapping_add(*ask);
+        let owed = if *ask == 0 {
+            self.owed.wrapping_sub(1)
+        } else {
+            self.owed.wrapping_add(1)
+        };
+        let told = Added {
+            sum: self.sum.wrapping_add(*ask),
+            owed,
+        };
         let entry = Entry {
             by: caller,
             ask: *ask,
@@ -55,12 +77,8 @@ impl Kept for Sums {
         if self.entries.push(entry).is_err() {
             return Err(Memory);
         }
-        self.owed = if *ask == 0 {
-            self.owed.wrapping_sub(1)
-        } else {
-            self.owed.wrapping_add(1)
-        };
-        self.sum = told;
+        self.owed = owed;
+        self.sum = told.sum;
         Ok(Some(told))
     }
 }

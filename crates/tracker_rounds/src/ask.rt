@@ -2,6 +2,7 @@
 
 use std::snapshot::Snapshot;
 use tracker_calls::{Call, Reply, UserName};
+use turn_workers::Wakes;
 
 /// A call, and who asks for it.
 #[derive(Drop)]
@@ -20,11 +21,18 @@ pub enum Ask {
     Look,
 }
 
-/// What it answers: the reply, and for contracts alone the call that was made.
+/// What it answers: the reply, whether something may be due behind it, and for contracts alone the call that was made.
 #[derive(Drop)]
 pub struct Told {
     pub made: Snapshot<UserCall>,
     pub reply: Reply,
+    pub is_due: bool,
+}
+
+impl Wakes for Told {
+    fn wakes(&self) -> bool {
+        self.is_due
+    }
 }
 
 /// A call of a round: the number under which it was made, and for contracts alone what was asked and what was answered. Nobody reads

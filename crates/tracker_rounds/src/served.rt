@@ -96,9 +96,11 @@ impl<M: Watched + Drop> Served<M> {
             return Err(Memory);
         };
         let reply = self.maker.call(&asked.user, &asked.call);
+        let is_due = may_be_due(&self.maker);
         let told = Told {
             made: Snapshot::of(asked),
             reply,
+            is_due,
         };
         self.trail.push_reserved(entered(by, ask, &told));
         self.behind = behind;
@@ -142,6 +144,19 @@ impl<M: Watched + Drop> Served<M> {
             Ok(None) => false,
             Err(_) => true,
         }
+    }
+}
+
+// Whether something may be due, which whoever looks is to be woken for. Where that can't be told, who looks finds out.
+//
+// It is asked behind each call, and nothing but a call changes what is due. So the answers tell all that becomes due: what was due
+// when the round began, once the first call is made; what was found too early, while no call was ahead of the looks, and what memory
+// lacked for, with the next call. What no further call follows is found as the workers end.
+fn may_be_due<M: Watched>(maker: &M) -> bool {
+    match maker.due_now() {
+        Ok(None) => false,
+        Ok(Some(_)) => true,
+        Err(_) => true,
     }
 }
 

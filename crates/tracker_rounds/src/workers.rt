@@ -21,7 +21,7 @@ use turn_workers::{Gate, Round, Span, run_workers};
 /// How many calls a worker may make in a round: two for each of the 16 requests of each of the 64 connections.
 const CALLS: u32 = 2_048;
 
-/// How often may be looked beside the workers. Each of their calls wakes whoever looks, and each look that finds something is
+/// How often may be looked beside the workers. Each of their calls may wake whoever looks, and each look that finds something is
 /// followed by another one.
 const LOOKS: u32 = 8_192;
 

@@ -5,6 +5,7 @@ ghost use Rattle.desk_turn.specs.Passes.{IsPassOf, caller_of, seen, own};
 
 use crate::bell::Bell;
 use crate::gate::Gate;
+use crate::wakes::Wakes;
 use desk_turn::{Kept, Memory, Pass, Turn};
 use std::sync::Wait;
 
@@ -48,9 +49,11 @@ impl<'t, V: Kept, R: Wait, G: Gate> Seat<'t, V, R, G> {
         self.pass.caller().saturating_sub(1)
     }
 
-    /// Passes the gate, makes one call, and rings the bell where it was answered. Where the pass may make no more, the answer is
-    /// that memory lacked.
+    /// Passes the gate, makes one call, and rings the bell where the answer wakes whoever looks. Where the pass may make no more, the
+    /// answer is that memory lacked.
     pub fn tell(&mut self, ask: &V::Ask) -> Result<Option<V::Told>, Memory>
+    where
+        V::Told: Wakes,
         ensures turn { IsPassOf self.old.turn.now self.new.pass }
         ensures number { caller_of self.new.pass ≡ caller_of self.old.pass }
         ensures told { IfTold result (λ told. IsEntered
@@ -67,7 +70,9 @@ impl<'t, V: Kept, R: Wait, G: Gate> Seat<'t, V, R, G> {
         self.gate.pass(self.worker(), self.calls);
         match self.turn.tell(self.rt, &mut self.pass, ask) {
             Ok(Some(told)) => {
-                self.bell.ring(self.rt);
+                if told.wakes() {
+                    self.bell.ring(self.rt);
+                }
                 Ok(Some(told))
             }
             Ok(None) => Ok(None),

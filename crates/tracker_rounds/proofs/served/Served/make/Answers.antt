@@ -13,7 +13,7 @@ invariant_of-self-2 g c =
     let old : List Entered = s.trail.items in
     let x : Entered = c.entered.result in
     let asked = c.args.asked.now in
-    let told : Told = record { made = c.of.result; reply = c.call-reply.result } in
+    let told : Told = record { made = c.of.result; reply = c.call-reply.result; is_due = c.may_be_due-is_due.result } in
     let made : made_of c.args.ask.now told ≡ asked = c.requires.asks told c.of.ensures in
     let may : MayMake g.M.Watched.tells g.M.Watched.due s.maker c.args.by asked =
     subst (λ m. MayMake g.M.Watched.tells g.M.Watched.due m c.args.by asked) (sym (ap (λ v. v.2) c.self.view_is)) c.requires.may in
