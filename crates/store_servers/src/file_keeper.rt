@@ -1,9 +1,4 @@
 // A keeper of the rows of a file.
-ghost use Rattle.sqlite.specs.Files.{file_state};
-ghost use Rattle.sqlite.specs.State.{HasCleanDisk};
-ghost use Rattle.keeper_told.specs.Keeping.{IsKeeping};
-ghost use Rattle.keeper_told.specs.Crash.{IsLeaving};
-
 use keeper_told::ToldKeeper;
 use sqlite::{FileFrom, FileStore, Unknown};
 use tracker_keeper::{KeepFault, Keeper, Row, RowOp};
@@ -17,13 +12,15 @@ pub struct FileKeeper {
 }
 
 impl Keeper for FileKeeper {
-    ghost faults = { λ k. k.keeper.faults };
+    ghost use Rattle.store_servers.specs.Keepers.{FileKeeps, FileLeaves, FileTells, file_faults};
 
-    ghost tells = { λ k. HasCleanDisk (file_state k.keeper.conn) };
+    ghost faults = { file_faults };
 
-    ghost keeps = { λ k. IsKeeping (file_state k.keeper.conn) };
+    ghost tells = { FileTells };
 
-    ghost leaves = { λ k. IsLeaving (file_state k.keeper.conn) };
+    ghost keeps = { FileKeeps };
+
+    ghost leaves = { FileLeaves };
 
     fn commit(&mut self, ops: &[RowOp]) -> Result<(), KeepFault> {
         self.keeper.commit(ops)

@@ -1,8 +1,12 @@
 // Servers over a file, and over memory.
 ghost use Rattle.std.specs.Prelude.{◌≡◌, ◌≢◌, ◌≤◌, ℕ, map, string_bytes};
+ghost use Rattle.store_servers.specs.Keepers.{FileKeeps, FileLeaves, FileTells, file_faults};
+ghost use Rattle.store_servers.specs.Keepers.{MemoryKeeps, MemoryLeaves, MemoryTells, memory_faults};
+ghost use Rattle.store_servers.specs.Serving.{ServesTracker};
 ghost use Rattle.tracker_serve.specs.Serving.{IsServe};
 
 use crate::file_keeper::FileKeeper;
+use fields::BUILT_IN;
 use std::alloc::Global;
 use std::net::{Net, TcpListener, TcpStream};
 use std::sync::Wait;
@@ -27,6 +31,8 @@ where
         → ¬ IsServe (map string_bytes words.now) port workers }
     ensures words { ((port workers : ℕ) → ¬ IsServe (map string_bytes words.now) port workers)
         → result.0 ≡ 1 }
+    ensures serves { ServesTracker FileKeeps FileTells file_faults FileLeaves
+        (map string_bytes words.now) BUILT_IN.now result.0 keeper result.1 }
     ensures statuses { (result.0 ≤ 6) × (result.0 ≢ 3) }
 {
     serve_port(rt, words, keeper)
@@ -45,6 +51,8 @@ where
         → ¬ IsServe (map string_bytes words.now) port workers }
     ensures words { ((port workers : ℕ) → ¬ IsServe (map string_bytes words.now) port workers)
         → result.0 ≡ 1 }
+    ensures serves { ServesTracker MemoryKeeps MemoryTells memory_faults MemoryLeaves
+        (map string_bytes words.now) BUILT_IN.now result.0 keeper result.1 }
     ensures statuses { (result.0 ≤ 6) × (result.0 ≢ 3) }
 {
     serve_port(rt, words, keeper)
@@ -64,6 +72,8 @@ where
         → ¬ IsServe (map string_bytes words.now) port workers }
     ensures words { ((port workers : ℕ) → ¬ IsServe (map string_bytes words.now) port workers)
         → result.0 ≡ 1 }
+    ensures serves { ServesTracker P.keeps P.tells P.faults P.leaves
+        (map string_bytes words.now) BUILT_IN.now result.0 keeper result.1 }
     ensures statuses { (result.0 ≤ 6) × (result.0 ≢ 3) }
 {
     let port = words.get(1).map_or("", |word| word.as_str());
