@@ -20,6 +20,10 @@ none_failed before now failures none rose = by (cases_eq failures 0)
     by (inl zero) = zero
     by (inr some) = absurd (none (omega (arith, rose, some)))
 
+-- a count that stays 0 didn't rise
+pub stays_zero : (before now : ℕ) → before ≡ 0 → now ≡ 0 → ¬ (Rose before now)
+stays_zero before now old new rose = omega (arith, old, new, rose)
+
 -- rows that open a tracker have no bad one
 pub no_bad : (setup_text : List ℕ) (rows : Rows) (m : Machine) (kind number : ℕ) → IsOpened setup_text rows m → IsBadIn rows kind number → ⊥
 no_bad setup_text rows m kind number (inl (list, is, (format, loads))) (some, (other, is_too, bad)) =

@@ -81,9 +81,12 @@ AllIsLoaded Have Unfailing setup_text words status old new =
     → IsNew setup_text m → Unfailing
     → IsDone status (Appends old new (load_line (load_summary n m)))
 
--- where the keeper's count of faults didn't rise, the status isn't its own, and behind whatever lines, none was answered that it failed
-abbrev pub NoneIsRefused : ℕ → ℕ → ℕ → IsKeptBehind → Type 0
-NoneIsRefused before now status Kept =
-    ¬ (Rose before now)
-    → (status ≢ 4)
+-- the status isn't that of a keeper that failed, and behind whatever lines, none was answered that it did
+abbrev pub IsUnrefused : ℕ → IsKeptBehind → Type 0
+IsUnrefused status Kept =
+    (status ≢ 4)
     × ((all : List (List ℕ)) (m : Machine) (failures : ℕ) → Kept all m failures → failures ≡ 0)
+
+-- so it is where the keeper's count of faults didn't rise
+abbrev pub NoneIsRefused : ℕ → ℕ → ℕ → IsKeptBehind → Type 0
+NoneIsRefused before now status Kept = ¬ (Rose before now) → IsUnrefused status Kept
